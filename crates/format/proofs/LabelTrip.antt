@@ -1,0 +1,257 @@
+-- The label tables give the labels back, and the linker table the relocations. Assumes nothing.
+use mathlib.Core.Path.{_≡_, refl, sym, _∙_, ap, subst}
+use mathlib.Core.Bool.{Bool, true, false}
+use mathlib.Core.List.{List, [], _∷_, _++_, map}
+use mathlib.Core.Option.{Option, none, some}
+use Prim.Native.Nat.{ℕ, _-_, _^_, _<_, Ordering, Ordering·lt, Ordering·eq, Ordering·gt}
+use native.Mathlib.Omega.{arith}
+use lib.ListN.{length}
+use lib.Dec.{isEq}
+use Rattle.format.specs.Basics.{given, flatMap, ascii, if_then_else_, orElse, beginsWith, eqs, isEmpty, All}
+use Rattle.format.specs.Tokens.{foldOutcome}
+use Rattle.format.specs.Sorted.{order, upsert, atKey, sorted}
+use Rattle.format.proofs.SortedLaws.{order-self, order-eq, find-insert, Rises, ext-find}
+use Rattle.format.proofs.GatherLaws.{inserted, Distinct, rises-distinct, rises-inserted, find-inserted, reordered-find}
+use Rattle.format.specs.Utf8.{trim, characters, open-Utf8}
+use Rattle.format.specs.ObjectFile.{Label, Relocation, ObjectFile, labelKey, relocationKey}
+use Rattle.format.specs.Records.{label, putRecord, withLabels, withRelocations, labelNamed}
+use Rattle.format.specs.TextWriter.{textLine, tableDiv, spaces, toLeft, decimal, widest, symbolTable, linkerTable, labelTable as indexText}
+use Rattle.format.specs.TextReader.{splitOnce, splitn, sameCells, rowsUnder, parseSymbolRow, parseSymbolGroup, parseLinkerRow, parseLinkerGroup, parseLabelRow, parseLabelTable}
+use Rattle.format.specs.Calls.{Reordered}
+use Rattle.format.proofs.ListLaws.{all-map, join-map, all-reordered}
+use Rattle.format.proofs.ListFacts.{eqs-self}
+use Rattle.format.proofs.TrimLaws.{Visible, visible-solid, trim-right}
+use Rattle.format.proofs.CellLaws.{Undivided, cells-1, undivided-append, undivided-spaces}
+use Rattle.format.proofs.RowLaws.{GoodName, symbolLine, symbol-row, linkerLine, linker-row, indexLine, index-row}
+use Rattle.format.proofs.OrderLaws.{distinct-find}
+
+pub rows-under :
+    (n : ℕ) (columns : List (List ℕ)) (l : List ℕ) (ls : List (List ℕ)) → sameCells (map trim (splitn (length columns - 1) l)) columns ≡ true → rowsUnder n columns (l ∷ ls) ≡ given ls
+unfolding rowsUnder
+rows-under n columns l ls h = rw h
+
+pub same-self : (xs : List (List ℕ)) → sameCells xs xs ≡ true
+unfolding sameCells
+same-self [] = refl
+same-self (x ∷ xs) = rw (eqs-self x, same-self xs)
+
+-- insertions under other keys
+module _ {A : Type 0} (key : A → List ℕ) where
+  pub others : (a : A) (xs : List A) → atKey key (key a) xs ≡ none → All (λ x. isEq (order (key x) (key a)) ≡ false) xs
+  unfolding atKey
+  others a [] h = tt
+  others a (x ∷ xs) h = go (order (key a) (key x)) refl h (others a xs)
+    where
+      flip : isEq (order (key a) (key x)) ≡ false → (o : Ordering) → order (key x) (key a) ≡ o → isEq o ≡ false
+      flip n Ordering·lt e = refl
+      flip n Ordering·gt e = refl
+      flip n Ordering·eq e =
+          let q : key x ≡ key a = order-eq (key x) (key a) e in
+          let y : order (key a) (key x) ≡ Ordering·eq = subst (λ (k : List ℕ). order (key a) k ≡ Ordering·eq) (sym q) (order-self (key a)) in
+          let z : _≡_ {A = Bool} true false = sym (ap isEq y) ∙ n in z
+
+      go : (o : Ordering) → order (key a) (key x) ≡ o → (if isEq o then some x else atKey key (key a) xs) ≡ none → (atKey key (key a) xs ≡ none → All (λ y. isEq (order (key y) (key a)) ≡ false) xs)
+          → All (λ y. isEq (order (key y) (key a)) ≡ false) (x ∷ xs)
+      go Ordering·eq e n ih = let w : _≡_ {A = ℕ} 0 1 = cc in absurd (omega arith)
+      go Ordering·lt e n ih = (flip (ap isEq e) (order (key x) (key a)) refl, ih n)
+      go Ordering·gt e n ih = (flip (ap isEq e) (order (key x) (key a)) refl, ih n)
+
+  pub found-insert :
+      (v : A → Option A) (a : A) (xs acc : List A) → All (λ x. isEq (order (key x) (key a)) ≡ false) xs → All (λ x. atKey key (key x) acc ≡ v x) xs
+      → All (λ x. atKey key (key x) (upsert key a acc) ≡ v x) xs
+  found-insert v a [] acc d h = tt
+  found-insert v a (x ∷ xs) acc d h = (find-insert key (key x) a acc ∙ rw (d .0, h .0), found-insert v a xs acc (d .1) (h .1))
+
+-- a label as the first table gives it
+abbrev pub unplaced : Label → Label
+unplaced m = record { name = m .name; address = m .address; external = m .external; start = 0 }
+
+abbrev pub InLabel : Label → Type 0
+InLabel m = (m .address < 2 ^ 16) × (m .start < 2 ^ 64) × GoodName (m .name)
+
+symbol-new : (h : ObjectFile) (m : Label) → InLabel m → atKey labelKey (m .name) (h .labels) ≡ none → parseSymbolRow h (symbolLine m) ≡ given (putRecord h (label (unplaced m)))
+unfolding labelNamed
+symbol-new h m i f = symbol-row h m (i .0) (i .2) ∙ rw f
+
+pub symbols-through :
+    (h : ObjectFile) (ms : List Label) → Distinct labelKey ms → All InLabel ms → All (λ m. atKey labelKey (m .name) (h .labels) ≡ none) ms
+    → foldOutcome parseSymbolRow h (map symbolLine ms) ≡ given (withLabels h (inserted labelKey (map unplaced ms) (h .labels)))
+unfolding foldOutcome inserted putRecord
+symbols-through h [] d i f = refl
+symbols-through h (m ∷ ms) d i f =
+    rw (symbol-new h m (i .0) (f .0))
+    (symbols-through (withLabels h (upsert labelKey (unplaced m) (h .labels))) ms (d .1) (i .1) (found-insert labelKey (λ x. none) (unplaced m) ms (h .labels) (others labelKey m ms (d .0)) (f .1)))
+
+index-known : (names indices : ℕ) (h : ObjectFile) (m : Label) → InLabel m → atKey labelKey (m .name) (h .labels) ≡ some (unplaced m) → parseLabelRow h (indexLine names indices m) ≡ given (putRecord h (label m))
+unfolding labelNamed
+index-known names indices h m i f = index-row names indices h m (i .1) (i .2) ∙ rw f
+
+pub indices-through :
+    (names indices : ℕ) (h : ObjectFile) (ms : List Label) → Distinct labelKey ms → All InLabel ms → All (λ m. atKey labelKey (m .name) (h .labels) ≡ some (unplaced m)) ms
+    → foldOutcome parseLabelRow h (map (indexLine names indices) ms) ≡ given (withLabels h (inserted labelKey ms (h .labels)))
+unfolding foldOutcome inserted putRecord
+indices-through names indices h [] d i f = refl
+indices-through names indices h (m ∷ ms) d i f =
+    rw (index-known names indices h m (i .0) (f .0))
+    (indices-through names indices (withLabels h (upsert labelKey m (h .labels))) ms (d .1) (i .1) (found-insert labelKey (λ x. some (unplaced x)) m ms (h .labels) (others labelKey m ms (d .0)) (f .1)))
+
+-- what the first table leaves, and the second makes whole
+abbrev first : Option Label → Option Label
+first none = none
+first (some m) = some (unplaced m)
+
+find-unplaced : (k : List ℕ) (ms : List Label) → atKey labelKey k (map unplaced ms) ≡ first (atKey labelKey k ms)
+unfolding atKey
+find-unplaced k [] = refl
+find-unplaced k (m ∷ ms) = rw (find-unplaced k ms) (pick (isEq (order k (m .name))))
+  where
+    pick : (t : Bool) → (if t then some (unplaced m) else first (atKey labelKey k ms)) ≡ first (if t then some m else atKey labelKey k ms)
+    pick true = refl
+    pick false = refl
+
+distinct-unplaced : (ms : List Label) → Distinct labelKey ms → Distinct labelKey (map unplaced ms)
+distinct-unplaced [] d = tt
+distinct-unplaced (m ∷ ms) d = (find-unplaced (m .name) ms ∙ rw (d .0), distinct-unplaced ms (d .1))
+
+or-none : (o : Option Label) → orElse o none ≡ o
+or-none none = refl
+or-none (some a) = refl
+
+module _ (ls ms ns : List Label) (r : Rises labelKey ls) (p : Reordered ls ms) (q : Reordered ls ns) where
+  abbrev placing : List Label
+  placing = inserted labelKey (map unplaced ms) []
+
+  find-placing : (k : List ℕ) → atKey labelKey k placing ≡ first (atKey labelKey k ls)
+  unfolding atKey
+  find-placing k =
+      let u = reordered-find labelKey p (rises-distinct labelKey ls r) in
+      find-inserted labelKey k (map unplaced ms) [] (distinct-unplaced ms (u .1)) ∙ or-none (atKey labelKey k (map unplaced ms)) ∙ find-unplaced k ms ∙ ap first (sym (u .0 k))
+
+  pub placing-known : All (λ m. atKey labelKey (m .name) placing ≡ some (unplaced m)) ns
+  placing-known =
+      all-reordered (λ m. atKey labelKey (m .name) placing ≡ some (unplaced m)) q
+      (all-map (λ m e. find-placing (m .name) ∙ ap first e) ls (distinct-find labelKey ls (rises-distinct labelKey ls r)))
+
+  pub labels-back : inserted labelKey ns placing ≡ ls
+  labels-back =
+      let v = reordered-find labelKey q (rises-distinct labelKey ls r) in
+      ext-find labelKey (inserted labelKey ns placing) ls (rises-inserted labelKey ns placing (rises-inserted labelKey (map unplaced ms) [] tt)) r
+      (λ k. find-inserted labelKey k ns placing (v .1) ∙ rw (sym (v .0 k), find-placing k) (pick (atKey labelKey k ls)))
+    where
+      pick : (o : Option Label) → orElse o (first o) ≡ o
+      pick none = refl
+      pick (some m) = refl
+
+-- the tables as lines
+abbrev pub byAddress : List Label → List Label
+byAddress ls = sorted (λ m. m .address ∷ m .name) ls
+
+abbrev pub byStart : List Label → List Label
+byStart ls = sorted (λ m. m .start ∷ m .name) ls
+
+abbrev pub symbolHeader : List ℕ
+symbolHeader = ascii "ADDR | EXT | LABEL"
+
+abbrev pub symbolLines : List Label → List (List ℕ)
+symbolLines [] = []
+symbolLines (l ∷ ls) = symbolHeader ∷ map symbolLine (byAddress (l ∷ ls))
+
+pub symbol-lines : (ls : List Label) → symbolTable ls ≡ flatMap textLine (symbolLines ls)
+unfolding symbolTable flatMap
+symbol-lines [] = refl
+symbol-lines (l ∷ ls) = ap (λ (r : List ℕ). textLine symbolHeader ++ r) (sym (join-map textLine symbolLine (byAddress (l ∷ ls))))
+
+symbol-header : sameCells (map trim (splitn 2 symbolHeader)) (ascii "ADDR" ∷ ascii "EXT" ∷ ascii "LABEL" ∷ []) ≡ true
+unfolding open-Utf8 isEmpty ascii beginsWith splitOnce splitn sameCells eqs
+symbol-header = refl
+
+pub symbols-back :
+    (h : ObjectFile) (ls : List Label) → Distinct labelKey (byAddress ls) → All InLabel (byAddress ls) → All (λ m. atKey labelKey (m .name) (h .labels) ≡ none) (byAddress ls)
+    → parseSymbolGroup h (symbolLines ls) ≡ given (withLabels h (inserted labelKey (map unplaced (byAddress ls)) (h .labels)))
+unfolding parseSymbolGroup
+symbols-back h [] d i f = unfold rowsUnder sorted foldOutcome inserted in refl
+symbols-back h (l ∷ ls) d i f =
+    rw (rows-under 26 (ascii "ADDR" ∷ ascii "EXT" ∷ ascii "LABEL" ∷ []) symbolHeader (map symbolLine (byAddress (l ∷ ls))) symbol-header)
+    (symbols-through h (byAddress (l ∷ ls)) d i f)
+
+-- the padded header of the second table
+pub left-cell : (w : ℕ) (t : List ℕ) → All Visible t → (trim (toLeft w t) ≡ t) × Undivided (toLeft w t)
+left-cell w t v =
+    let s = visible-solid t v in
+    let k : ℕ = w - characters t in
+    (trim-right k t s, undivided-append t (spaces k) s (undivided-spaces k))
+
+pub LABEL-visible : All Visible (ascii "LABEL")
+unfolding ascii
+LABEL-visible = ((omega arith, omega arith), ((omega arith, omega arith), ((omega arith, omega arith), ((omega arith, omega arith), ((omega arith, omega arith), tt)))))
+
+pub INDEX-visible : All Visible (ascii "INDEX")
+unfolding ascii
+INDEX-visible = ((omega arith, omega arith), ((omega arith, omega arith), ((omega arith, omega arith), ((omega arith, omega arith), ((omega arith, omega arith), tt)))))
+
+abbrev pub indexHeader : ℕ → ℕ → List ℕ
+indexHeader names indices = toLeft names (ascii "LABEL") ++ tableDiv ++ toLeft indices (ascii "INDEX")
+
+index-header : (names indices : ℕ) → sameCells (map trim (splitn 1 (indexHeader names indices))) (ascii "LABEL" ∷ ascii "INDEX" ∷ []) ≡ true
+index-header names indices =
+    let a = left-cell names (ascii "LABEL") LABEL-visible in
+    let b = left-cell indices (ascii "INDEX") INDEX-visible in
+    rw (cells-1 (toLeft names (ascii "LABEL")) (toLeft indices (ascii "INDEX")) (a .1), a .0, b .0) (same-self (ascii "LABEL" ∷ ascii "INDEX" ∷ []))
+
+abbrev pub nameWidth : List Label → ℕ
+nameWidth ls = widest (λ m. length (m .name)) 5 ls
+
+abbrev pub indexWidth : List Label → ℕ
+indexWidth ls = widest (λ m. length (decimal (m .start))) 5 ls
+
+abbrev pub indexLines : List Label → List (List ℕ)
+indexLines [] = []
+indexLines (l ∷ ls) = indexHeader (nameWidth (l ∷ ls)) (indexWidth (l ∷ ls)) ∷ map (indexLine (nameWidth (l ∷ ls)) (indexWidth (l ∷ ls))) (byStart (l ∷ ls))
+
+pub index-lines : (ls : List Label) → indexText ls ≡ flatMap textLine (indexLines ls)
+unfolding indexText flatMap
+index-lines [] = refl
+index-lines (l ∷ ls) =
+    ap (λ (r : List ℕ). textLine (indexHeader (nameWidth (l ∷ ls)) (indexWidth (l ∷ ls))) ++ r) (sym (join-map textLine (indexLine (nameWidth (l ∷ ls)) (indexWidth (l ∷ ls))) (byStart (l ∷ ls))))
+
+pub indices-back :
+    (h : ObjectFile) (ls : List Label) → Distinct labelKey (byStart ls) → All InLabel (byStart ls) → All (λ m. atKey labelKey (m .name) (h .labels) ≡ some (unplaced m)) (byStart ls)
+    → parseLabelTable h (indexLines ls) ≡ given (withLabels h (inserted labelKey (byStart ls) (h .labels)))
+unfolding parseLabelTable
+indices-back h [] d i f = unfold rowsUnder sorted foldOutcome inserted in refl
+indices-back h (l ∷ ls) d i f =
+    rw (rows-under 26 (ascii "LABEL" ∷ ascii "INDEX" ∷ []) (indexHeader (nameWidth (l ∷ ls)) (indexWidth (l ∷ ls))) (map (indexLine (nameWidth (l ∷ ls)) (indexWidth (l ∷ ls))) (byStart (l ∷ ls))) (index-header (nameWidth (l ∷ ls)) (indexWidth (l ∷ ls))))
+    (indices-through (nameWidth (l ∷ ls)) (indexWidth (l ∷ ls)) h (byStart (l ∷ ls)) d i f)
+
+-- relocations
+abbrev pub InRelocation : Relocation → Type 0
+InRelocation q = (q .address < 2 ^ 16) × GoodName (q .name)
+
+pub linker-through :
+    (h : ObjectFile) (rs : List Relocation) → All InRelocation rs → foldOutcome parseLinkerRow h (map linkerLine rs) ≡ given (withRelocations h (inserted relocationKey rs (h .relocations)))
+unfolding foldOutcome inserted putRecord
+linker-through h [] i = refl
+linker-through h (q ∷ rs) i =
+    rw (linker-row h q (i .0 .0) (i .0 .1)) (linker-through (withRelocations h (upsert relocationKey q (h .relocations))) rs (i .1))
+
+abbrev pub linkerHeader : List ℕ
+linkerHeader = ascii "ADDR | LABEL"
+
+abbrev pub linkerLines : List Relocation → List (List ℕ)
+linkerLines [] = []
+linkerLines (q ∷ rs) = linkerHeader ∷ map linkerLine (q ∷ rs)
+
+pub linker-lines : (rs : List Relocation) → linkerTable rs ≡ flatMap textLine (linkerLines rs)
+unfolding linkerTable flatMap
+linker-lines [] = refl
+linker-lines (q ∷ rs) = ap (λ (r : List ℕ). textLine linkerHeader ++ r) (sym (join-map textLine linkerLine (q ∷ rs)))
+
+linker-header : sameCells (map trim (splitn 1 linkerHeader)) (ascii "ADDR" ∷ ascii "LABEL" ∷ []) ≡ true
+unfolding open-Utf8 isEmpty ascii beginsWith splitOnce splitn sameCells eqs
+linker-header = refl
+
+pub linker-back : (h : ObjectFile) (rs : List Relocation) → All InRelocation rs → parseLinkerGroup h (linkerLines rs) ≡ given (withRelocations h (inserted relocationKey rs (h .relocations)))
+unfolding parseLinkerGroup
+linker-back h [] i = unfold rowsUnder foldOutcome inserted in refl
+linker-back h (q ∷ rs) i =
+    rw (rows-under 26 (ascii "ADDR" ∷ ascii "LABEL" ∷ []) linkerHeader (map linkerLine (q ∷ rs)) linker-header) (linker-through h (q ∷ rs) i)

@@ -1,0 +1,138 @@
+-- The binary form (document 01, "Binary form"; source document 000). Assumes nothing.
+use mathlib.Core.Bool.{Bool, not}
+use mathlib.Core.List.{List, [], _∷_, _++_, reverse}
+use mathlib.Core.Option.{Option, none, some}
+use Prim.Native.Nat.{ℕ, _+_, _*_}
+use lib.ListN.{length, take, drop}
+use lib.Dec.{leb, eqb}
+use Rattle.format.specs.Basics.{_>>=_, Outcome, refused, given, ask, if_then_else_, flatMap, every, beginsWith}
+use Rattle.format.specs.Digits.{valueOf, digitsOf}
+use Rattle.format.specs.Tokens.{tokens}
+use Rattle.format.specs.Utf8.{isUtf8}
+use Rattle.format.specs.ObjectFile.{ObjectFile, strictlyRise, apart}
+use Rattle.format.specs.Records.{Record, block, label, lineBlock, source, relocation, recordsOf, gatherRecords, dropStrayRelocations, emptyObject}
+use Rattle.format.specs.Words.{flagBit}
+
+-- magic and version
+unfoldable pub header : List ℕ
+header = 0x6F ∷ 0x62 ∷ 0x6A ∷ 0x21 ∷ 0x10 ∷ 0x00 ∷ 0x01 ∷ []
+
+-- a number of n bytes, low byte first
+abbrev pub numberBytes : ℕ → ℕ → List ℕ
+numberBytes n x = digitsOf 8 n x
+
+abbrev pub memoryBytes : Option ℕ → List ℕ
+memoryBytes none = 0x00 ∷ 0x00 ∷ 0x00 ∷ []
+memoryBytes (some v) = 0xFF ∷ numberBytes 2 v
+
+unfoldable pub recordBytes : Record → List ℕ
+recordBytes (block b) = 0x00 ∷ numberBytes 2 (b .address) ++ numberBytes 2 (length (b .words)) ++ flatMap memoryBytes (b .words)
+recordBytes (label l) = 0x01 ∷ numberBytes 2 (l .address) ++ numberBytes 1 (flagBit (l .external)) ++ numberBytes 8 (l .start) ++ numberBytes 8 (length (l .name)) ++ l .name
+recordBytes (lineBlock l) = 0x02 ∷ numberBytes 8 (l .first) ++ numberBytes 2 (length (l .addresses)) ++ flatMap (numberBytes 2) (l .addresses)
+recordBytes (source s) = 0x03 ∷ numberBytes 8 (length s) ++ s
+-- the address high byte first
+recordBytes (relocation r) = 0x04 ∷ reverse (numberBytes 2 (r .address)) ++ numberBytes 8 (length (r .name)) ++ r .name
+
+-- the file of an object, with labels and relocations in the order in which they stand in it
+unfoldable pub binaryFile : ObjectFile → List ℕ
+binaryFile h = header ++ flatMap recordBytes (recordsOf h)
+
+-- question 2
+unfoldable pub countsFit : ObjectFile → Bool
+countsFit h = every (λ l. leb (length (l .addresses)) 65535) (h .lineBlocks)
+
+-- reading: fields of n bytes at a place
+abbrev pub bytesAt : ℕ → ℕ → List ℕ → List ℕ
+bytesAt at n bs = take n (drop at bs)
+
+abbrev pub numberAt : ℕ → ℕ → List ℕ → ℕ
+numberAt at n bs = valueOf 8 (bytesAt at n bs)
+
+abbrev pub hasBytes : ℕ → List ℕ → Bool
+hasBytes n bs = leb n (length bs)
+
+-- 3 bytes to a word: a flag other than FF means uninitialised
+unfoldable pub cellsFrom : List ℕ → List (Option ℕ)
+cellsFrom [] = []
+cellsFrom (f ∷ []) = []
+cellsFrom (f ∷ a ∷ []) = []
+cellsFrom (f ∷ a ∷ b ∷ bs) = (if eqb f 0xFF then some (valueOf 8 (a ∷ b ∷ [])) else none) ∷ cellsFrom bs
+
+-- 2 bytes to an address
+unfoldable pub addressesFrom : List ℕ → List ℕ
+addressesFrom [] = []
+addressesFrom (a ∷ []) = []
+addressesFrom (a ∷ b ∷ bs) = valueOf 8 (a ∷ b ∷ []) ∷ addressesFrom bs
+
+-- The record of each kind, from the bytes after its kind byte, and how many of them it has. A count or a length is read only where its
+-- bytes are there.
+unfoldable pub blockFrom : List ℕ → Outcome (Record × ℕ)
+blockFrom bs = do
+  _ ← ask 12 (hasBytes 4 bs)
+  let n = numberAt 2 2 bs
+  _ ← ask 12 (hasBytes (4 + 3 * n) bs)
+  given (block (record { address = numberAt 0 2 bs; words = cellsFrom (bytesAt 4 (3 * n) bs) }), 4 + 3 * n)
+
+unfoldable pub labelFrom : List ℕ → Outcome (Record × ℕ)
+labelFrom bs = do
+  _ ← ask 12 (hasBytes 19 bs)
+  let n = numberAt 11 8 bs
+  _ ← ask 12 (hasBytes (19 + n) bs)
+  let name = bytesAt 19 n bs
+  _ ← ask 13 (isUtf8 name)
+  given (label (record { name = name; address = numberAt 0 2 bs; external = not (eqb (numberAt 2 1 bs) 0); start = numberAt 3 8 bs }), 19 + n)
+
+unfoldable pub linesFrom : List ℕ → Outcome (Record × ℕ)
+linesFrom bs = do
+  _ ← ask 12 (hasBytes 10 bs)
+  let n = numberAt 8 2 bs
+  _ ← ask 12 (hasBytes (10 + 2 * n) bs)
+  let addresses = addressesFrom (bytesAt 10 (2 * n) bs)
+  _ ← ask 14 (strictlyRise addresses)
+  given (lineBlock (record { first = numberAt 0 8 bs; addresses = addresses }), 10 + 2 * n)
+
+unfoldable pub sourceFrom : List ℕ → Outcome (Record × ℕ)
+sourceFrom bs = do
+  _ ← ask 12 (hasBytes 8 bs)
+  let n = numberAt 0 8 bs
+  _ ← ask 12 (hasBytes (8 + n) bs)
+  let text = bytesAt 8 n bs
+  _ ← ask 13 (isUtf8 text)
+  given (source text, 8 + n)
+
+-- the address low byte first
+unfoldable pub relocationFrom : List ℕ → Outcome (Record × ℕ)
+relocationFrom bs = do
+  _ ← ask 12 (hasBytes 10 bs)
+  let n = numberAt 2 8 bs
+  _ ← ask 12 (hasBytes (10 + n) bs)
+  let name = bytesAt 10 n bs
+  _ ← ask 13 (isUtf8 name)
+  given (relocation (record { address = numberAt 0 2 bs; name = name }), 10 + n)
+
+unfoldable pub recordAt : List ℕ → Outcome (Record × ℕ)
+recordAt [] = refused 11
+recordAt (k ∷ bs) =
+    if eqb k 0 then blockFrom bs
+    else if eqb k 1 then labelFrom bs
+    else if eqb k 2 then linesFrom bs
+    else if eqb k 3 then sourceFrom bs
+    else if eqb k 4 then relocationFrom bs
+    else refused 11
+
+unfoldable pub binaryRecords : List ℕ → Outcome (List Record)
+binaryRecords bs = do
+  _ ← ask 10 (beginsWith header bs)
+  tokens recordAt 0 (drop 7 bs)
+
+unfoldable pub binaryObject : List ℕ → Outcome ObjectFile
+binaryObject bs = do
+  rs ← binaryRecords bs
+  let h = dropStrayRelocations (gatherRecords emptyObject rs)
+  _ ← ask 15 (apart (h .lineBlocks))
+  given h
+
+-- opens every definition of this module where an `unfolding` line names it
+unfoldable pub open-Binary : Unit {0}
+unfolding header recordBytes binaryFile countsFit cellsFrom addressesFrom blockFrom labelFrom linesFrom sourceFrom relocationFrom recordAt binaryRecords binaryObject
+open-Binary = tt

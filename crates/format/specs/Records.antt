@@ -1,0 +1,83 @@
+-- Records: what the words of an object, a binary file and a text file are made of, one after the other. Assumes nothing.
+use mathlib.Core.Bool.{false, _&&_, not}
+use mathlib.Core.List.{List, [], _∷_, _++_, map}
+use mathlib.Core.Option.{Option, none, some, Option·getD}
+use Prim.Native.Nat.{ℕ}
+use Rattle.format.specs.Basics.{if_then_else_, isEmpty}
+use Rattle.format.specs.Sorted.{upsert, atKey}
+use Rattle.format.specs.ObjectFile.{Block, Label, LineBlock, Relocation, ObjectFile, blockKey, labelKey, lineKey, relocationKey, sourceText, isSome}
+
+pub data Record : Type 0 where
+  block : Block → Record
+  label : Label → Record
+  lineBlock : LineBlock → Record
+  source : List ℕ → Record
+  relocation : Relocation → Record
+
+-- the order of an object's records: blocks, labels, line blocks, the source, relocations, and each part by its key
+unfoldable pub recordKey : Record → List ℕ
+recordKey (block b) = 0 ∷ blockKey b
+recordKey (label l) = 1 ∷ labelKey l
+recordKey (lineBlock l) = 2 ∷ lineKey l
+recordKey (source s) = 3 ∷ []
+recordKey (relocation r) = 4 ∷ relocationKey r
+
+unfoldable pub sourceRecords : Option (List ℕ) → List Record
+sourceRecords none = []
+sourceRecords (some s) = source s ∷ []
+
+unfoldable pub recordsOf : ObjectFile → List Record
+recordsOf h =
+    map block (h .blocks) ++ map label (h .labels) ++ map lineBlock (h .lineBlocks) ++ sourceRecords (h .source)
+    ++ map relocation (h .relocations)
+
+unfoldable pub emptyObject : ObjectFile
+emptyObject = record { blocks = []; labels = []; lineBlocks = []; source = none; relocations = [] }
+
+module _ (h : ObjectFile) where
+  abbrev pub withBlocks : List Block → ObjectFile
+  withBlocks bs = record { blocks = bs; labels = h .labels; lineBlocks = h .lineBlocks; source = h .source; relocations = h .relocations }
+
+  abbrev pub withLabels : List Label → ObjectFile
+  withLabels ls = record { blocks = h .blocks; labels = ls; lineBlocks = h .lineBlocks; source = h .source; relocations = h .relocations }
+
+  abbrev pub withLines : List LineBlock → Option (List ℕ) → ObjectFile
+  withLines ls s = record { blocks = h .blocks; labels = h .labels; lineBlocks = ls; source = s; relocations = h .relocations }
+
+  abbrev pub withRelocations : List Relocation → ObjectFile
+  withRelocations rs = record { blocks = h .blocks; labels = h .labels; lineBlocks = h .lineBlocks; source = h .source; relocations = rs }
+
+-- each record in the part that it belongs to, in the order in which they come
+unfoldable pub placed : List Record → ObjectFile
+placed [] = emptyObject
+placed (block b ∷ rs) = withBlocks (placed rs) (b ∷ placed rs .blocks)
+placed (label l ∷ rs) = withLabels (placed rs) (l ∷ placed rs .labels)
+placed (lineBlock l ∷ rs) = withLines (placed rs) (l ∷ placed rs .lineBlocks) (placed rs .source)
+placed (source s ∷ rs) = withLines (placed rs) (placed rs .lineBlocks) (some s)
+placed (relocation r ∷ rs) = withRelocations (placed rs) (r ∷ placed rs .relocations)
+
+-- a record read from a file, put to the object that stands: one with the same address, name or first line is replaced, source
+-- chunks append, and a line block or a source chunk makes the source exist
+unfoldable pub putRecord : ObjectFile → Record → ObjectFile
+putRecord h (block b) = withBlocks h (upsert blockKey b (h .blocks))
+putRecord h (label l) = withLabels h (upsert labelKey l (h .labels))
+putRecord h (lineBlock l) = withLines h (upsert lineKey l (h .lineBlocks)) (some (sourceText (h .source)))
+putRecord h (source s) = withLines h (h .lineBlocks) (some (sourceText (h .source) ++ s))
+putRecord h (relocation r) = withRelocations h (upsert relocationKey r (h .relocations))
+
+unfoldable pub gatherRecords : ObjectFile → List Record → ObjectFile
+gatherRecords h [] = h
+gatherRecords h (r ∷ rs) = gatherRecords (putRecord h r) rs
+
+-- with no label and no source, relocations are dropped
+unfoldable pub dropStrayRelocations : ObjectFile → ObjectFile
+dropStrayRelocations h = if isEmpty (h .labels) && not (isSome (h .source)) then withRelocations h [] else h
+
+-- a label with the name, for the text form's tables, which set some of its fields; 0 for the others
+unfoldable pub labelNamed : List ℕ → List Label → Label
+labelNamed n ls = Option·getD (atKey labelKey n ls) (record { name = n; address = 0; external = false; start = 0 })
+
+-- opens every definition of this module where an `unfolding` line names it
+unfoldable pub open-Records : Unit {0}
+unfolding recordKey sourceRecords recordsOf emptyObject placed putRecord gatherRecords dropStrayRelocations labelNamed
+open-Records = tt

@@ -1,0 +1,85 @@
+-- Line and source tables (document 01, "Line and source tables"; source document 001). A source is its bytes. Assumes nothing.
+use mathlib.Core.List.{List, [], _∷_}
+use mathlib.Core.Option.{Option, none, some}
+use Prim.Native.Nat.{ℕ, zero, suc, _+_, _-_, _%_, _^_, min}
+use lib.ListN.{length, take, drop, getD, getElem?}
+use lib.Dec.{leb, ltb, eqb}
+use Rattle.format.specs.Basics.{Outcome, given, _>>=_, ask, andThen, orElse, if_then_else_}
+use Rattle.format.specs.Utf8.{trimStart, trimEnd}
+use Rattle.format.specs.ObjectFile.{LineBlock, newlines}
+
+unfoldable pub lineCount : List ℕ → ℕ
+lineCount s = suc (newlines s)
+
+-- where each line ends: at its newline, and the last at the source's end. The first number is the place of the list's start
+unfoldable pub nlIndicesFrom : ℕ → List ℕ → List ℕ
+nlIndicesFrom i [] = i ∷ []
+nlIndicesFrom i (b ∷ bs) = if eqb b 10 then i ∷ nlIndicesFrom (suc i) bs else nlIndicesFrom (suc i) bs
+
+unfoldable pub nlIndices : List ℕ → List ℕ
+nlIndices s = nlIndicesFrom 0 s
+
+-- a range of byte indices
+pub record Span : Type 0 where
+  pub start : ℕ
+  pub end : ℕ
+
+abbrev pub lineStart : List ℕ → ℕ → ℕ
+lineStart s zero = 0
+lineStart s (suc line) = suc (getD (nlIndices s) line 0)
+
+-- with the newline, and not past the source's end
+unfoldable pub rawLineSpan : List ℕ → ℕ → Outcome Span
+rawLineSpan s line = do
+  _ ← ask 5 (ltb line (lineCount s))
+  given (record { start = lineStart s line; end = min (suc (getD (nlIndices s) line 0)) (length s) })
+
+abbrev pub spanBytes : List ℕ → Span → List ℕ
+spanBytes s r = take (r .end - r .start) (drop (r .start) s)
+
+-- less White_Space at both ends; a blank line gives the empty range at its start
+unfoldable pub trimmed : List ℕ → Span → Span
+trimmed s r =
+    let line = trimEnd (spanBytes s r) in
+    record { start = r .start + (length line - length (trimStart line)); end = r .start + length line }
+
+unfoldable pub lineSpan : List ℕ → ℕ → Outcome Span
+lineSpan s line = rawLineSpan s line >>= λ r. given (trimmed s r)
+
+pub record Position : Type 0 where
+  pub line : ℕ
+  pub column : ℕ
+
+-- how many of the numbers are below i
+unfoldable pub countBelow : ℕ → List ℕ → ℕ
+countBelow i [] = 0
+countBelow i (x ∷ xs) = if ltb x i then suc (countBelow i xs) else countBelow i xs
+
+-- past the end: the line count and the index
+unfoldable pub getPosPair : List ℕ → ℕ → Position
+getPosPair s i =
+    let line = countBelow i (nlIndices s) in
+    record { line = line; column = if ltb line (lineCount s) then i - lineStart s line else i }
+
+-- the last line block that begins at or before the line
+unfoldable pub lastStarting : ℕ → List LineBlock → Option LineBlock
+lastStarting line [] = none
+lastStarting line (l ∷ ls) = orElse (lastStarting line ls) (if leb (l .first) line then some l else none)
+
+-- a line's address, if it is in that block
+unfoldable pub getAddress : List LineBlock → ℕ → Option ℕ
+getAddress ls line = andThen (lastStarting line ls) λ l. getElem? (l .addresses) (line - l .first)
+
+unfoldable pub offsetOf : ℕ → List ℕ → Option ℕ
+offsetOf a [] = none
+offsetOf a (x ∷ xs) = if eqb x a then some 0 else andThen (offsetOf a xs) λ i. some (suc i)
+
+-- the first line block that has the address, and the lowest line in it, wrapped to 64 bits
+unfoldable pub findLine : List LineBlock → ℕ → Option ℕ
+findLine [] a = none
+findLine (l ∷ ls) a = orElse (andThen (offsetOf a (l .addresses)) λ i. some ((l .first + i) % 2 ^ 64)) (findLine ls a)
+
+-- opens every definition of this module where an `unfolding` line names it
+unfoldable pub open-Source : Unit {0}
+unfolding lineCount nlIndicesFrom nlIndices rawLineSpan trimmed lineSpan countBelow getPosPair lastStarting getAddress offsetOf findLine
+open-Source = tt

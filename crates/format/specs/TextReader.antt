@@ -1,0 +1,266 @@
+-- Reading the text form (document 01, "Text form" and the questions 20 to 31; source document 000). Texts, lines and cells are lists of
+-- bytes. Assumes nothing.
+use mathlib.Core.Bool.{Bool, true, false, _&&_, not}
+use mathlib.Core.List.{List, [], _∷_, _++_, map}
+use mathlib.Core.Option.{Option, none, some}
+use Prim.Native.Nat.{ℕ, zero, suc, _+_, _-_, _*_, _^_}
+use lib.ListN.{length, take, drop, getD}
+use lib.Dec.{leb, ltb, eqb}
+use Rattle.format.specs.Basics.{Outcome, refused, given, _>>=_, ask, need, andThen, if_then_else_, ascii, isEmpty, every, keep, flatMap, allSome, eqs, beginsWith}
+use Rattle.format.specs.Tokens.{tokens, scanTokens, foldOutcome, partsAt}
+use Rattle.format.specs.Sorted.{atKey}
+use Rattle.format.specs.Utf8.{isUtf8, isScalar, encodeScalar, isBetween, isBlank, trim}
+use Rattle.format.specs.ObjectFile.{LineBlock, ObjectFile, blockKey, neverFall, isSome}
+use Rattle.format.specs.Records.{block, label, relocation, putRecord, dropStrayRelocations, emptyObject, withLines, labelNamed}
+
+-- an element in front of the first list
+unfoldable pub onFirst : {A : Type 0} → A → List (List A) → List (List A)
+onFirst a [] = (a ∷ []) ∷ []
+onFirst a (l ∷ ls) = (a ∷ l) ∷ ls
+
+-- `str::lines`: a line ends at LF or at CR LF, and the last may go without
+unfoldable pub lines : List ℕ → List (List ℕ)
+lines [] = []
+lines (b ∷ bs) =
+    if eqb b 0x0A then [] ∷ lines bs
+    else if eqb b 0x0D && beginsWith (0x0A ∷ []) bs then lines bs
+    else onFirst b (lines bs)
+
+-- comment lines and blank ones are dropped
+unfoldable pub keptLines : List ℕ → List (List ℕ)
+keptLines bs = keep (λ l. not (beginsWith (ascii "#") l) && not (isBlank l)) (lines (trim bs))
+
+-- numbers, as `from_str_radix` and `parse` read them
+unfoldable pub digitValue : ℕ → ℕ → Option ℕ
+digitValue base b =
+    let d = if isBetween 48 57 b then b - 48 else if isBetween 65 70 b then b - 55 else if isBetween 97 102 b then b - 87 else 16 in
+    if ltb d base then some d else none
+
+-- the value of digits after those that gave n
+unfoldable pub digitsFrom : ℕ → ℕ → List ℕ → Option ℕ
+digitsFrom base n [] = some n
+digitsFrom base n (b ∷ bs) = andThen (digitValue base b) λ d. digitsFrom base (n * base + d) bs
+
+unfoldable pub withoutPlus : List ℕ → List ℕ
+withoutPlus [] = []
+withoutPlus (b ∷ bs) = if eqb b 0x2B then bs else b ∷ bs
+
+abbrev pub belowLimit : ℕ → Option ℕ → Option ℕ
+belowLimit limit none = none
+belowLimit limit (some n) = if ltb n limit then some n else none
+
+unfoldable pub parseNumber : ℕ → ℕ → List ℕ → Option ℕ
+parseNumber base limit bs = let ds = withoutPlus bs in if isEmpty ds then none else belowLimit limit (digitsFrom base 0 ds)
+
+unfoldable pub hex2u16 : List ℕ → Option ℕ
+hex2u16 bs = if eqb (length bs) 4 then parseNumber 16 (2 ^ 16) bs else none
+
+abbrev pub parseDecimal : ℕ → List ℕ → Option ℕ
+parseDecimal limit bs = parseNumber 10 limit bs
+
+-- a word or an address, or ????
+unfoldable pub maybeHex2u16 : List ℕ → Option (Option ℕ)
+maybeHex2u16 bs = if eqs bs (ascii "????") then some none else andThen (hex2u16 bs) λ v. some (some v)
+
+-- tables
+
+-- what stands before the first divider, and what after it
+unfoldable pub splitOnce : List ℕ → Option (List ℕ × List ℕ)
+splitOnce [] = none
+splitOnce (b ∷ bs) = if beginsWith (ascii " | ") (b ∷ bs) then some ([], drop 3 (b ∷ bs)) else andThen (splitOnce bs) λ p. some (b ∷ p .0, p .1)
+
+abbrev pub firstOf : List ℕ → (List ℕ → List (List ℕ)) → Option (List ℕ × List ℕ) → List (List ℕ)
+firstOf bs more none = bs ∷ []
+firstOf bs more (some p) = p .0 ∷ more (p .1)
+
+-- `splitn`, cutting at most k times
+unfoldable pub splitn : ℕ → List ℕ → List (List ℕ)
+splitn zero bs = bs ∷ []
+splitn (suc k) bs = firstOf bs (λ rest. splitn k rest) (splitOnce bs)
+
+-- missing cells are empty
+abbrev pub cellAt : ℕ → List (List ℕ) → List ℕ
+cellAt i cs = getD cs i []
+
+unfoldable pub sameCells : List (List ℕ) → List (List ℕ) → Bool
+sameCells [] [] = true
+sameCells [] (y ∷ ys) = false
+sameCells (x ∷ xs) [] = false
+sameCells (x ∷ xs) (y ∷ ys) = eqs x y && sameCells xs ys
+
+-- a table's rows: its lines after a header with these columns; a table without lines is empty
+unfoldable pub rowsUnder : ℕ → List (List ℕ) → List (List ℕ) → Outcome (List (List ℕ))
+rowsUnder n columns [] = given []
+rowsUnder n columns (l ∷ ls) = ask n (sameCells (map trim (splitn (length columns - 1) l)) columns) >>= λ _. given ls
+
+-- .TEXT: the block that the lines begin with, and how many lines it has after its first
+unfoldable pub blockAt : ObjectFile → List (List ℕ) → Outcome (ObjectFile × ℕ)
+blockAt h [] = refused 24
+blockAt h (l ∷ []) = refused 24
+blockAt h (l ∷ c ∷ ls) = do
+  a ← need 24 (hex2u16 l)
+  n ← need 24 (parseDecimal (2 ^ 16) c)
+  _ ← ask 24 (leb n (length ls))
+  ws ← need 24 (allSome maybeHex2u16 (take n ls))
+  _ ← ask 25 (not (isSome (atKey blockKey (a ∷ []) (h .blocks))))
+  given (putRecord h (block (record { address = a; words = ws })), suc n)
+
+unfoldable pub parseTextGroup : ObjectFile → List (List ℕ) → Outcome ObjectFile
+parseTextGroup h ls = scanTokens blockAt h 0 ls
+
+-- .SYMBOL
+unfoldable pub parseSymbolRow : ObjectFile → List ℕ → Outcome ObjectFile
+parseSymbolRow h l = do
+  let cs = splitn 2 l
+  a ← need 26 (hex2u16 (trim (cellAt 0 cs)))
+  e ← need 26 (parseDecimal (2 ^ 8) (trim (cellAt 1 cs)))
+  let name = trim (cellAt 2 cs)
+  given (putRecord h (label (record { name = name; address = a; external = not (eqb e 0); start = labelNamed name (h .labels) .start })))
+
+unfoldable pub parseSymbolGroup : ObjectFile → List (List ℕ) → Outcome ObjectFile
+parseSymbolGroup h ls = rowsUnder 26 (ascii "ADDR" ∷ ascii "EXT" ∷ ascii "LABEL" ∷ []) ls >>= λ rows. foldOutcome parseSymbolRow h rows
+
+-- .LINKER_INFO
+unfoldable pub parseLinkerRow : ObjectFile → List ℕ → Outcome ObjectFile
+parseLinkerRow h l = do
+  let cs = splitn 1 l
+  a ← need 26 (hex2u16 (trim (cellAt 0 cs)))
+  given (putRecord h (relocation (record { address = a; name = trim (cellAt 1 cs) })))
+
+unfoldable pub parseLinkerGroup : ObjectFile → List (List ℕ) → Outcome ObjectFile
+parseLinkerGroup h ls = rowsUnder 26 (ascii "ADDR" ∷ ascii "LABEL" ∷ []) ls >>= λ rows. foldOutcome parseLinkerRow h rows
+
+-- .DEBUG, its label table
+unfoldable pub parseLabelRow : ObjectFile → List ℕ → Outcome ObjectFile
+parseLabelRow h l = do
+  let cs = splitn 1 l
+  let name = trim (cellAt 0 cs)
+  i ← need 26 (parseDecimal (2 ^ 64) (trim (cellAt 1 cs)))
+  let old = labelNamed name (h .labels)
+  given (putRecord h (label (record { name = name; address = old .address; external = old .external; start = i })))
+
+unfoldable pub parseLabelTable : ObjectFile → List (List ℕ) → Outcome ObjectFile
+parseLabelTable h ls = rowsUnder 26 (ascii "LABEL" ∷ ascii "INDEX" ∷ []) ls >>= λ rows. foldOutcome parseLabelRow h rows
+
+-- .DEBUG, its line table: rows numbered from i on, each an address or none and its source cell, which is not trimmed
+unfoldable pub parseLineRows : ℕ → List (List ℕ) → Outcome (List (Option ℕ × List ℕ))
+parseLineRows i [] = given []
+parseLineRows i (l ∷ ls) = do
+  let cs = splitn 2 l
+  n ← need 28 (parseDecimal (2 ^ 64) (trim (cellAt 0 cs)))
+  _ ← ask 28 (eqb n i)
+  a ← need 28 (maybeHex2u16 (trim (cellAt 1 cs)))
+  rows ← parseLineRows (suc i) ls
+  given ((a, cellAt 2 cs) ∷ rows)
+
+-- line runs, maximal stretches with an address: the run that stands before row i, and the rows from there on. A run that reaches the
+-- last row is dropped
+unfoldable pub runsFrom : ℕ → List ℕ → List (Option ℕ) → List LineBlock
+runsFrom i run [] = []
+runsFrom i run (some a ∷ rows) = runsFrom (suc i) (run ++ a ∷ []) rows
+runsFrom i [] (none ∷ rows) = runsFrom (suc i) [] rows
+runsFrom i (a ∷ run) (none ∷ rows) = record { first = i - length (a ∷ run); addresses = a ∷ run } ∷ runsFrom (suc i) [] rows
+
+-- `\u{1 to 6 hex digits}` of a scalar value, from what follows the u: its bytes, and how many bytes it has after the backslash
+unfoldable pub hexDigits : List ℕ → ℕ
+hexDigits [] = 0
+hexDigits (b ∷ bs) = if isSome (digitValue 16 b) then suc (hexDigits bs) else 0
+
+abbrev pub scalarOf : Option ℕ → Outcome ℕ
+scalarOf none = refused 30
+scalarOf (some c) = if isScalar c then given c else refused 30
+
+unfoldable pub unicodeEscape : List ℕ → Outcome (List ℕ × ℕ)
+unicodeEscape bs = do
+  _ ← ask 30 (beginsWith (ascii "{") bs)
+  let n = hexDigits (drop 1 bs)
+  _ ← ask 30 (isBetween 1 6 n && beginsWith (ascii "}") (drop (1 + n) bs))
+  c ← scalarOf (digitsFrom 16 0 (take n (drop 1 bs)))
+  given (encodeScalar c, 1 + (1 + n + 1))
+
+-- what follows a backslash
+unfoldable pub afterBackslash : List ℕ → Outcome (List ℕ × ℕ)
+afterBackslash [] = refused 30
+afterBackslash (b ∷ bs) =
+    if beginsWith (ascii "t") (b ∷ bs) then given (0x09 ∷ [], 1)
+    else if beginsWith (ascii "r") (b ∷ bs) then given (0x0D ∷ [], 1)
+    else if beginsWith (ascii "n") (b ∷ bs) then given (0x0A ∷ [], 1)
+    else if beginsWith (ascii "'") (b ∷ bs) then given (0x27 ∷ [], 1)
+    else if beginsWith (ascii "\"") (b ∷ bs) then given (0x22 ∷ [], 1)
+    else if beginsWith (ascii "\\") (b ∷ bs) then given (0x5C ∷ [], 1)
+    else if beginsWith (ascii "u") (b ∷ bs) then unicodeEscape bs
+    else refused 30
+
+unfoldable pub unescapeAt : List ℕ → Outcome (List ℕ × ℕ)
+unescapeAt [] = refused 30
+unescapeAt (b ∷ bs) = if eqb b 0x5C then afterBackslash bs else given (b ∷ [], 0)
+
+unfoldable pub unescape : List ℕ → Outcome (List ℕ)
+unescape bs = tokens unescapeAt 0 bs >>= λ ts. given (flatMap (λ t. t) ts)
+
+unfoldable pub parseLineTable : ObjectFile → List (List ℕ) → Outcome ObjectFile
+parseLineTable h ls = do
+  rows ← rowsUnder 28 (ascii "LINE" ∷ ascii "ADDR" ∷ ascii "SOURCE" ∷ []) ls
+  parsed ← parseLineRows 0 rows
+  if isEmpty parsed then given h else (do
+    _ ← ask 29 (not (isSome (h .source)))
+    s ← unescape (flatMap (λ r. r .1) parsed)
+    given (withLines h (runsFrom 0 [] (map (λ r. r .0) parsed)) (some s)))
+
+-- the lines before the first that begins with =, and those after it
+pub record Split : Type 0 where
+  pub before : List (List ℕ)
+  pub after : Option (List (List ℕ))
+
+abbrev pub inFront : List ℕ → Split → Split
+inFront l p = record { before = l ∷ p .before; after = p .after }
+
+abbrev pub isBar : List ℕ → Bool
+isBar l = beginsWith (ascii "=") l
+
+unfoldable pub splitAtBar : List (List ℕ) → Split
+splitAtBar [] = record { before = []; after = none }
+splitAtBar (l ∷ ls) = if isBar l then record { before = []; after = some ls } else inFront l (splitAtBar ls)
+
+-- all but the last line, if that begins with =
+unfoldable pub upToBar : List (List ℕ) → Option (List (List ℕ))
+upToBar [] = none
+upToBar (l ∷ []) = if isBar l then some [] else none
+upToBar (l ∷ m ∷ ls) = andThen (upToBar (m ∷ ls)) λ ks. some (l ∷ ks)
+
+unfoldable pub parseDebugGroup : ObjectFile → List (List ℕ) → Outcome ObjectFile
+parseDebugGroup h [] = given h
+parseDebugGroup h (l ∷ ls) = do
+  let p = splitAtBar (l ∷ ls)
+  after ← need 27 (p .after)
+  rows ← need 27 (upToBar after)
+  h′ ← parseLabelTable h (p .before)
+  parseLineTable h′ rows
+
+unfoldable pub parseGroup : ObjectFile → List ℕ × List (List ℕ) → Outcome ObjectFile
+parseGroup h g =
+    if eqs (g .0) (ascii ".TEXT") then parseTextGroup h (g .1)
+    else if eqs (g .0) (ascii ".SYMBOL") then parseSymbolGroup h (g .1)
+    else if eqs (g .0) (ascii ".LINKER_INFO") then parseLinkerGroup h (g .1)
+    else if eqs (g .0) (ascii ".DEBUG") then parseDebugGroup h (g .1)
+    else refused 23
+
+-- the kept lines after `LC-3 OBJ FILE`
+unfoldable pub afterMagic : List (List ℕ) → Outcome (List (List ℕ))
+afterMagic [] = refused 21
+afterMagic (l ∷ ls) = ask 21 (eqs l (ascii "LC-3 OBJ FILE")) >>= λ _. given ls
+
+unfoldable pub textObject : List ℕ → Outcome ObjectFile
+textObject bs = do
+  _ ← ask 20 (isUtf8 bs)
+  ls ← afterMagic (keptLines bs)
+  let parts = partsAt (beginsWith (ascii ".")) ls
+  _ ← ask 22 (isEmpty (parts .before))
+  h ← foldOutcome parseGroup emptyObject (parts .groups)
+  _ ← ask 31 (every (λ l. neverFall (l .addresses)) (h .lineBlocks))
+  given (dropStrayRelocations h)
+
+-- opens every definition of this module where an `unfolding` line names it
+unfoldable pub open-TextReader : Unit {0}
+unfolding onFirst lines keptLines digitValue digitsFrom withoutPlus parseNumber hex2u16 maybeHex2u16 splitOnce splitn sameCells rowsUnder blockAt parseTextGroup parseSymbolRow parseSymbolGroup parseLinkerRow parseLinkerGroup parseLabelRow parseLabelTable parseLineRows runsFrom hexDigits unicodeEscape afterBackslash unescapeAt unescape parseLineTable splitAtBar upToBar parseDebugGroup parseGroup afterMagic textObject
+open-TextReader = tt

@@ -1,0 +1,126 @@
+-- An object as 32-bit words (document 01, "The object"): the top 3 bits are the word's kind. Assumes nothing.
+use mathlib.Core.Bool.{Bool, true, false, _&&_, _||_}
+use mathlib.Core.List.{List, [], _∷_, _++_, map}
+use mathlib.Core.Option.{Option, none, some}
+use Prim.Native.Nat.{ℕ, _+_, _-_, _*_, _/_, _%_, _^_}
+use lib.ListN.{length}
+use lib.Dec.{leb, ltb, eqb}
+use Rattle.format.specs.Basics.{Outcome, refused, given, _>>=_, ask, if_then_else_, flatMap, isEmpty}
+use Rattle.format.specs.Digits.{valueOf, digitsOf}
+use Rattle.format.specs.Tokens.{partsAt}
+use Rattle.format.specs.Utf8.{isBetween}
+use Rattle.format.specs.Sorted.{rises}
+use Rattle.format.specs.ObjectFile.{ObjectFile, consistent}
+use Rattle.format.specs.Records.{Record, block, label, lineBlock, source, relocation, recordKey, recordsOf, placed}
+
+-- a word: its kind, and the other 29 bits
+abbrev pub word : ℕ → ℕ → ℕ
+word kind bits = kind * 2 ^ 29 + bits
+
+abbrev pub flagBit : Bool → ℕ
+flagBit true = 1
+flagBit false = 0
+
+unfoldable pub memoryWord : Option ℕ → ℕ
+memoryWord none = word 1 0
+memoryWord (some v) = word 1 (2 ^ 16 + v)
+
+-- a number: its three digits of 24 bits
+unfoldable pub numberWords : ℕ → List ℕ
+numberWords n = map (λ d. word 6 d) (digitsOf 24 3 n)
+
+-- a text: three bytes to a word, and how many in bits 25..24
+unfoldable pub textWords : List ℕ → List ℕ
+textWords [] = []
+textWords (a ∷ []) = word 7 (valueOf 8 (a ∷ 0 ∷ 0 ∷ 1 ∷ [])) ∷ []
+textWords (a ∷ b ∷ []) = word 7 (valueOf 8 (a ∷ b ∷ 0 ∷ 2 ∷ [])) ∷ []
+textWords (a ∷ b ∷ c ∷ bs) = word 7 (valueOf 8 (a ∷ b ∷ c ∷ 3 ∷ [])) ∷ textWords bs
+
+unfoldable pub recordWords : Record → List ℕ
+recordWords (block b) = word 0 (b .address) ∷ map memoryWord (b .words)
+recordWords (label l) = word 2 (l .address + 2 ^ 16 * flagBit (l .external)) ∷ numberWords (l .start) ++ textWords (l .name)
+recordWords (lineBlock l) = word 3 0 ∷ numberWords (l .first) ++ map (λ a. memoryWord (some a)) (l .addresses)
+recordWords (source s) = word 4 0 ∷ textWords s
+recordWords (relocation r) = word 5 (r .address) ∷ textWords (r .name)
+
+unfoldable pub wordsOf : ObjectFile → List ℕ
+wordsOf h = flatMap recordWords (recordsOf h)
+
+-- the way back; each "no" is number 1
+
+-- the bits of a word of this kind, below a limit: unused bits are 0
+unfoldable pub bitsOf : ℕ → ℕ → ℕ → Outcome ℕ
+bitsOf kind limit w = if eqb (w / 2 ^ 29) kind && ltb (w % 2 ^ 29) limit then given (w % 2 ^ 29) else refused 1
+
+unfoldable pub memoryOf : ℕ → Outcome (Option ℕ)
+memoryOf w = bitsOf 1 (2 ^ 17) w >>= λ x. if eqb x 0 then given none else if leb (2 ^ 16) x then given (some (x - 2 ^ 16)) else refused 1
+
+unfoldable pub memoriesOf : List ℕ → Outcome (List (Option ℕ))
+memoriesOf [] = given []
+memoriesOf (w ∷ ws) = memoryOf w >>= λ m. memoriesOf ws >>= λ ms. given (m ∷ ms)
+
+unfoldable pub addressesOf : List ℕ → Outcome (List ℕ)
+addressesOf [] = given []
+addressesOf (w ∷ ws) = bitsOf 1 (2 ^ 17) w >>= λ x. ask 1 (leb (2 ^ 16) x) >>= λ _. addressesOf ws >>= λ xs. given ((x - 2 ^ 16) ∷ xs)
+
+-- a number, and the words after it
+unfoldable pub numberOf : List ℕ → Outcome (ℕ × List ℕ)
+numberOf [] = refused 1
+numberOf (a ∷ []) = refused 1
+numberOf (a ∷ b ∷ []) = refused 1
+numberOf (a ∷ b ∷ c ∷ ws) = do
+  x ← bitsOf 6 (2 ^ 24) a
+  y ← bitsOf 6 (2 ^ 24) b
+  z ← bitsOf 6 (2 ^ 16) c
+  given (valueOf 24 (x ∷ y ∷ z ∷ []), ws)
+
+-- the bytes of a text word
+unfoldable pub textPart : ℕ → Outcome (List ℕ)
+textPart w = do
+  x ← bitsOf 7 (2 ^ 26) w
+  let n = x / 2 ^ 24
+  _ ← ask 1 (isBetween 1 3 n && ltb (x % 2 ^ 24) (2 ^ (8 * n)))
+  given (digitsOf 8 n x)
+
+unfoldable pub textFrom : List ℕ → Outcome (List ℕ)
+textFrom [] = given []
+textFrom (w ∷ []) = textPart w
+textFrom (w ∷ v ∷ ws) = textPart w >>= λ bs. ask 1 (eqb (length bs) 3) >>= λ _. textFrom (v ∷ ws) >>= λ cs. given (bs ++ cs)
+
+-- kinds 0, 2, 3, 4 and 5 begin a record; 1, 6 and 7 go on with it
+unfoldable pub isHead : ℕ → Bool
+isHead w = eqb (w / 2 ^ 29) 0 || isBetween 2 5 (w / 2 ^ 29)
+
+unfoldable pub recordFrom : ℕ × List ℕ → Outcome Record
+recordFrom g =
+    let k = g .0 / 2 ^ 29 in
+    if eqb k 0
+    then (bitsOf 0 (2 ^ 16) (g .0) >>= λ a. memoriesOf (g .1) >>= λ ms. given (block (record { address = a; words = ms })))
+    else if eqb k 2
+    then (bitsOf 2 (2 ^ 17) (g .0) >>= λ x. numberOf (g .1) >>= λ n. textFrom (n .1) >>= λ t.
+    given (label (record { name = t; address = x % 2 ^ 16; external = leb (2 ^ 16) x; start = n .0 })))
+    else if eqb k 3
+    then (bitsOf 3 1 (g .0) >>= λ _. numberOf (g .1) >>= λ n. addressesOf (n .1) >>= λ xs. given (lineBlock (record { first = n .0; addresses = xs })))
+    else if eqb k 4
+    then (bitsOf 4 1 (g .0) >>= λ _. textFrom (g .1) >>= λ t. given (source t))
+    else (bitsOf 5 (2 ^ 16) (g .0) >>= λ a. textFrom (g .1) >>= λ t. given (relocation (record { address = a; name = t })))
+
+unfoldable pub recordsFrom : List (ℕ × List ℕ) → Outcome (List Record)
+recordsFrom [] = given []
+recordsFrom (g ∷ gs) = recordFrom g >>= λ r. recordsFrom gs >>= λ rs. given (r ∷ rs)
+
+-- The object that words are; refused where they are not well formed. The records' keys rise strictly: that is the order of the parts, at
+-- most one source, and the order within each part.
+unfoldable pub objectOf : List ℕ → Outcome ObjectFile
+objectOf ws = do
+  let parts = partsAt isHead ws
+  _ ← ask 1 (isEmpty (parts .before))
+  rs ← recordsFrom (parts .groups)
+  _ ← ask 1 (rises recordKey rs)
+  _ ← ask 1 (consistent (placed rs))
+  given (placed rs)
+
+-- opens every definition of this module where an `unfolding` line names it
+unfoldable pub open-Words : Unit {0}
+unfolding memoryWord numberWords textWords recordWords wordsOf bitsOf memoryOf memoriesOf addressesOf numberOf textPart textFrom isHead recordFrom recordsFrom objectOf
+open-Words = tt
