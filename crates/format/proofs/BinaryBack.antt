@@ -1,7 +1,7 @@
 -- Every record that the binary writer writes, the binary reader reads: itself, but a relocation address byte-swapped. Assumes nothing.
 use mathlib.Core.Path.{_≡_, refl, _∙_, ap}
 use mathlib.Core.Bool.{Bool, true, false, not}
-use mathlib.Core.List.{List, [], _∷_, _++_, map, reverse}
+use mathlib.Core.List.{List, [], _∷_, _++_, map, reverse, flatMap}
 use mathlib.Core.Option.{Option, none, some}
 use Prim.Native.Nat.{ℕ, suc, _+_, _*_, _<_}
 use native.Mathlib.Omega.{arith}
@@ -9,7 +9,7 @@ use lib.ListN.{length, drop, length-append}
 use lib.Seq.{take-append-seam, take-at, drop-at}
 use lib.Dec.{leb, eqb}
 use borrow.Author.Tests.{le-leb}
-use Rattle.format.specs.Basics.{given, _>>=_, flatMap, All}
+use Rattle.format.specs.Basics.{given, _>>=_, All}
 use Rattle.format.specs.Digits.{valueOf, digitsOf}
 use Rattle.format.specs.Tokens.{tokens}
 use Rattle.format.specs.Utf8.{isUtf8}

@@ -7,21 +7,21 @@ use mathlib.Core.Option.{Option, none, some}
 use Prim.Native.Nat.{ℕ, _^_, _*_, _≤_, _<_}
 use native.Mathlib.Omega.{arith}
 use lib.ListN.{length, length-append}
-use Rattle.format.specs.Basics.{given, chain, isEmpty, flatMap, beginsWith, All}
+use Rattle.format.specs.Basics.{given, chain, isEmpty, beginsWith, All, isSome}
 use Rattle.format.specs.Utf8.{isUtf8}
 use Rattle.format.specs.Sorted.{sorted}
 use Rattle.format.proofs.SortedLaws.{Rises}
 use Rattle.format.proofs.GatherLaws.{inserted, inserted-back}
-use Rattle.format.specs.ObjectFile.{Block, Label, LineBlock, Relocation, ObjectFile, blockKey, consistent, fair, apart, isSome, sourceText}
+use Rattle.format.specs.ObjectFile.{Block, Label, LineBlock, Relocation, ObjectFile, blockKey, consistent, fair, apart, sourceText}
 use Rattle.format.specs.Records.{Record, block, label, lineBlock, source, relocation, recordsOf, sourceRecords, dropStrayRelocations, emptyObject, withLines}
 use Rattle.format.specs.Words.{textWords, numberWords, recordWords, wordsOf}
-use Rattle.format.specs.Binary.{header, binaryFile, binaryRecords, binaryObject, recordBytes}
+use Rattle.format.specs.Binary.{header, binaryFile, binaryRecords, binaryObject}
 use Rattle.format.specs.Calls.{Reordered, inOrder}
 use Rattle.format.specs.Trips.{swapRelocations}
 use Rattle.format.proofs.ListLaws.{unchanged, all-map, all-both, all-reordered, all-images, part-fits, empty-reordered, empty-is}
 use Rattle.format.proofs.Ranges.{WellFormed, InRange, InBlock, InLabel, InLine, InRelocation, PartsHave, to-parts, of-parts}
 use Rattle.format.proofs.FairLaws.{Consistent, consistent-parts, FairLine, FairSource, fair-source, fair-blocks}
-use Rattle.format.proofs.BinaryBack.{Writable, sizeOf, size-bytes, records-back}
+use Rattle.format.proofs.BinaryBack.{Writable, records-back}
 use Rattle.format.proofs.BinaryTrip.{binary-trip, gather-blocks, back-blocks}
 use Rattle.format.proofs.SwapLaws.{all-fit}
 

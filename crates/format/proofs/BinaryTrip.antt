@@ -5,11 +5,11 @@ use mathlib.Core.Bool.{true, and-false}
 use mathlib.Core.List.{List, [], _∷_, _++_, map}
 use mathlib.Core.Option.{Option, none, some}
 use Prim.Native.Nat.{ℕ}
-use Rattle.format.specs.Basics.{given, beginsWith, isEmpty, All}
+use Rattle.format.specs.Basics.{given, beginsWith, isEmpty, All, isSome}
 use Rattle.format.specs.Sorted.{upsert}
 use Rattle.format.proofs.SortedLaws.{Rises}
 use Rattle.format.proofs.GatherLaws.{inserted, inserted-back, gather-append, gather-labels}
-use Rattle.format.specs.ObjectFile.{Block, Label, LineBlock, Relocation, ObjectFile, blockKey, labelKey, lineKey, relocationKey, sourceText, apart, isSome}
+use Rattle.format.specs.ObjectFile.{Block, Label, LineBlock, Relocation, ObjectFile, blockKey, labelKey, lineKey, relocationKey, sourceText, apart}
 use Rattle.format.specs.Records.{Record, block, label, lineBlock, source, relocation, recordsOf, sourceRecords, putRecord, gatherRecords, dropStrayRelocations, emptyObject, withBlocks, withLines, withRelocations}
 use Rattle.format.specs.Binary.{header, binaryFile, binaryRecords, binaryObject}
 use Rattle.format.specs.Calls.{Reordered, inOrder}

@@ -1,7 +1,7 @@
 -- The .TEXT group gives the blocks back. Assumes nothing.
 use mathlib.Core.Path.{_≡_, refl, sym, _∙_, ap}
 use mathlib.Core.Bool.{true}
-use mathlib.Core.List.{List, [], _∷_, _++_, map, append-assoc}
+use mathlib.Core.List.{List, [], _∷_, _++_, map, append-assoc, flatMap}
 use mathlib.Core.Option.{Option, none, some}
 use Prim.Native.Nat.{ℕ, zero, suc, _^_, _<_}
 use native.Mathlib.Omega.{arith}
@@ -9,17 +9,17 @@ use lib.ListN.{length, take, drop, length-append, length-map}
 use lib.Seq.{take-at, drop-at}
 use lib.Dec.{leb}
 use borrow.Author.Tests.{le-leb}
-use Rattle.format.specs.Basics.{Outcome, given, flatMap, allSome, All}
+use Rattle.format.specs.Basics.{Outcome, given, allSome, All, isSome}
 use Rattle.format.specs.Tokens.{scanTokens}
 use Rattle.format.specs.Sorted.{upsert, atKey}
 use Rattle.format.proofs.SortedLaws.{Rises}
 use Rattle.format.proofs.GatherLaws.{inserted}
-use Rattle.format.specs.ObjectFile.{Block, ObjectFile, blockKey, isSome}
+use Rattle.format.specs.ObjectFile.{Block, ObjectFile, blockKey}
 use Rattle.format.specs.Records.{block, putRecord, withBlocks}
 use Rattle.format.specs.TextWriter.{textLine, hex4, decimal, memoryText, blockLines}
 use Rattle.format.specs.TextReader.{hex2u16, parseDecimal, maybeHex2u16, blockAt, parseTextGroup}
-use Rattle.format.proofs.ListLaws.{all-map, all-images, join-map}
-use Rattle.format.proofs.ListFacts.{all-some, all-join, join-join, join-ext}
+use Rattle.format.proofs.ListLaws.{all-map, all-images, flatMap-map}
+use Rattle.format.proofs.ListFacts.{all-some, all-flatMap, flatMap-flatMap, flatMap-ext}
 use Rattle.format.proofs.NumeralBack.{hex-back, decimal-back, decimal-numeric, entry-back, entry-numeric, Word16}
 use Rattle.format.proofs.RowLaws.{Ordinary, numeric-ordinary, hex-ordinary, entry-full}
 use Rattle.format.proofs.OrderLaws.{absent-insert}
@@ -69,7 +69,7 @@ blocks-back h (b ∷ bs) r i f =
     (blocks-back (withBlocks h (upsert blockKey b (h .blocks))) bs (r .1) (i .1) (absent-insert blockKey b bs (h .blocks) (r .0) (f .1)))
 
 pub blocks-ordinary : (bs : List Block) → All InBlock bs → All Ordinary (flatMap blockRows bs)
-blocks-ordinary bs h = all-join Ordinary blockRows bs (all-map one bs h)
+blocks-ordinary bs h = all-flatMap Ordinary blockRows bs (all-map one bs h)
   where
     one : (b : Block) → InBlock b → All Ordinary (blockRows b)
     one b i =
@@ -79,8 +79,8 @@ blocks-ordinary bs h = all-join Ordinary blockRows bs (all-map one bs h)
 
 pub blocks-lines : (bs : List Block) → flatMap blockLines bs ≡ flatMap textLine (flatMap blockRows bs)
 unfolding blockLines
-blocks-lines bs = join-ext blockLines (λ b. flatMap textLine (blockRows b)) one bs ∙ sym (join-join textLine blockRows bs)
+blocks-lines bs = flatMap-ext blockLines (λ b. flatMap textLine (blockRows b)) one bs ∙ sym (flatMap-flatMap textLine blockRows bs)
   where
     one : (b : Block) → textLine (hex4 (b .address)) ++ textLine (decimal (length (b .words))) ++ flatMap (λ w. textLine (memoryText w)) (b .words) ≡ flatMap textLine (blockRows b)
     one b = unfold flatMap in append-assoc (textLine (hex4 (b .address))) (textLine (decimal (length (b .words)))) (flatMap (λ w. textLine (memoryText w)) (b .words))
-        ∙ ap (λ (r : List ℕ). textLine (hex4 (b .address)) ++ (textLine (decimal (length (b .words))) ++ r)) (sym (join-map textLine memoryText (b .words)))
+        ∙ ap (λ (r : List ℕ). textLine (hex4 (b .address)) ++ (textLine (decimal (length (b .words))) ++ r)) (sym (flatMap-map textLine memoryText (b .words)))

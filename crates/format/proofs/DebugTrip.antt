@@ -1,22 +1,21 @@
 -- The .DEBUG group gives the labels' starts, the line blocks and the source back. Assumes nothing.
 use mathlib.Core.Path.{_≡_, refl, sym, _∙_, ap, subst}
-use mathlib.Core.Bool.{Bool, true, false, _&&_}
-use mathlib.Core.List.{List, [], _∷_, _++_, map, map-map}
+use mathlib.Core.Bool.{Bool, true, false}
+use mathlib.Core.List.{List, [], _∷_, _++_, map, map-map, flatMap}
 use mathlib.Core.Option.{Option, none, some}
 use Prim.Native.Nat.{ℕ, suc, _-_, _^_, _≤_, _<_}
 use native.Mathlib.Omega.{arith}
 use lib.ListN.{length, replicate}
-use lib.Dec.{ltb, leb, eqb}
-use borrow.Author.Tests.{leb-true, ltb-true}
-use Rattle.format.specs.Basics.{given, _>>=_, if_then_else_, flatMap, ascii, isEmpty, chain, All}
+use lib.Dec.{ltb, eqb}
+use borrow.Author.Tests.{ltb-true}
+use Rattle.format.specs.Basics.{given, _>>=_, if_then_else_, ascii, isEmpty, chain, All, isSome}
 use Rattle.format.specs.Utf8.{trim, characters}
-use Rattle.format.specs.ObjectFile.{LineBlock, ObjectFile, lineEnd, isSome, newlines, fairLines}
+use Rattle.format.specs.ObjectFile.{LineBlock, ObjectFile, lineEnd, newlines}
 use Rattle.format.specs.Records.{withLines}
 use Rattle.format.specs.Source.{lineCount}
 use Rattle.format.specs.TextWriter.{textLine, tableDiv, spaces, toLeft, decimal, widest, Row, addBlocks, lineRows, sourceCell, lineTable as lineText}
 use Rattle.format.specs.TextReader.{splitn, sameCells, rowsUnder, parseLabelTable, parseLineRows, runsFrom, unescape, parseLineTable, isBar, splitAtBar, upToBar, parseDebugGroup}
-use Rattle.format.proofs.ListFacts.{and-left, and-right}
-use Rattle.format.proofs.ListLaws.{both, all-append, join-map}
+use Rattle.format.proofs.ListLaws.{both, all-append, flatMap-map}
 use Rattle.format.proofs.NumeralBack.{Full}
 use Rattle.format.proofs.Utf8Laws.{Text, text-append}
 use Rattle.format.proofs.TrimLaws.{Visible, visible-solid, trim-solid}
@@ -27,7 +26,7 @@ use Rattle.format.proofs.RowLaws.{Ordinary, Starts, Numbered, starts-ap
 use Rattle.format.proofs.LabelTrip.{rows-under, same-self, left-cell}
 use Rattle.format.proofs.FairLaws.{FairLine}
 use Rattle.format.proofs.RunLaws.{rowsFrom, plain-rows, laid, Spaced, add-blocks, runs-back, laid-length, laid-words, rows-addresses, rows-numbered}
-use Rattle.format.proofs.SourceLaws.{cells-join, source-unescapes, cell-printable}
+use Rattle.format.proofs.SourceLaws.{cells-flatMap, source-unescapes, cell-printable}
 
 -- bars
 pub split-bar : (xs : List (List ℕ)) (b : List ℕ) (ys : List (List ℕ)) → All (λ l. isBar l ≡ false) xs → isBar b ≡ true → splitAtBar (xs ++ b ∷ ys) ≡ record { before = xs; after = some ys }
@@ -136,7 +135,7 @@ module _ (s : List ℕ) (ls : List LineBlock) where
 
   pub line-lines : lineText s ls ≡ flatMap textLine lineLines
   unfolding lineText flatMap
-  line-lines = ap (λ (r : List ℕ). textLine (lineHeader numberWidth) ++ r) (sym (join-map textLine (lineLine numberWidth (sourceCell s)) (lineRows s ls)))
+  line-lines = ap (λ (r : List ℕ). textLine (lineHeader numberWidth) ++ r) (sym (flatMap-map textLine (lineLine numberWidth (sourceCell s)) (lineRows s ls)))
 
   module _ (x : Text s) (small : lineCount s ≤ 2 ^ 64) (sp : Spaced 0 (lineCount s) ls) (words : All (λ l. All (λ a. a < 2 ^ 16) (l .addresses)) ls) where
     laid-size : length laidOut ≡ lineCount s
@@ -159,8 +158,8 @@ module _ (s : List ℕ) (ls : List LineBlock) where
 
     source-column : unescape (flatMap (λ (r : Option ℕ × List ℕ). r .1) parsedRows) ≡ given s
     source-column =
-        ap unescape (join-map (λ (r : Option ℕ × List ℕ). r .1) (readRow s) (lineRows s ls)
-        ∙ ap (λ (r : List Row). flatMap (λ (q : Row). sourceCell s (q .number)) r) (rows-are small sp) ∙ cells-join s laidOut laid-size)
+        ap unescape (flatMap-map (λ (r : Option ℕ × List ℕ). r .1) (readRow s) (lineRows s ls)
+        ∙ ap (λ (r : List Row). flatMap (λ (q : Row). sourceCell s (q .number)) r) (rows-are small sp) ∙ cells-flatMap s laidOut laid-size)
         ∙ source-unescapes s x
 
     address-column : runsFrom 0 [] (map (λ (r : Option ℕ × List ℕ). r .0) parsedRows) ≡ ls

@@ -1,7 +1,7 @@
 -- Unescaping undoes escaping, and escaped text is printable ASCII. Assumes nothing.
 use mathlib.Core.Path.{_≡_, refl, sym, _∙_, ap, subst}
 use mathlib.Core.Bool.{Bool, true, false, _&&_}
-use mathlib.Core.List.{List, [], _∷_, _++_, map, append-assoc}
+use mathlib.Core.List.{List, [], _∷_, _++_, map, append-assoc, flatMap}
 use mathlib.Core.Option.{some}
 use Prim.Native.Nat.{ℕ, zero, suc, _+_, _*_, _/_, _%_, _^_, _≤_, _<_}
 use native.Mathlib.Nat.{pow-suc, pow-zero, div-lt-iff-lt-mul, mod-lt}
@@ -10,16 +10,15 @@ use lib.ListN.{length, take, drop, length-append}
 use lib.Seq.{take-append-seam, drop-at}
 use lib.Dec.{ltb, leb, eqb}
 use borrow.Author.Tests.{ltb-true, leb-true, lt-ltb, le-leb, eqb-true}
-use Rattle.format.specs.Basics.{given, _>>=_, if_then_else_, ascii, flatMap, beginsWith, All}
+use Rattle.format.specs.Basics.{given, _>>=_, if_then_else_, ascii, beginsWith, All, isSome}
 use Rattle.format.specs.Tokens.{tokens}
 use Rattle.format.specs.Utf8.{isBetween, encodeScalar}
-use Rattle.format.specs.ObjectFile.{isSome}
 use Rattle.format.specs.TextWriter.{lowerDigit, numeral, escapeChar, escape}
 use Rattle.format.specs.TextReader.{digitValue, digitsFrom, hexDigits, unicodeEscape, afterBackslash, unescapeAt, unescape}
 use Rattle.format.proofs.Laws.{tokens-step}
 use Rattle.format.proofs.NumeralLaws.{digit-lower, numeral-back}
-use Rattle.format.proofs.ListFacts.{and-left, and-right, all-join}
-use Rattle.format.proofs.ListLaws.{all-append, all-map, join-map}
+use Rattle.format.proofs.ListFacts.{and-left, and-right, all-flatMap}
+use Rattle.format.proofs.ListLaws.{all-append, all-map, flatMap-map}
 use Rattle.format.proofs.NumeralBack.{lower-numeric}
 use Rattle.format.proofs.Utf8Laws.{Scalar, scalar-bound, Text, scalars-of}
 
@@ -116,9 +115,9 @@ unfolding flatMap tokens
 tokens-escaped [] h = refl
 tokens-escaped (c ∷ cs) h = escape-token c (h .0) (flatMap escapeChar cs) ∙ rw (tokens-escaped cs (h .1))
 
-pub unescape-join : (cs : List ℕ) → All Scalar cs → unescape (flatMap escapeChar cs) ≡ given (flatMap encodeScalar cs)
+pub unescape-flatMap : (cs : List ℕ) → All Scalar cs → unescape (flatMap escapeChar cs) ≡ given (flatMap encodeScalar cs)
 unfolding unescape
-unescape-join cs h = rw (tokens-escaped cs h, join-map (λ (t : List ℕ). t) encodeScalar cs)
+unescape-flatMap cs h = rw (tokens-escaped cs h, flatMap-map (λ (t : List ℕ). t) encodeScalar cs)
 
 pub escape-of : (cs : List ℕ) → All Scalar cs → escape (flatMap encodeScalar cs) ≡ flatMap escapeChar cs
 unfolding escape
@@ -126,7 +125,7 @@ escape-of cs h = rw (scalars-of cs h)
 
 pub unescape-escape : (t : List ℕ) → Text t → unescape (escape t) ≡ given t
 unescape-escape t x =
-    ap (λ (r : List ℕ). unescape (escape r)) (sym (x .2)) ∙ rw (escape-of (x .0) (x .1), unescape-join (x .0) (x .1), x .2)
+    ap (λ (r : List ℕ). unescape (escape r)) (sym (x .2)) ∙ rw (escape-of (x .0) (x .1), unescape-flatMap (x .0) (x .1), x .2)
 
 -- printable ASCII
 abbrev pub Printable : ℕ → Type 0
@@ -154,10 +153,10 @@ printable-char c s = go (eqb c 0x09) (eqb c 0x0D) (eqb c 0x0A) (eqb c 0x27) (eqb
     go false false false false false false false e7 =
         ((omega arith, omega arith), ((omega arith, omega arith), ((omega arith, omega arith), all-append Printable (numeral 5 16 c []) (0x7D ∷ []) numbers ((omega arith, omega arith), tt))))
 
-pub printable-join : (cs : List ℕ) → All Scalar cs → All Printable (flatMap escapeChar cs)
-printable-join cs h = all-join Printable escapeChar cs (all-map (λ c s. printable-char c s) cs h)
+pub printable-flatMap : (cs : List ℕ) → All Scalar cs → All Printable (flatMap escapeChar cs)
+printable-flatMap cs h = all-flatMap Printable escapeChar cs (all-map (λ c s. printable-char c s) cs h)
 
 pub printable-escape : (t : List ℕ) → Text t → All Printable (escape t)
 printable-escape t x =
     let e : escape t ≡ flatMap escapeChar (x .0) = ap escape (sym (x .2)) ∙ escape-of (x .0) (x .1) in
-    subst (λ (r : List ℕ). All Printable r) (sym e) (printable-join (x .0) (x .1))
+    subst (λ (r : List ℕ). All Printable r) (sym e) (printable-flatMap (x .0) (x .1))

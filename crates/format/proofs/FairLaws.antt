@@ -8,9 +8,9 @@ use Prim.Native.Nat.{ℕ, _≤_}
 use lib.ListN.{length}
 use lib.Dec.{leb, ltb}
 use borrow.Author.Tests.{leb-true}
-use Rattle.format.specs.Basics.{isEmpty, every, chain, All}
+use Rattle.format.specs.Basics.{isEmpty, every, chain, All, isSome}
 use Rattle.format.specs.Utf8.{isUtf8, isBetween}
-use Rattle.format.specs.ObjectFile.{LineBlock, ObjectFile, lineEnd, neverFall, strictlyRise, apart, namesOf, isSome, sourceText, consistent, newlines, fairName, fairLines, fair}
+use Rattle.format.specs.ObjectFile.{LineBlock, ObjectFile, lineEnd, neverFall, strictlyRise, apart, namesOf, sourceText, consistent, newlines, fairName, fairLines, fair}
 use Rattle.format.proofs.ListLaws.{both, all-map, all-every, all-parts, all-sources, empty-is}
 
 -- a test on every name is one on the names of labels and of relocations

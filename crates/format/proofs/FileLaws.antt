@@ -1,18 +1,18 @@
 -- A file that is made of ordinary rows under the four headers: its kept lines and its groups. Assumes nothing.
 use mathlib.Core.Path.{_≡_, refl, sym, _∙_, ap, subst}
 use mathlib.Core.Bool.{Bool, true, false, _&&_}
-use mathlib.Core.List.{List, [], _∷_, _++_, append-assoc, append-nil}
+use mathlib.Core.List.{List, [], _∷_, _++_, append-assoc, append-nil, flatMap}
 use Prim.Native.Nat.{ℕ, suc}
 use native.Mathlib.Omega.{arith}
 use lib.Dec.{leb}
 use borrow.Author.Tests.{leb-true}
-use Rattle.format.specs.Basics.{given, flatMap, keep, ascii, beginsWith, isEmpty, eqs, every, All}
+use Rattle.format.specs.Basics.{given, keep, ascii, beginsWith, isEmpty, eqs, every, All}
 use Rattle.format.specs.Tokens.{partsAt}
 use Rattle.format.specs.Utf8.{isUtf8, open-Utf8}
 use Rattle.format.specs.TextWriter.{textLine}
 use Rattle.format.specs.TextReader.{keptLines, afterMagic}
 use Rattle.format.proofs.TextLaws.{OneLine}
-use Rattle.format.proofs.ListLaws.{all-parts, all-every, all-append, all-map, join-append}
+use Rattle.format.proofs.ListLaws.{all-parts, all-every, all-append, all-map, flatMap-append}
 use Rattle.format.proofs.ListFacts.{and-left, and-right, keep-append, keep-all, parts-body, parts-all, parts-head}
 use Rattle.format.proofs.Utf8Laws.{Text, text-append, text-ascii, text-utf8}
 use Rattle.format.proofs.TrimLaws.{Visible, newlinesOf}
@@ -29,7 +29,7 @@ kept-whole a l rest before xs b k e va vb o =
     let o′ : All OneLine (((a ∷ l) ∷ before) ++ (xs ++ b ∷ []) ∷ []) = subst (λ (r : List (List ℕ)). All OneLine ((a ∷ l) ∷ r)) e o in
     let f = all-parts OneLine ((a ∷ l) ∷ before) ((xs ++ b ∷ []) ∷ []) o′ in
     let w : flatMap textLine ((a ∷ l) ∷ before ++ (xs ++ b ∷ []) ∷ []) ++ newlinesOf k ≡ flatMap textLine ((a ∷ l) ∷ before) ++ (xs ++ b ∷ newlinesOf (suc k)) =
-    ap (λ (r : List ℕ). r ++ newlinesOf k) (join-append textLine ((a ∷ l) ∷ before) ((xs ++ b ∷ []) ∷ []))
+    ap (λ (r : List ℕ). r ++ newlinesOf k) (flatMap-append textLine ((a ∷ l) ∷ before) ((xs ++ b ∷ []) ∷ []))
     ∙ append-assoc (flatMap textLine ((a ∷ l) ∷ before)) (xs ++ b ∷ [] ++ 0x0A ∷ [] ++ []) (newlinesOf k)
     ∙ ap (λ (r : List ℕ). flatMap textLine ((a ∷ l) ∷ before) ++ r)
     (ap (λ (r : List ℕ). r ++ newlinesOf k) (append-nil (xs ++ b ∷ [] ++ 0x0A ∷ [])) ∙ append-assoc (xs ++ b ∷ []) (0x0A ∷ []) (newlinesOf k) ∙ append-assoc xs (b ∷ []) (0x0A ∷ newlinesOf k)) in

@@ -1,11 +1,11 @@
 -- What is gathered from records in any order. Assumes nothing.
 use mathlib.Core.Path.{_≡_, refl, sym, _∙_, ap, subst}
 use mathlib.Core.List.{List, [], _∷_, _++_, map}
-use mathlib.Core.Option.{Option, none, some}
+use mathlib.Core.Option.{Option, none, some, orElse}
 use Prim.Native.Nat.{ℕ, Ordering, Ordering·lt, Ordering·eq, Ordering·gt}
 use native.Mathlib.Omega.{arith}
 use lib.Dec.{isEq}
-use Rattle.format.specs.Basics.{if_then_else_, orElse}
+use Rattle.format.specs.Basics.{if_then_else_}
 use Rattle.format.specs.Sorted.{order, upsert, atKey}
 use Rattle.format.proofs.SortedLaws.{order-self, order-eq, find-insert, Rises, rises-insert, find-above, ext-find}
 use Rattle.format.specs.ObjectFile.{Label, ObjectFile, labelKey}
@@ -34,7 +34,7 @@ module _ {A : Type 0} (key : A → List ℕ) where
   rises-inserted (a ∷ xs) acc h = rises-inserted xs (upsert key a acc) (rises-insert key a acc h)
 
   pub find-inserted : (k : List ℕ) (xs acc : List A) → Distinct xs → atKey key k (inserted xs acc) ≡ orElse (atKey key k xs) (atKey key k acc)
-  unfolding inserted atKey
+  unfolding inserted atKey orElse
   find-inserted k [] acc d = refl
   find-inserted k (a ∷ xs) acc d = find-inserted k xs (upsert key a acc) (d .1) ∙ rw (find-insert key k a acc) (pick (order k (key a)) refl)
     where

@@ -1,13 +1,13 @@
 -- The label tables give the labels back, and the linker table the relocations. Assumes nothing.
 use mathlib.Core.Path.{_≡_, refl, sym, _∙_, ap, subst}
 use mathlib.Core.Bool.{Bool, true, false}
-use mathlib.Core.List.{List, [], _∷_, _++_, map}
-use mathlib.Core.Option.{Option, none, some}
+use mathlib.Core.List.{List, [], _∷_, _++_, map, flatMap}
+use mathlib.Core.Option.{Option, none, some, orElse}
 use Prim.Native.Nat.{ℕ, _-_, _^_, _<_, Ordering, Ordering·lt, Ordering·eq, Ordering·gt}
 use native.Mathlib.Omega.{arith}
 use lib.ListN.{length}
 use lib.Dec.{isEq}
-use Rattle.format.specs.Basics.{given, flatMap, ascii, if_then_else_, orElse, beginsWith, eqs, isEmpty, All}
+use Rattle.format.specs.Basics.{given, ascii, if_then_else_, beginsWith, eqs, isEmpty, All}
 use Rattle.format.specs.Tokens.{foldOutcome}
 use Rattle.format.specs.Sorted.{order, upsert, atKey, sorted}
 use Rattle.format.proofs.SortedLaws.{order-self, order-eq, find-insert, Rises, ext-find}
@@ -18,7 +18,7 @@ use Rattle.format.specs.Records.{label, putRecord, withLabels, withReloc
 use Rattle.format.specs.TextWriter.{textLine, tableDiv, spaces, toLeft, decimal, widest, symbolTable, linkerTable, labelTable as indexText}
 use Rattle.format.specs.TextReader.{splitOnce, splitn, sameCells, rowsUnder, parseSymbolRow, parseSymbolGroup, parseLinkerRow, parseLinkerGroup, parseLabelRow, parseLabelTable}
 use Rattle.format.specs.Calls.{Reordered}
-use Rattle.format.proofs.ListLaws.{all-map, join-map, all-reordered}
+use Rattle.format.proofs.ListLaws.{all-map, flatMap-map, all-reordered}
 use Rattle.format.proofs.ListFacts.{eqs-self}
 use Rattle.format.proofs.TrimLaws.{Visible, visible-solid, trim-right}
 use Rattle.format.proofs.CellLaws.{Undivided, cells-1, undivided-append, undivided-spaces}
@@ -114,6 +114,7 @@ distinct-unplaced [] d = tt
 distinct-unplaced (m ∷ ms) d = (find-unplaced (m .name) ms ∙ rw (d .0), distinct-unplaced ms (d .1))
 
 or-none : (o : Option Label) → orElse o none ≡ o
+unfolding orElse
 or-none none = refl
 or-none (some a) = refl
 
@@ -133,6 +134,7 @@ module _ (ls ms ns : List Label) (r : Rises labelKey ls) (p : Reordered ls ms) (
       (all-map (λ m e. find-placing (m .name) ∙ ap first e) ls (distinct-find labelKey ls (rises-distinct labelKey ls r)))
 
   pub labels-back : inserted labelKey ns placing ≡ ls
+  unfolding orElse
   labels-back =
       let v = reordered-find labelKey q (rises-distinct labelKey ls r) in
       ext-find labelKey (inserted labelKey ns placing) ls (rises-inserted labelKey ns placing (rises-inserted labelKey (map unplaced ms) [] tt)) r
@@ -159,7 +161,7 @@ symbolLines (l ∷ ls) = symbolHeader ∷ map symbolLine (byAddress (l ∷ ls))
 pub symbol-lines : (ls : List Label) → symbolTable ls ≡ flatMap textLine (symbolLines ls)
 unfolding symbolTable flatMap
 symbol-lines [] = refl
-symbol-lines (l ∷ ls) = ap (λ (r : List ℕ). textLine symbolHeader ++ r) (sym (join-map textLine symbolLine (byAddress (l ∷ ls))))
+symbol-lines (l ∷ ls) = ap (λ (r : List ℕ). textLine symbolHeader ++ r) (sym (flatMap-map textLine symbolLine (byAddress (l ∷ ls))))
 
 symbol-header : sameCells (map trim (splitn 2 symbolHeader)) (ascii "ADDR" ∷ ascii "EXT" ∷ ascii "LABEL" ∷ []) ≡ true
 unfolding open-Utf8 isEmpty ascii beginsWith splitOnce splitn sameCells eqs
@@ -212,7 +214,7 @@ pub index-lines : (ls : List Label) → indexText ls ≡ flatMap textLine (index
 unfolding indexText flatMap
 index-lines [] = refl
 index-lines (l ∷ ls) =
-    ap (λ (r : List ℕ). textLine (indexHeader (nameWidth (l ∷ ls)) (indexWidth (l ∷ ls))) ++ r) (sym (join-map textLine (indexLine (nameWidth (l ∷ ls)) (indexWidth (l ∷ ls))) (byStart (l ∷ ls))))
+    ap (λ (r : List ℕ). textLine (indexHeader (nameWidth (l ∷ ls)) (indexWidth (l ∷ ls))) ++ r) (sym (flatMap-map textLine (indexLine (nameWidth (l ∷ ls)) (indexWidth (l ∷ ls))) (byStart (l ∷ ls))))
 
 pub indices-back :
     (h : ObjectFile) (ls : List Label) → Distinct labelKey (byStart ls) → All InLabel (byStart ls) → All (λ m. atKey labelKey (m .name) (h .labels) ≡ some (unplaced m)) (byStart ls)
@@ -244,7 +246,7 @@ linkerLines (q ∷ rs) = linkerHeader ∷ map linkerLine (q ∷ rs)
 pub linker-lines : (rs : List Relocation) → linkerTable rs ≡ flatMap textLine (linkerLines rs)
 unfolding linkerTable flatMap
 linker-lines [] = refl
-linker-lines (q ∷ rs) = ap (λ (r : List ℕ). textLine linkerHeader ++ r) (sym (join-map textLine linkerLine (q ∷ rs)))
+linker-lines (q ∷ rs) = ap (λ (r : List ℕ). textLine linkerHeader ++ r) (sym (flatMap-map textLine linkerLine (q ∷ rs)))
 
 linker-header : sameCells (map trim (splitn 1 linkerHeader)) (ascii "ADDR" ∷ ascii "LABEL" ∷ []) ≡ true
 unfolding open-Utf8 isEmpty ascii beginsWith splitOnce splitn sameCells eqs

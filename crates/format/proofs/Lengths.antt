@@ -2,20 +2,20 @@
 -- swapped. Assumes nothing.
 use mathlib.Core.Path.{_≡_, refl, sym, _∙_, ap}
 use mathlib.Core.Bool.{Bool, true, false, _&&_, not}
-use mathlib.Core.List.{List, [], _∷_, _++_, map}
+use mathlib.Core.List.{List, [], _∷_, _++_, map, flatMap}
 use Prim.Native.Nat.{ℕ}
 use native.Mathlib.Omega.{arith}
 use lib.ListN.{length, length-append}
-use Rattle.format.specs.Basics.{if_then_else_, isEmpty, flatMap, ascii}
+use Rattle.format.specs.Basics.{if_then_else_, isEmpty, ascii, isSome}
 use Rattle.format.specs.Digits.{digitsOf}
-use Rattle.format.specs.ObjectFile.{Label, Relocation, ObjectFile, isSome}
+use Rattle.format.specs.ObjectFile.{Label, Relocation, ObjectFile}
 use Rattle.format.specs.Records.{Record, block, label, lineBlock, relocation, recordsOf, sourceRecords}
 use Rattle.format.specs.Words.{recordWords, wordsOf}
 use Rattle.format.specs.Binary.{header, recordBytes, binaryFile}
 use Rattle.format.specs.TextWriter.{hex4, textLine, tableDiv, blockLines, linkerTable, blocksOnly, symbolGroups, textFile}
 use Rattle.format.specs.Calls.{Reordered, inOrder}
 use Rattle.format.specs.Trips.{swapRelocations, swapRelocation}
-use Rattle.format.proofs.ListLaws.{join-length, join-map, join-reordered, reordered-map}
+use Rattle.format.proofs.ListLaws.{flatMap-length, flatMap-map, flatMap-reordered, reordered-map}
 use Rattle.format.proofs.Ranges.{WellFormed, InRange}
 use Rattle.format.proofs.SwapLaws.{anew, empty-same, swapped-length}
 
@@ -28,13 +28,13 @@ records-length f h ls rs a b =
     let ms : List Record = map lineBlock (h .lineBlocks) in
     let ss : List Record = sourceRecords (h .source) in
     omega
-    (arith, join-length f (bs ++ map label ls ++ ms ++ ss) (map relocation rs), join-length f (bs ++ map label ls ++ ms) ss, join-length f (bs ++ map label ls) ms, join-length f bs (map label ls), join-length f (bs ++ map label (h .labels) ++ ms ++ ss) (map relocation (h .relocations)), join-length f (bs ++ map label (h .labels) ++ ms) ss, join-length f (bs ++ map label (h .labels)) ms, join-length f bs (map label (h .labels)))
+    (arith, flatMap-length f (bs ++ map label ls ++ ms ++ ss) (map relocation rs), flatMap-length f (bs ++ map label ls ++ ms) ss, flatMap-length f (bs ++ map label ls) ms, flatMap-length f bs (map label ls), flatMap-length f (bs ++ map label (h .labels) ++ ms ++ ss) (map relocation (h .relocations)), flatMap-length f (bs ++ map label (h .labels) ++ ms) ss, flatMap-length f (bs ++ map label (h .labels)) ms, flatMap-length f bs (map label (h .labels)))
 
 pub binary-order :
     (h : ObjectFile) (ls : List Label) (rs : List Relocation) → Reordered (h .labels) ls → Reordered (h .relocations) rs → length (binaryFile (inOrder h ls rs)) ≡ length (binaryFile h)
 unfolding binaryFile
 binary-order h ls rs p q =
-    let e = records-length recordBytes h ls rs (sym (join-reordered recordBytes (reordered-map label p))) (sym (join-reordered recordBytes (reordered-map relocation q))) in
+    let e = records-length recordBytes h ls rs (sym (flatMap-reordered recordBytes (reordered-map label p))) (sym (flatMap-reordered recordBytes (reordered-map relocation q))) in
     omega (arith, length-append header (flatMap recordBytes (recordsOf (inOrder h ls rs))), length-append header (flatMap recordBytes (recordsOf h)))
 
 module _ (h : ObjectFile) (w : WellFormed h) (r : InRange h) where
@@ -44,7 +44,7 @@ module _ (h : ObjectFile) (w : WellFormed h) (r : InRange h) where
   unfolding swapRelocations
   swapped-records f same =
       records-length f h (h .labels) (anew h) refl
-      (ap length (join-map f relocation (anew h)) ∙ swapped-length h w r (λ q. f (relocation q)) same ∙ ap length (sym (join-map f relocation (h .relocations))))
+      (ap length (flatMap-map f relocation (anew h)) ∙ swapped-length h w r (λ q. f (relocation q)) same ∙ ap length (sym (flatMap-map f relocation (h .relocations))))
 
   pub swapped-words : length (wordsOf (swapRelocations h)) ≡ length (wordsOf h)
   unfolding wordsOf recordWords

@@ -6,7 +6,6 @@ pub mod TextLaws
 pub mod BinaryBack
 pub mod GatherLaws
 pub mod BinaryTrip
-pub mod Numbers
 pub mod ListLaws
 pub mod RisesLaws
 pub mod Ranges

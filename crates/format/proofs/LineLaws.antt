@@ -1,11 +1,11 @@
 -- The lines of a file are those that were written, and of these the kept ones are kept. Assumes nothing.
 use mathlib.Core.Path.{_≡_, refl, sym, _∙_, ap}
 use mathlib.Core.Bool.{Bool, true, false, not, _&&_}
-use mathlib.Core.List.{List, [], _∷_, _++_, append-assoc}
+use mathlib.Core.List.{List, [], _∷_, _++_, append-assoc, flatMap}
 use Prim.Native.Nat.{ℕ}
 use native.Mathlib.Omega.{arith}
 use borrow.Author.Tests.{ne-eqb}
-use Rattle.format.specs.Basics.{flatMap, keep, ascii, beginsWith, All}
+use Rattle.format.specs.Basics.{keep, ascii, beginsWith, All}
 use Rattle.format.specs.Utf8.{isBlank, trimFrom, trimStart, trimEnd, trim}
 use Rattle.format.specs.TextWriter.{textLine}
 use Rattle.format.specs.TextReader.{lines, onFirst, keptLines}
@@ -26,12 +26,12 @@ pub printable-line : (t : List ℕ) → All Printable t → OneLine t
 printable-line [] h = tt
 printable-line (b ∷ bs) h = (λ e. omega (arith, h .0 .0), λ e. omega (arith, h .0 .0), printable-line bs (h .1))
 
-pub lines-join : (ls : List (List ℕ)) (rest : List ℕ) → All OneLine ls → lines (flatMap textLine ls ++ rest) ≡ ls ++ lines rest
+pub lines-flatMap : (ls : List (List ℕ)) (rest : List ℕ) → All OneLine ls → lines (flatMap textLine ls ++ rest) ≡ ls ++ lines rest
 unfolding flatMap
-lines-join [] rest h = refl
-lines-join (l ∷ ls) rest h =
+lines-flatMap [] rest h = refl
+lines-flatMap (l ∷ ls) rest h =
     ap lines (append-assoc (textLine l) (flatMap textLine ls) rest ∙ append-assoc l (0x0A ∷ []) (flatMap textLine ls ++ rest)) ∙ lines-line l (flatMap textLine ls ++ rest) (h .0)
-    ∙ ap (λ (r : List (List ℕ)). l ∷ r) (lines-join ls rest (h .1))
+    ∙ ap (λ (r : List (List ℕ)). l ∷ r) (lines-flatMap ls rest (h .1))
 
 -- the last line, which goes without its newline
 pub lines-last : (t : List ℕ) → OneLine t → Full t → lines t ≡ t ∷ []
@@ -56,7 +56,7 @@ kept-file a l ls xs b k va vb h o =
     ap trimEnd (sym (append-assoc pre xs (b ∷ newlinesOf k))) ∙ end-visible (pre ++ xs) b k vb ∙ append-assoc pre xs (b ∷ []) in
     ap (λ (r : List ℕ). keep isKept (lines (trimEnd r))) e1 ∙ ap (λ (r : List ℕ). keep isKept (lines r)) e2
     ∙ ap (λ (r : List (List ℕ)). keep isKept r)
-    (lines-join ((a ∷ l) ∷ ls) (xs ++ b ∷ []) h ∙ ap (λ (r : List (List ℕ)). (a ∷ l) ∷ ls ++ r) (lines-last (xs ++ b ∷ []) o (full-last xs b)))
+    (lines-flatMap ((a ∷ l) ∷ ls) (xs ++ b ∷ []) h ∙ ap (λ (r : List (List ℕ)). (a ∷ l) ∷ ls ++ r) (lines-last (xs ++ b ∷ []) o (full-last xs b)))
 
 -- a row: its first byte begins neither a comment nor a group, and it has a visible byte
 pub row-kept : (l : List ℕ) → beginsWith (ascii "#") l ≡ false → isBlank l ≡ false → isKept l ≡ true

@@ -1,14 +1,14 @@
 -- Laws of the small functions on lists. Assumes nothing.
-use mathlib.Core.Path.{_≡_, refl, sym, _∙_, ap}
+use mathlib.Core.Path.{_≡_, refl, _∙_, ap}
 use mathlib.Core.Bool.{Bool, true, false, _&&_}
-use mathlib.Core.List.{List, [], _∷_, _++_, map, append-assoc}
+use mathlib.Core.List.{List, [], _∷_, _++_, map, flatMap}
 use mathlib.Core.Option.{Option, some}
 use Prim.Native.Nat.{ℕ}
 use native.Mathlib.Omega.{arith}
 use borrow.Author.Tests.{eq-eqb}
-use Rattle.format.specs.Basics.{if_then_else_, flatMap, keep, allSome, eqs, All}
+use Rattle.format.specs.Basics.{if_then_else_, keep, allSome, eqs, All}
 use Rattle.format.specs.Tokens.{partsAt}
-use Rattle.format.proofs.ListLaws.{all-append, join-append}
+use Rattle.format.proofs.ListLaws.{all-append, flatMap-append}
 
 pub and-left : (a b : Bool) → a && b ≡ true → a ≡ true
 and-left true b h = refl
@@ -57,20 +57,20 @@ module _ {A : Type 0} where
   parts-head isHead x xs h = rw h
 
 module _ {A B : Type 0} where
-  pub all-join : (P : B → Type 0) (f : A → List B) (xs : List A) → All (λ x. All P (f x)) xs → All P (flatMap f xs)
+  pub all-flatMap : (P : B → Type 0) (f : A → List B) (xs : List A) → All (λ x. All P (f x)) xs → All P (flatMap f xs)
   unfolding flatMap
-  all-join P f [] h = tt
-  all-join P f (x ∷ xs) h = all-append P (f x) (flatMap f xs) (h .0) (all-join P f xs (h .1))
+  all-flatMap P f [] h = tt
+  all-flatMap P f (x ∷ xs) h = all-append P (f x) (flatMap f xs) (h .0) (all-flatMap P f xs (h .1))
 
-  pub join-ext : (f g : A → List B) → ((x : A) → f x ≡ g x) → (xs : List A) → flatMap f xs ≡ flatMap g xs
+  pub flatMap-ext : (f g : A → List B) → ((x : A) → f x ≡ g x) → (xs : List A) → flatMap f xs ≡ flatMap g xs
   unfolding flatMap
-  join-ext f g h [] = refl
-  join-ext f g h (x ∷ xs) = rw (h x, join-ext f g h xs)
+  flatMap-ext f g h [] = refl
+  flatMap-ext f g h (x ∷ xs) = rw (h x, flatMap-ext f g h xs)
 
-  pub join-cong : (f g : A → List B) (xs : List A) → All (λ x. f x ≡ g x) xs → flatMap f xs ≡ flatMap g xs
+  pub flatMap-cong : (f g : A → List B) (xs : List A) → All (λ x. f x ≡ g x) xs → flatMap f xs ≡ flatMap g xs
   unfolding flatMap
-  join-cong f g [] h = refl
-  join-cong f g (x ∷ xs) h = rw (h .0, join-cong f g xs (h .1))
+  flatMap-cong f g [] h = refl
+  flatMap-cong f g (x ∷ xs) h = rw (h .0, flatMap-cong f g xs (h .1))
 
   pub all-some : (f : A → Option B) (g : B → A) (ys : List B) → All (λ y. f (g y) ≡ some y) ys → allSome f (map g ys) ≡ some ys
   unfolding allSome
@@ -82,10 +82,10 @@ module _ {A B : Type 0} where
   map-cong f g (x ∷ xs) h = rw (h .0, map-cong f g xs (h .1))
 
 module _ {A B C : Type 0} where
-  pub join-join : (f : B → List C) (g : A → List B) (xs : List A) → flatMap f (flatMap g xs) ≡ flatMap (λ x. flatMap f (g x)) xs
+  pub flatMap-flatMap : (f : B → List C) (g : A → List B) (xs : List A) → flatMap f (flatMap g xs) ≡ flatMap (λ x. flatMap f (g x)) xs
   unfolding flatMap
-  join-join f g [] = refl
-  join-join f g (x ∷ xs) = join-append f (g x) (flatMap g xs) ∙ ap (λ (r : List C). flatMap f (g x) ++ r) (join-join f g xs)
+  flatMap-flatMap f g [] = refl
+  flatMap-flatMap f g (x ∷ xs) = flatMap-append f (g x) (flatMap g xs) ∙ ap (λ (r : List C). flatMap f (g x) ++ r) (flatMap-flatMap f g xs)
 
 pub eqs-self : (xs : List ℕ) → eqs xs xs ≡ true
 unfolding eqs

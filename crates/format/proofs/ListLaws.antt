@@ -2,12 +2,12 @@
 -- Assumes nothing.
 use mathlib.Core.Path.{_≡_, refl, sym, _∙_, ap}
 use mathlib.Core.Bool.{Bool, true, false, _&&_}
-use mathlib.Core.List.{List, [], _∷_, _++_, map, append-assoc}
-use mathlib.Core.Option.{Option, none, some}
+use mathlib.Core.List.{List, [], _∷_, _++_, map, append-assoc, flatMap}
+use mathlib.Core.Option.{Option, none, some, orElse}
 use Prim.Native.Nat.{ℕ, _+_, _<_}
 use native.Mathlib.Omega.{arith}
 use lib.ListN.{length, length-append}
-use Rattle.format.specs.Basics.{orElse, isEmpty, every, flatMap, All}
+use Rattle.format.specs.Basics.{isEmpty, every, All}
 use Rattle.format.specs.Calls.{Reordered, none-left, same-first, swap, chained}
 
 pub both : (a b : Bool) → (a && b) ≡ true → (a ≡ true) × (b ≡ true)
@@ -19,6 +19,7 @@ by-test true yes-case no-case = yes-case refl
 by-test false yes-case no-case = no-case refl
 
 pub or-none : {A : Type 0} (o : Option A) → orElse o none ≡ o
+unfolding orElse
 or-none none = refl
 or-none (some a) = refl
 
@@ -72,18 +73,18 @@ pub map-append : {A B : Type 0} (f : A → B) (xs ys : List A) → map f (xs ++ 
 map-append f [] ys = refl
 map-append f (x ∷ xs) ys = ap (λ (r : List _). f x ∷ r) (map-append f xs ys)
 
-pub join-append : {A B : Type 0} (f : A → List B) (xs ys : List A) → flatMap f (xs ++ ys) ≡ flatMap f xs ++ flatMap f ys
+pub flatMap-append : {A B : Type 0} (f : A → List B) (xs ys : List A) → flatMap f (xs ++ ys) ≡ flatMap f xs ++ flatMap f ys
 unfolding flatMap
-join-append f [] ys = refl
-join-append f (x ∷ xs) ys = ap (λ (r : List _). f x ++ r) (join-append f xs ys) ∙ sym (append-assoc (f x) (flatMap f xs) (flatMap f ys))
+flatMap-append f [] ys = refl
+flatMap-append f (x ∷ xs) ys = ap (λ (r : List _). f x ++ r) (flatMap-append f xs ys) ∙ sym (append-assoc (f x) (flatMap f xs) (flatMap f ys))
 
-pub join-map : {A B C : Type 0} (f : B → List C) (g : A → B) (xs : List A) → flatMap f (map g xs) ≡ flatMap (λ a. f (g a)) xs
+pub flatMap-map : {A B C : Type 0} (f : B → List C) (g : A → B) (xs : List A) → flatMap f (map g xs) ≡ flatMap (λ a. f (g a)) xs
 unfolding flatMap
-join-map f g [] = refl
-join-map f g (x ∷ xs) = ap (λ (r : List _). f (g x) ++ r) (join-map f g xs)
+flatMap-map f g [] = refl
+flatMap-map f g (x ∷ xs) = ap (λ (r : List _). f (g x) ++ r) (flatMap-map f g xs)
 
-pub join-length : {A B : Type 0} (f : A → List B) (xs ys : List A) → length (flatMap f (xs ++ ys)) ≡ length (flatMap f xs) + length (flatMap f ys)
-join-length f xs ys = ap length (join-append f xs ys) ∙ length-append (flatMap f xs) (flatMap f ys)
+pub flatMap-length : {A B : Type 0} (f : A → List B) (xs ys : List A) → length (flatMap f (xs ++ ys)) ≡ length (flatMap f xs) + length (flatMap f ys)
+flatMap-length f xs ys = ap length (flatMap-append f xs ys) ∙ length-append (flatMap f xs) (flatMap f ys)
 
 -- a part of what is joined is no longer than the whole
 pub part-fits : {A B : Type 0} (f : A → List B) (n : ℕ) (xs : List A) → length (flatMap f xs) < n → All (λ a. length (f a) < n) xs
@@ -139,13 +140,13 @@ module _ {A : Type 0} where
       go false false = refl
   every-reordered p (chained r s) = every-reordered p r ∙ every-reordered p s
 
-  pub join-reordered : {B : Type 0} (f : A → List B) {xs ys : List A} → Reordered xs ys → length (flatMap f xs) ≡ length (flatMap f ys)
+  pub flatMap-reordered : {B : Type 0} (f : A → List B) {xs ys : List A} → Reordered xs ys → length (flatMap f xs) ≡ length (flatMap f ys)
   unfolding flatMap
-  join-reordered f none-left = refl
-  join-reordered f (same-first {a = a} {xs = xs} {ys = ys} r) =
-      let ih = join-reordered f r in
+  flatMap-reordered f none-left = refl
+  flatMap-reordered f (same-first {a = a} {xs = xs} {ys = ys} r) =
+      let ih = flatMap-reordered f r in
       omega (arith, length-append (f a) (flatMap f xs), length-append (f a) (flatMap f ys))
-  join-reordered f (swap {a = a} {b = b} {xs = xs}) =
+  flatMap-reordered f (swap {a = a} {b = b} {xs = xs}) =
       omega
       (arith, length-append (f a) (f b ++ flatMap f xs), length-append (f b) (flatMap f xs), length-append (f b) (f a ++ flatMap f xs), length-append (f a) (flatMap f xs))
-  join-reordered f (chained r s) = join-reordered f r ∙ join-reordered f s
+  flatMap-reordered f (chained r s) = flatMap-reordered f r ∙ flatMap-reordered f s

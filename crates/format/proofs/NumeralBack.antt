@@ -11,7 +11,7 @@ use borrow.Author.Tests.{ltb-true, ltb-false, lt-ltb, le-leb, lt-leb, ne-eqb}
 use Rattle.format.specs.Basics.{if_then_else_, isEmpty, ascii, eqs, All}
 use Rattle.format.specs.Digits.{digitsOf}
 use Rattle.format.specs.TextWriter.{lowerDigit, upperDigit, numeral, hex4, decimal, memoryText}
-use Rattle.format.specs.TextReader.{digitValue, digitsFrom, withoutPlus, parseNumber, hex2u16, parseDecimal, maybeHex2u16, belowLimit}
+use Rattle.format.specs.TextReader.{digitValue, digitsFrom, withoutPlus, parseNumber, hex2u16, parseDecimal, maybeHex2u16}
 use Rattle.format.proofs.NumeralLaws.{numeral-back}
 
 -- the bytes of numerals, and ?

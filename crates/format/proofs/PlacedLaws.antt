@@ -2,9 +2,8 @@
 -- The other way round, records in order are those of the object that they are placed in: RecordLaws.
 use mathlib.Core.Path.{_≡_, refl, ap}
 use mathlib.Core.List.{List, [], _∷_, _++_, map, append-nil}
-use mathlib.Core.Option.{Option, none, some}
+use mathlib.Core.Option.{Option, none, some, orElse}
 use Prim.Native.Nat.{ℕ}
-use Rattle.format.specs.Basics.{orElse}
 use Rattle.format.specs.ObjectFile.{Block, Label, LineBlock, Relocation, ObjectFile}
 use Rattle.format.specs.Records.{Record, block, label, lineBlock, source, relocation, recordsOf, sourceRecords, emptyObject, placed, withBlocks, withLabels, withLines, withRelocations}
 use Rattle.format.proofs.ListLaws.{or-none}
@@ -20,7 +19,7 @@ merged g h = record {
 }
 
 placed-append : (xs ys : List Record) → placed (xs ++ ys) ≡ merged (placed xs) (placed ys)
-unfolding placed emptyObject
+unfolding placed emptyObject orElse
 placed-append [] ys = refl
 placed-append (block b ∷ xs) ys = ap (λ (h : ObjectFile). withBlocks h (b ∷ h .blocks)) (placed-append xs ys)
 placed-append (label l ∷ xs) ys = ap (λ (h : ObjectFile). withLabels h (l ∷ h .labels)) (placed-append xs ys)
@@ -54,7 +53,7 @@ placed-relocations [] = refl
 placed-relocations (x ∷ xs) = ap (λ (h : ObjectFile). withRelocations h (x ∷ h .relocations)) (placed-relocations xs)
 
 pub placed-back : (h : ObjectFile) → placed (recordsOf h) ≡ h
-unfolding recordsOf emptyObject
+unfolding recordsOf emptyObject orElse
 placed-back h =
     rw
     (placed-append, placed-append, placed-append, placed-append, placed-blocks, placed-labels, placed-lines, placed-source, placed-relocations)

@@ -15,7 +15,7 @@ use Rattle.format.specs.ObjectFile.{Label, Relocation, ObjectFile, fairN
 use Rattle.format.specs.Records.{label, relocation, putRecord, labelNamed}
 use Rattle.format.specs.Words.{flagBit}
 use Rattle.format.specs.TextWriter.{spaces, toRight, toLeft, tableDiv, memoryText, hex4, decimal, Row}
-use Rattle.format.specs.TextReader.{hex2u16, parseDecimal, maybeHex2u16, splitn, cellAt, parseSymbolRow, parseLinkerRow, parseLabelRow, parseLineRows}
+use Rattle.format.specs.TextReader.{hex2u16, parseDecimal, maybeHex2u16, splitn, parseSymbolRow, parseLinkerRow, parseLabelRow, parseLineRows}
 use Rattle.format.proofs.TextLaws.{OneLine}
 use Rattle.format.proofs.ListFacts.{and-left, and-right}
 use Rattle.format.proofs.ListLaws.{all-map}

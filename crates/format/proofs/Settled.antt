@@ -1,15 +1,15 @@
 -- Number and length of a binary write are settled whatever the record orders. Assumes nothing.
-use mathlib.Core.Path.{_≡_, refl, sym, _∙_, ap}
+use mathlib.Core.Path.{_≡_, refl}
 use mathlib.Core.Bool.{Bool, true, false}
-use mathlib.Core.List.{List, [], _∷_, _++_}
+use mathlib.Core.List.{List}
 use Prim.Native.Nat.{ℕ}
-use lib.ListN.{length, drop}
+use lib.ListN.{length}
 use lib.Dec.{leb}
-use Rattle.format.specs.Basics.{Outcome, refused, given, _>>=_, ask, if_then_else_}
-use Rattle.format.specs.ObjectFile.{ObjectFile, Label, Relocation}
+use Rattle.format.specs.Basics.{Outcome, refused, given, _>>=_, ask}
+use Rattle.format.specs.ObjectFile.{ObjectFile}
 use Rattle.format.specs.Words.{objectOf}
 use Rattle.format.specs.Binary.{binaryFile, countsFit}
-use Rattle.format.specs.Calls.{Filled, fill, inOrder, writeBinary, OrdersOf, WritesBinary}
+use Rattle.format.specs.Calls.{Filled, fill, inOrder, writeBinary, WritesBinary}
 use Rattle.format.proofs.Lengths.{binary-order}
 
 abbrev Same : Filled → Filled → Type 0

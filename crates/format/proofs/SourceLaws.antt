@@ -1,7 +1,7 @@
 -- The source cells of the line table, one after the other, unescape to the source. Assumes nothing.
 use mathlib.Core.Path.{_≡_, refl, sym, _∙_, ap, subst}
 use mathlib.Core.Bool.{Bool, true, false}
-use mathlib.Core.List.{List, [], _∷_, _++_, map, append-assoc, append-nil}
+use mathlib.Core.List.{List, [], _∷_, _++_, map, append-assoc, append-nil, flatMap}
 use mathlib.Core.Option.{Option}
 use Prim.Native.Nat.{ℕ, zero, suc, _+_, _-_, _/_, _%_, _≤_, _<_, min}
 use native.Mathlib.Omega.{arith}
@@ -9,16 +9,16 @@ use lib.ListN.{length, take, drop, getD, length-append}
 use lib.Seq.{take-append-seam, drop-at, getD-at}
 use lib.Dec.{ltb, eqb}
 use borrow.Author.Tests.{ltb-true, ltb-false, lt-ltb, le-ltb, eqb-true, eqb-false, ne-eqb}
-use Rattle.format.specs.Basics.{given, if_then_else_, flatMap, All}
+use Rattle.format.specs.Basics.{given, if_then_else_, All}
 use Rattle.format.specs.Utf8.{encodeScalar}
 use Rattle.format.specs.ObjectFile.{newlines}
 use Rattle.format.specs.Source.{lineCount, nlIndicesFrom, nlIndices, lineStart, rawLineSpan, spanBytes}
 use Rattle.format.specs.TextWriter.{escape, escapeChar, sourceCell, Row}
 use Rattle.format.specs.TextReader.{onFirst, unescape}
-use Rattle.format.proofs.ListLaws.{by-test, all-images, all-map, join-map}
-use Rattle.format.proofs.ListFacts.{join-join, join-cong}
+use Rattle.format.proofs.ListLaws.{by-test, all-images, all-map, flatMap-map}
+use Rattle.format.proofs.ListFacts.{flatMap-flatMap, flatMap-cong}
 use Rattle.format.proofs.Utf8Laws.{Scalar, Text}
-use Rattle.format.proofs.EscapeLaws.{Printable, unescape-join, escape-of, printable-escape}
+use Rattle.format.proofs.EscapeLaws.{Printable, unescape-flatMap, escape-of, printable-escape}
 use Rattle.format.proofs.RunLaws.{rowsFrom}
 
 -- the lines of a source, each with its newline
@@ -143,24 +143,24 @@ unfolding sourceCell rawLineSpan
 cell-beyond s i h = rw (le-ltb i (lineCount s) h)
 
 -- the column of cells
-rows-join :
+rows-flatMap :
     (f : ℕ → List ℕ) (g : List ℕ → List ℕ) (whole pre rest : List (List ℕ)) (os : List (Option ℕ)) (i : ℕ) → whole ≡ pre ++ rest → i ≡ length pre → length os ≡ length rest
     → ((k : ℕ) → k < length whole → f k ≡ g (getD whole k [])) → flatMap (λ (r : Row). f (r .number)) (rowsFrom i os) ≡ flatMap g rest
 unfolding rowsFrom flatMap
-rows-join f g whole pre [] [] i e a l h = refl
-rows-join f g whole pre [] (o ∷ os) i e a l h = absurd (omega arith)
-rows-join f g whole pre (x ∷ rest) [] i e a l h = absurd (omega arith)
-rows-join f g whole pre (x ∷ rest) (o ∷ os) i e a l h =
+rows-flatMap f g whole pre [] [] i e a l h = refl
+rows-flatMap f g whole pre [] (o ∷ os) i e a l h = absurd (omega arith)
+rows-flatMap f g whole pre (x ∷ rest) [] i e a l h = absurd (omega arith)
+rows-flatMap f g whole pre (x ∷ rest) (o ∷ os) i e a l h =
     let l1 : length whole ≡ length (pre ++ x ∷ rest) = ap length e in
     let l2 = length-append pre (x ∷ rest) in
     let l3 = length-append pre (x ∷ []) in
     let here : f i ≡ g x = h i (omega arith) ∙ ap g (ap (λ (r : List (List ℕ)). getD r i []) e ∙ getD-at pre x rest [] i (sym a)) in
-    rw (here, rows-join f g whole (pre ++ x ∷ []) rest os (suc i) (e ∙ sym (append-assoc pre (x ∷ []) rest)) (omega arith) (omega arith) h)
+    rw (here, rows-flatMap f g whole (pre ++ x ∷ []) rest os (suc i) (e ∙ sym (append-assoc pre (x ∷ []) rest)) (omega arith) (omega arith) h)
 
-pub cells-join : (s : List ℕ) (os : List (Option ℕ)) → length os ≡ lineCount s → flatMap (λ (r : Row). sourceCell s (r .number)) (rowsFrom 0 os) ≡ flatMap escape (pieces s)
-cells-join s os l =
+pub cells-flatMap : (s : List ℕ) (os : List (Option ℕ)) → length os ≡ lineCount s → flatMap (λ (r : Row). sourceCell s (r .number)) (rowsFrom 0 os) ≡ flatMap escape (pieces s)
+cells-flatMap s os l =
     let p = pieces-length s in
-    rows-join (sourceCell s) escape (pieces s) [] (pieces s) os 0 refl refl (l ∙ sym p) (λ k h. source-cell s k (omega arith))
+    rows-flatMap (sourceCell s) escape (pieces s) [] (pieces s) os 0 refl refl (l ∙ sym p) (λ k h. source-cell s k (omega arith))
 
 -- lines of scalar values
 pieces-plain : (xs t : List ℕ) → All (λ b. b ≡ 10 → ⊥) xs → pieces (xs ++ t) ≡ prepend xs (pieces t)
@@ -196,15 +196,15 @@ pieces-encode (c ∷ cs) =
     (λ e. rw (e, newline-encode c (flatMap encodeScalar cs) (eqb-true c 10 e), newline-encode c [] (eqb-true c 10 e), ih))
     (λ e. rw e (pieces-plain (encodeScalar c) (flatMap encodeScalar cs) (encode-not-newline c (eqb-false c 10 e)) ∙ ap (prepend (encodeScalar c)) ih ∙ sym (first-encode c (pieces cs))))
 
-first-join : (b : ℕ) (ps : List (List ℕ)) → flatMap (λ (x : List ℕ). x) (onFirst b ps) ≡ b ∷ flatMap (λ (x : List ℕ). x) ps
+first-flatMap : (b : ℕ) (ps : List (List ℕ)) → flatMap (λ (x : List ℕ). x) (onFirst b ps) ≡ b ∷ flatMap (λ (x : List ℕ). x) ps
 unfolding onFirst flatMap
-first-join b [] = refl
-first-join b (p ∷ ps) = refl
+first-flatMap b [] = refl
+first-flatMap b (p ∷ ps) = refl
 
-pieces-join : (cs : List ℕ) → flatMap (λ (x : List ℕ). x) (pieces cs) ≡ cs
+pieces-flatMap : (cs : List ℕ) → flatMap (λ (x : List ℕ). x) (pieces cs) ≡ cs
 unfolding pieces flatMap
-pieces-join [] = refl
-pieces-join (c ∷ cs) = let ih = pieces-join cs in by-test (eqb c 10) (λ e. rw (e, ih)) (λ e. rw e (first-join c (pieces cs) ∙ ap (λ (r : List ℕ). c ∷ r) ih))
+pieces-flatMap [] = refl
+pieces-flatMap (c ∷ cs) = let ih = pieces-flatMap cs in by-test (eqb c 10) (λ e. rw (e, ih)) (λ e. rw e (first-flatMap c (pieces cs) ∙ ap (λ (r : List ℕ). c ∷ r) ih))
 
 pieces-all : (P : ℕ → Type 0) (cs : List ℕ) → All P cs → All (All P) (pieces cs)
 unfolding pieces
@@ -218,13 +218,13 @@ pieces-all P (c ∷ cs) h = go (eqb c 10) (pieces cs) (pieces-all P cs (h .1))
 
 escape-pieces : (cs : List ℕ) → All Scalar cs → flatMap escape (pieces (flatMap encodeScalar cs)) ≡ flatMap escapeChar cs
 escape-pieces cs h =
-    ap (flatMap escape) (pieces-encode cs) ∙ join-map escape (flatMap encodeScalar) (pieces cs)
-    ∙ join-cong (λ x. escape (flatMap encodeScalar x)) (λ x. flatMap escapeChar x) (pieces cs) (all-map escape-of (pieces cs) (pieces-all Scalar cs h))
-    ∙ sym (join-join escapeChar (λ (x : List ℕ). x) (pieces cs)) ∙ ap (flatMap escapeChar) (pieces-join cs)
+    ap (flatMap escape) (pieces-encode cs) ∙ flatMap-map escape (flatMap encodeScalar) (pieces cs)
+    ∙ flatMap-cong (λ x. escape (flatMap encodeScalar x)) (λ x. flatMap escapeChar x) (pieces cs) (all-map escape-of (pieces cs) (pieces-all Scalar cs h))
+    ∙ sym (flatMap-flatMap escapeChar (λ (x : List ℕ). x) (pieces cs)) ∙ ap (flatMap escapeChar) (pieces-flatMap cs)
 
 pub source-unescapes : (s : List ℕ) → Text s → unescape (flatMap escape (pieces s)) ≡ given s
 source-unescapes s x =
-    ap (λ (r : List ℕ). unescape (flatMap escape (pieces r))) (sym (x .2)) ∙ ap unescape (escape-pieces (x .0) (x .1)) ∙ unescape-join (x .0) (x .1) ∙ ap (λ (r : List ℕ). given r) (x .2)
+    ap (λ (r : List ℕ). unescape (flatMap escape (pieces r))) (sym (x .2)) ∙ ap unescape (escape-pieces (x .0) (x .1)) ∙ unescape-flatMap (x .0) (x .1) ∙ ap (λ (r : List ℕ). given r) (x .2)
 
 pieces-text : (s : List ℕ) → Text s → All Text (pieces s)
 pieces-text s x =

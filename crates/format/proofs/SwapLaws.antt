@@ -1,14 +1,14 @@
 -- Relocation addresses byte-swapped and sorted anew: what it keeps of an object, and that twice it is the object. Assumes nothing.
 use mathlib.Core.Path.{_≡_, refl, sym, _∙_, ap, subst}
 use mathlib.Core.Bool.{Bool, false, _&&_}
-use mathlib.Core.List.{List, [], _∷_, map}
+use mathlib.Core.List.{List, [], _∷_, map, flatMap}
 use mathlib.Core.Option.{Option, none, some}
 use Prim.Native.Nat.{ℕ, _<_, compare, Ordering, Ordering·lt, Ordering·eq, Ordering·gt}
 use native.Mathlib.Omega.{arith}
 use native.Mathlib.Decide.{ℕ-discrete}
 use lib.Dec.{isEq}
 use lib.ListN.{length, length-append}
-use Rattle.format.specs.Basics.{if_then_else_, isEmpty, every, flatMap, All}
+use Rattle.format.specs.Basics.{if_then_else_, isEmpty, every, All}
 use Rattle.format.specs.Sorted.{order, thenBy, atKey, sorted}
 use Rattle.format.proofs.SortedLaws.{eq-of-compare, order-self, Rises}
 use Rattle.format.proofs.GatherLaws.{inserted, Distinct, rises-distinct, inserted-back}
@@ -17,7 +17,7 @@ use Rattle.format.specs.Records.{withRelocations}
 use Rattle.format.specs.Utf8.{isUtf8}
 use Rattle.format.specs.Calls.{Reordered, chained}
 use Rattle.format.specs.Trips.{swapRelocations, swapRelocation, byteSwapped}
-use Rattle.format.proofs.ListLaws.{all-map, all-reordered, every-append, every-reordered, empty-reordered, join-reordered, reordered-map, reordered-back}
+use Rattle.format.proofs.ListLaws.{all-map, all-reordered, every-append, every-reordered, empty-reordered, flatMap-reordered, reordered-map, reordered-back}
 use Rattle.format.proofs.RisesLaws.{rises-sorted, reordered-sorted, sorted-back}
 use Rattle.format.proofs.Ranges.{WellFormed, InRange, InRelocation}
 
@@ -163,4 +163,4 @@ module _ (h : ObjectFile) (w : WellFormed h) (r : InRange h) where
   -- any form that gives a relocation as many elements when its address is swapped
   pub swapped-length :
       {B : Type 0} (f : Relocation → List B) → ((q : Relocation) → length (f (swapRelocation q)) ≡ length (f q)) → length (flatMap f (anew h)) ≡ length (flatMap f (h .relocations))
-  swapped-length f same = sym (join-reordered f swapped-order) ∙ swap-lengths f same (h .relocations)
+  swapped-length f same = sym (flatMap-reordered f swapped-order) ∙ swap-lengths f same (h .relocations)

@@ -1,17 +1,17 @@
 -- The lines of the tables are ordinary, and those of the label tables no bars. Assumes nothing.
 use mathlib.Core.Path.{_≡_, refl}
 use mathlib.Core.Bool.{false}
-use mathlib.Core.List.{List, [], _∷_}
+use mathlib.Core.List.{List, [], _∷_, flatMap}
 use Prim.Native.Nat.{ℕ}
 use native.Mathlib.Omega.{arith}
 use lib.ListN.{length}
-use Rattle.format.specs.Basics.{ascii, beginsWith, isEmpty, every, flatMap, All}
+use Rattle.format.specs.Basics.{ascii, beginsWith, isEmpty, every, All}
 use Rattle.format.specs.Utf8.{open-Utf8}
 use Rattle.format.specs.ObjectFile.{Block, Label, Relocation}
 use Rattle.format.specs.TextWriter.{toLeft, decimal, hex4, memoryText}
 use Rattle.format.specs.TextReader.{isBar}
 use Rattle.format.proofs.ListLaws.{all-map, all-images}
-use Rattle.format.proofs.ListFacts.{all-of, all-join}
+use Rattle.format.proofs.ListFacts.{all-of, all-flatMap}
 use Rattle.format.proofs.NumeralBack.{Numeric, Full, hex-numeric, decimal-numeric, entry-numeric}
 use Rattle.format.proofs.LineLaws.{printable-line}
 use Rattle.format.proofs.RowLaws.{Ordinary, Starts, row-ordinary, printable-text, symbolLine, symbol-ordinary, linkerLine, linker-ordinary, indexLine, index-ordinary, index-no-bar, entry-full, hex-full}
@@ -75,7 +75,7 @@ numeric-ends (b ∷ c ∷ bs) h f =
     (b ∷ r .0, r .1, mathlib.Core.Path.ap (λ (x : List ℕ). b ∷ x) (r .2), r .3)
 
 pub blocks-end : (bs : List Block) → All InBlock bs → All EndsVisible (flatMap blockRows bs)
-blocks-end bs h = all-join EndsVisible blockRows bs (all-map one bs h)
+blocks-end bs h = all-flatMap EndsVisible blockRows bs (all-map one bs h)
   where
     one : (b : Block) → InBlock b → All EndsVisible (blockRows b)
     one b i =

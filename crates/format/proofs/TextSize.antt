@@ -1,14 +1,14 @@
 -- A text file has a row for each line of the source, so it is longer than the last line's number. Assumes nothing.
 use mathlib.Core.Path.{_≡_, refl, ap}
 use mathlib.Core.Bool.{false, _&&_, not, and-false}
-use mathlib.Core.List.{List, [], _∷_, _++_}
+use mathlib.Core.List.{List, [], _∷_, _++_, flatMap}
 use mathlib.Core.Option.{Option, none, some}
 use Prim.Native.Nat.{ℕ, zero, suc, _%_, _^_, _≤_, _<_, Ordering, Ordering·lt, Ordering·eq, Ordering·gt}
 use native.Mathlib.Omega.{arith}
 use lib.ListN.{length, length-append}
-use Rattle.format.specs.Basics.{isEmpty, flatMap, ascii}
+use Rattle.format.specs.Basics.{isEmpty, ascii, isSome}
 use Rattle.format.specs.Sorted.{order, byOrdering, upsert}
-use Rattle.format.specs.ObjectFile.{LineBlock, ObjectFile, isSome, newlines, sourceText}
+use Rattle.format.specs.ObjectFile.{LineBlock, ObjectFile, newlines, sourceText}
 use Rattle.format.specs.Source.{lineCount}
 use Rattle.format.specs.TextWriter.{decimal, toLeft, toRight, memoryText, widest, sourceCell, textLine, tableDiv, blockLines, Row, rowKey, plainRows, addRows, addBlocks, lineRows, lineTable, blocksOnly, symbolGroups, textFile}
 
@@ -45,10 +45,10 @@ unfolding plainRows
 plain-length i zero = refl
 plain-length i (suc n) = ap suc (plain-length (suc i) n)
 
-join-least : {A B : Type 0} (f : A → List B) → ((a : A) → 1 ≤ length (f a)) → (xs : List A) → length xs ≤ length (flatMap f xs)
+flatMap-least : {A B : Type 0} (f : A → List B) → ((a : A) → 1 ≤ length (f a)) → (xs : List A) → length xs ≤ length (flatMap f xs)
 unfolding flatMap
-join-least f one [] = omega arith
-join-least f one (x ∷ xs) = let ih = join-least f one xs in let u = one x in let e = length-append (f x) (flatMap f xs) in omega arith
+flatMap-least f one [] = omega arith
+flatMap-least f one (x ∷ xs) = let ih = flatMap-least f one xs in let u = one x in let e = length-append (f x) (flatMap f xs) in omega arith
 
 last-one : {A : Type 0} (xs : List A) (a : A) → 1 ≤ length (xs ++ a ∷ [])
 last-one xs a = omega (arith, length-append xs (a ∷ []))
@@ -61,7 +61,7 @@ table-length s ls =
     let cells : Row → List ℕ = λ r. toRight numbers (decimal (r .number)) ++ tableDiv ++ memoryText (r .address) ++ tableDiv ++ sourceCell s (r .number) in
     let top : List ℕ = textLine (toLeft numbers (ascii "LINE") ++ tableDiv ++ ascii "ADDR" ++ tableDiv ++ ascii "SOURCE") in
     omega
-    (arith, length-append top (flatMap (λ r. textLine (cells r)) rows), join-least (λ r. textLine (cells r)) (λ r. last-one (cells r) 0x0A) rows, blocks-length ls (plainRows 0 (suc (newlines s))), plain-length 0 (suc (newlines s)))
+    (arith, length-append top (flatMap (λ r. textLine (cells r)) rows), flatMap-least (λ r. textLine (cells r)) (λ r. last-one (cells r) 0x0A) rows, blocks-length ls (plainRows 0 (suc (newlines s))), plain-length 0 (suc (newlines s)))
 
 groups-lines : (h : ObjectFile) (s : List ℕ) → h .source ≡ some s → length (lineTable s (h .lineBlocks)) ≤ length (symbolGroups h)
 unfolding symbolGroups

@@ -1,26 +1,24 @@
 -- A text trip: what the text writer writes of a fair object, the text reader reads as that object. Assumes nothing.
 use mathlib.Core.Path.{_≡_, refl, sym, _∙_, ap}
 use mathlib.Core.Bool.{true, and-false}
-use mathlib.Core.List.{List, [], _∷_, _++_, map, append-assoc, append-nil}
+use mathlib.Core.List.{List, [], _∷_, _++_, map, append-assoc, append-nil, flatMap}
 use mathlib.Core.Option.{Option, none, some}
 use Prim.Native.Nat.{ℕ, _^_, _≤_, _<_}
 use native.Mathlib.Omega.{arith}
 use lib.ListN.{length}
-use lib.Dec.{leb}
-use borrow.Author.Tests.{leb-true}
 use Rattle.format.proofs.NumeralBack.{Word16}
-use Rattle.format.specs.Basics.{given, flatMap, ascii, beginsWith, isEmpty, every, eqs, All}
+use Rattle.format.specs.Basics.{given, ascii, beginsWith, isEmpty, every, eqs, All, isSome}
 use Rattle.format.specs.Tokens.{foldOutcome, partsAt}
 use Rattle.format.specs.Sorted.{atKey}
 use Rattle.format.proofs.SortedLaws.{Rises}
 use Rattle.format.proofs.GatherLaws.{inserted, Distinct, rises-distinct, inserted-back, reordered-find}
 use Rattle.format.specs.Utf8.{isUtf8}
-use Rattle.format.specs.ObjectFile.{Block, Label, LineBlock, Relocation, ObjectFile, blockKey, labelKey, relocationKey, neverFall, isSome, sourceText, consistent, fairName, fair, newlines}
+use Rattle.format.specs.ObjectFile.{Block, Label, LineBlock, Relocation, ObjectFile, blockKey, labelKey, relocationKey, neverFall, sourceText, consistent, fairName, fair, newlines}
 use Rattle.format.specs.Records.{source, emptyObject, dropStrayRelocations}
 use Rattle.format.specs.TextWriter.{textLine, blocksOnly, symbolGroups, textFile}
 use Rattle.format.specs.TextReader.{keptLines, afterMagic, parseGroup, parseTextGroup, parseSymbolGroup, parseLinkerGroup, parseDebugGroup, isBar, textObject}
 use Rattle.format.specs.Calls.{Reordered}
-use Rattle.format.proofs.ListLaws.{every-all, all-every, all-map, all-both, join-append, all-reordered, unchanged}
+use Rattle.format.proofs.ListLaws.{every-all, all-map, all-both, flatMap-append, all-reordered, unchanged}
 use Rattle.format.proofs.ListFacts.{all-of}
 use Rattle.format.proofs.Utf8Laws.{Text, text-of}
 use Rattle.format.proofs.RowLaws.{good-name}
@@ -65,7 +63,7 @@ unfolding flatMap
 joined-line l ys zs e = ap (λ (r : List ℕ). textLine l ++ r) e
 
 joined-rows : (xs ys : List (List ℕ)) (zs : List ℕ) → flatMap textLine ys ≡ zs → flatMap textLine (xs ++ ys) ≡ flatMap textLine xs ++ zs
-joined-rows xs ys zs e = join-append textLine xs ys ∙ ap (λ (r : List ℕ). flatMap textLine xs ++ r) e
+joined-rows xs ys zs e = flatMap-append textLine xs ys ∙ ap (λ (r : List ℕ). flatMap textLine xs ++ r) e
 
 nothing-joined : flatMap textLine [] ≡ []
 unfolding flatMap

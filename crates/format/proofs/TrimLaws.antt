@@ -1,14 +1,14 @@
 -- Trimming: of a text without White_Space nothing is trimmed, of one between spaces the spaces. Assumes nothing.
 use mathlib.Core.Path.{_≡_, refl, sym, _∙_, ap, subst}
 use mathlib.Core.Bool.{Bool, true, false, not}
-use mathlib.Core.List.{List, [], _∷_, _++_, append-nil}
+use mathlib.Core.List.{List, [], _∷_, _++_, append-nil, flatMap}
 use mathlib.Core.Option.{Option, none, some}
 use Prim.Native.Nat.{ℕ, zero, suc, _+_, _/_, _%_, _≤_, _<_}
 use native.Mathlib.Omega.{arith}
 use lib.ListN.{length, replicate}
 use lib.Dec.{ltb}
 use borrow.Author.Tests.{ltb-true, ltb-false, le-leb, lt-leb, ne-eqb, not-true}
-use Rattle.format.specs.Basics.{given, if_then_else_, isEmpty, flatMap, every, All}
+use Rattle.format.specs.Basics.{given, if_then_else_, isEmpty, every, All}
 use Rattle.format.specs.Utf8.{encodeScalar, charAt, scalars, isWhiteSpace, whiteSpaceLength, passOver, trimFrom, trimStart, isBlank, trimEnd, trim}
 use Rattle.format.specs.ObjectFile.{hasNoWhite}
 use Rattle.format.specs.TextWriter.{spaces}
@@ -63,17 +63,17 @@ module _ (c : ℕ) (rest : List ℕ) (s : Scalar c) (w : isWhiteSpace c ≡ fals
       go false e false f false g =
           (rw (char-4 c rest s (ltb-false c 0x10000 g), w), (middle (c / 4096 % 64) ((0x80 + c / 64 % 64) ∷ (0x80 + c % 64) ∷ rest) (omega arith), (middle (c / 64 % 64) ((0x80 + c % 64) ∷ rest) (omega arith), (middle (c % 64) rest (omega arith), h))))
 
-solid-join : (cs : List ℕ) → All Scalar cs → All (λ c. not (isWhiteSpace c) ≡ true) cs → Solid (flatMap encodeScalar cs)
+solid-flatMap : (cs : List ℕ) → All Scalar cs → All (λ c. not (isWhiteSpace c) ≡ true) cs → Solid (flatMap encodeScalar cs)
 unfolding flatMap
-solid-join [] h w = tt
-solid-join (c ∷ cs) h w = solid-char c (flatMap encodeScalar cs) (h .0) (not-true (isWhiteSpace c) (w .0)) (solid-join cs (h .1) (w .1))
+solid-flatMap [] h w = tt
+solid-flatMap (c ∷ cs) h w = solid-char c (flatMap encodeScalar cs) (h .0) (not-true (isWhiteSpace c) (w .0)) (solid-flatMap cs (h .1) (w .1))
 
 pub solid-name : (t : List ℕ) → Text t → hasNoWhite (scalars t) ≡ true → Solid t
 unfolding hasNoWhite
 solid-name t x h =
     let e : scalars t ≡ given (x .0) = sym (ap scalars (x .2)) ∙ scalars-of (x .0) (x .1) in
     let k : every (λ c. not (isWhiteSpace c)) (x .0) ≡ true = rw e at h in
-    subst (λ (r : List ℕ). Solid r) (x .2) (solid-join (x .0) (x .1) (all-every (λ c. not (isWhiteSpace c)) (x .0) k))
+    subst (λ (r : List ℕ). Solid r) (x .2) (solid-flatMap (x .0) (x .1) (all-every (λ c. not (isWhiteSpace c)) (x .0) k))
 
 -- what is not in a text without White_Space
 white-byte : (w b : ℕ) (bs : List ℕ) → whiteSpaceLength (charAt (w ∷ bs)) ≡ 1 → whiteSpaceLength (charAt (b ∷ bs)) ≡ 0 → b ≡ w → ⊥

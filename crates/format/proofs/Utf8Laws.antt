@@ -2,18 +2,18 @@
 -- Assumes nothing.
 use mathlib.Core.Path.{_≡_, refl, sym, _∙_, ap, subst}
 use mathlib.Core.Bool.{Bool, true, false, _&&_, _||_}
-use mathlib.Core.List.{List, [], _∷_, _++_, append-assoc}
+use mathlib.Core.List.{List, [], _∷_, _++_, append-assoc, flatMap}
 use mathlib.Core.Option.{Option, none, some}
 use Prim.Native.Nat.{ℕ, zero, suc, _+_, _-_, _*_, _/_, _%_, _^_, _≤_, _<_}
 use native.Mathlib.Omega.{arith}
 use lib.ListN.{length, drop}
 use lib.Dec.{ltb, leb}
 use borrow.Author.Tests.{ltb-true, ltb-false, leb-true, lt-ltb, le-ltb, le-leb, lt-leb}
-use Rattle.format.specs.Basics.{Outcome, refused, given, _>>=_, if_then_else_, need, flatMap, All}
+use Rattle.format.specs.Basics.{Outcome, refused, given, _>>=_, if_then_else_, need, All, isGiven}
 use Rattle.format.specs.Tokens.{tokens}
-use Rattle.format.specs.Utf8.{isBetween, isScalar, encodeScalar, follow, shortestForm, charAt, scalars, isUtf8, isGiven}
+use Rattle.format.specs.Utf8.{isBetween, isScalar, encodeScalar, follow, shortestForm, charAt, scalars, isUtf8}
 use Rattle.format.proofs.ListFacts.{and-left, and-right}
-use Rattle.format.proofs.ListLaws.{all-append, join-append}
+use Rattle.format.proofs.ListLaws.{all-append, flatMap-append}
 
 abbrev pub Scalar : ℕ → Type 0
 Scalar c = isScalar c ≡ true
@@ -86,15 +86,15 @@ module _ (c : ℕ) (rest : List ℕ) (s : Scalar c) where
       go false e false f true g = rw (char-3 (ltb-false c 0x800 f) (ltb-true c 0x10000 g))
       go false e false f false g = rw (char-4 (ltb-false c 0x10000 g))
 
-pub scalars-join : (cs : List ℕ) (rest : List ℕ) → All Scalar cs → scalars (flatMap encodeScalar cs ++ rest) ≡ (scalars rest >>= λ ds. given (cs ++ ds))
+pub scalars-flatMap : (cs : List ℕ) (rest : List ℕ) → All Scalar cs → scalars (flatMap encodeScalar cs ++ rest) ≡ (scalars rest >>= λ ds. given (cs ++ ds))
 unfolding flatMap
-scalars-join [] rest h = same (scalars rest)
+scalars-flatMap [] rest h = same (scalars rest)
   where
     same : (o : Outcome (List ℕ)) → o ≡ (o >>= λ ds. given ds)
     same (refused n) = refl
     same (given a) = refl
-scalars-join (c ∷ cs) rest h =
-    rw (append-assoc (encodeScalar c) (flatMap encodeScalar cs) rest, scalars-char c (flatMap encodeScalar cs ++ rest) (h .0), scalars-join cs rest (h .1)) (twice (scalars rest))
+scalars-flatMap (c ∷ cs) rest h =
+    rw (append-assoc (encodeScalar c) (flatMap encodeScalar cs) rest, scalars-char c (flatMap encodeScalar cs ++ rest) (h .0), scalars-flatMap cs rest (h .1)) (twice (scalars rest))
   where
     twice : (o : Outcome (List ℕ)) → (o >>= (λ ds. given (cs ++ ds)) >>= λ ds. given (c ∷ ds)) ≡ (o >>= λ ds. given (c ∷ (cs ++ ds)))
     twice (refused n) = refl
@@ -270,7 +270,7 @@ text-utf8 t x = rw (sym (ap scalars (x .2)) ∙ scalars-of (x .0) (x .1))
 
 pub text-append : (s t : List ℕ) → Text s → Text t → Text (s ++ t)
 text-append s t x y =
-    (x .0 ++ y .0, all-append Scalar (x .0) (y .0) (x .1) (y .1), join-append encodeScalar (x .0) (y .0) ∙ rw (x .2, y .2))
+    (x .0 ++ y .0, all-append Scalar (x .0) (y .0) (x .1) (y .1), flatMap-append encodeScalar (x .0) (y .0) ∙ rw (x .2, y .2))
 
 pub text-ascii : (t : List ℕ) → All (λ b. b < 0x80) t → Text t
 unfolding flatMap encodeScalar isScalar

@@ -2,9 +2,9 @@
 -- objects in place of words. Assumes nothing.
 use mathlib.Core.Path.{_≡_, refl, sym, _∙_, ap}
 use mathlib.Core.Bool.{Bool, true, false}
-use mathlib.Core.List.{List, [], _∷_, _++_, map, append-nil}
+use mathlib.Core.List.{List, [], _∷_, _++_, map, append-nil, flatMap}
 use Prim.Native.Nat.{ℕ}
-use Rattle.format.specs.Basics.{given, _>>=_, ask, if_then_else_, isEmpty, flatMap, All}
+use Rattle.format.specs.Basics.{given, _>>=_, ask, if_then_else_, isEmpty, All}
 use Rattle.format.specs.Tokens.{partsAt, headOf, bodyOf}
 use Rattle.format.specs.Sorted.{rises}
 use Rattle.format.specs.ObjectFile.{ObjectFile, consistent}

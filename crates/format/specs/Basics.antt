@@ -1,6 +1,6 @@
--- Outcomes, and small tests on lists of numbers that compute. Assumes nothing.
+-- What a sequence of questions comes to, and tests on lists that compute. Assumes nothing.
 use mathlib.Core.Bool.{Bool, true, false, _&&_}
-use mathlib.Core.List.{List, [], _∷_, _++_}
+use mathlib.Core.List.{List, [], _∷_, flatMap}
 use mathlib.Core.Option.{Option, none, some}
 use Prim.Native.Nat.{ℕ}
 use Prim.Native.Char.{code}
@@ -9,14 +9,19 @@ use lib.Dec.{eqb}
 
 infixl 10 _>>=_
 infixr 5 if_then_else_
--- what a question sequence comes to: a refusal's number, or what was asked for
+-- "Asked in this order; 'no' gives the number": a refusal's number, or what was asked for.
 pub data Outcome (A : Type 0) : Type 0 where
   refused : ℕ → Outcome A
   given : A → Outcome A
 
+-- the next question, where the ones before it were answered yes
 abbrev pub _>>=_ : {A B : Type 0} → Outcome A → (A → Outcome B) → Outcome B
 _>>=_ (refused n) f = refused n
 _>>=_ (given a) f = f a
+
+abbrev pub isGiven : {A : Type 0} → Outcome A → Bool
+isGiven (refused n) = false
+isGiven (given a) = true
 
 abbrev pub givenOr : {A : Type 0} → Outcome A → A → A
 givenOr (refused n) d = d
@@ -27,7 +32,7 @@ abbrev pub ask : ℕ → Bool → Outcome (Unit {0})
 ask n true = given tt
 ask n false = refused n
 
--- a part that may be missing: where it is, the number
+-- what may be missing: the number where it is
 abbrev pub need : {A : Type 0} → ℕ → Option A → Outcome A
 need n none = refused n
 need n (some a) = given a
@@ -37,11 +42,11 @@ abbrev pub andThen : {A B : Type 0} → Option A → (A → Option B) → Option
 andThen none f = none
 andThen (some a) f = f a
 
-abbrev pub orElse : {A : Type 0} → Option A → Option A → Option A
-orElse none o = o
-orElse (some a) o = some a
+unfoldable pub isSome : {A : Type 0} → Option A → Bool
+isSome none = false
+isSome (some a) = true
 
--- both branches are computed: where a recursion makes a different call in each, write `elim`
+-- both branches are computed
 abbrev pub if_then_else_ : {A : Type 0} → Bool → A → A → A
 if_then_else_ true a b = a
 if_then_else_ false a b = b
@@ -60,6 +65,7 @@ module _ {A : Type 0} where
   every p [] = true
   every p (x ∷ xs) = p x && every p xs
 
+  -- the elements that pass the test
   unfoldable pub keep : (A → Bool) → List A → List A
   keep p [] = []
   keep p (x ∷ xs) = if p x then x ∷ keep p xs else keep p xs
@@ -70,36 +76,30 @@ module _ {A : Type 0} where
   chain r (x ∷ []) = true
   chain r (x ∷ y ∷ zs) = r x y && chain r (y ∷ zs)
 
-  unfoldable pub lastOf : List A → Option A
-  lastOf [] = none
-  lastOf (x ∷ []) = some x
-  lastOf (x ∷ y ∷ zs) = lastOf (y ∷ zs)
-
-unfoldable pub flatMap : {A B : Type 0} → (A → List B) → List A → List B
-flatMap f [] = []
-flatMap f (x ∷ xs) = f x ++ flatMap f xs
-
 -- all of them, or none
 unfoldable pub allSome : {A B : Type 0} → (A → Option B) → List A → Option (List B)
 allSome f [] = some []
 allSome f (x ∷ xs) = andThen (f x) λ y. andThen (allSome f xs) λ ys. some (y ∷ ys)
 
+-- equal byte for byte
 unfoldable pub eqs : List ℕ → List ℕ → Bool
 eqs [] [] = true
 eqs [] (y ∷ ys) = false
 eqs (x ∷ xs) [] = false
 eqs (x ∷ xs) (y ∷ ys) = eqb x y && eqs xs ys
 
+-- the second list begins with the first
 unfoldable pub beginsWith : List ℕ → List ℕ → Bool
 beginsWith [] ys = true
 beginsWith (x ∷ xs) [] = false
 beginsWith (x ∷ xs) (y ∷ ys) = eqb x y && beginsWith xs ys
 
+-- a proposition of each element
 abbrev pub All : {A : Type 0} → (A → Type 0) → List A → Type 0
 All P [] = Unit {0}
 All P (x ∷ xs) = P x × All P xs
 
--- opens every definition of this module where an `unfolding` line names it
+-- opens every definition of this module, and the library's `flatMap`, where an `unfolding` line names it
 unfoldable pub open-Basics : Unit {0}
-unfolding ascii isEmpty every keep chain lastOf flatMap allSome eqs beginsWith
+unfolding isSome ascii isEmpty every keep chain allSome eqs beginsWith flatMap
 open-Basics = tt

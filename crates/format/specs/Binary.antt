@@ -1,11 +1,11 @@
 -- The binary form (document 01, "Binary form"; source document 000). Assumes nothing.
 use mathlib.Core.Bool.{Bool, not}
-use mathlib.Core.List.{List, [], _∷_, _++_, reverse}
+use mathlib.Core.List.{List, [], _∷_, _++_, reverse, flatMap}
 use mathlib.Core.Option.{Option, none, some}
 use Prim.Native.Nat.{ℕ, _+_, _*_}
 use lib.ListN.{length, take, drop}
 use lib.Dec.{leb, eqb}
-use Rattle.format.specs.Basics.{_>>=_, Outcome, refused, given, ask, if_then_else_, flatMap, every, beginsWith}
+use Rattle.format.specs.Basics.{Outcome, refused, given, _>>=_, ask, if_then_else_, every, beginsWith}
 use Rattle.format.specs.Digits.{valueOf, digitsOf}
 use Rattle.format.specs.Tokens.{tokens}
 use Rattle.format.specs.Utf8.{isUtf8}

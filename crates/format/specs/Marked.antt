@@ -5,9 +5,9 @@ use Prim.Native.Nat.{ℕ}
 use Rattle.format.specs.Basics.{Outcome, refused, given, _>>=_, ascii, open-Basics}
 use Rattle.format.specs.Digits.{open-Digits}
 use Rattle.format.specs.Sorted.{open-Sorted}
-use Rattle.format.specs.Tokens.{open-Scan}
+use Rattle.format.specs.Tokens.{open-Tokens}
 use Rattle.format.specs.Utf8.{open-Utf8}
-use Rattle.format.specs.ObjectFile.{open-Holding}
+use Rattle.format.specs.ObjectFile.{open-ObjectFile}
 use Rattle.format.specs.Records.{open-Records}
 use Rattle.format.specs.Words.{objectOf, open-Words}
 use Rattle.format.specs.Binary.{binaryObject, open-Binary}
@@ -102,5 +102,5 @@ marked =
     ∷ []
 
 pub marked-hold : AllHold marked
-unfolding printed writtenInOrder open-Basics open-Digits open-Sorted open-Scan open-Utf8 open-Holding open-Records open-Words open-Binary open-Source open-TextWriter open-TextReader open-Calls
+unfolding printed writtenInOrder open-Basics open-Digits open-Sorted open-Tokens open-Utf8 open-ObjectFile open-Records open-Words open-Binary open-Source open-TextWriter open-TextReader open-Calls
 marked-hold = (refl, (refl, (refl, (refl, (refl, (refl, (refl, (refl, (refl, (refl, (refl, (refl, (refl, (refl, (refl, tt)))))))))))))))

@@ -1,11 +1,11 @@
 -- An object's five parts, and when it is well formed and fair (document 01, "The object"). Assumes nothing.
-use mathlib.Core.Bool.{Bool, true, false, _&&_, _||_, not}
+use mathlib.Core.Bool.{Bool, false, _&&_, _||_, not}
 use mathlib.Core.List.{List, [], _∷_, _++_, map}
 use mathlib.Core.Option.{Option, none, some}
 use Prim.Native.Nat.{ℕ, suc, _+_}
 use lib.ListN.{length}
 use lib.Dec.{leb, ltb, eqb}
-use Rattle.format.specs.Basics.{Outcome, refused, given, if_then_else_, ascii, isEmpty, every, chain, beginsWith}
+use Rattle.format.specs.Basics.{Outcome, refused, given, isSome, if_then_else_, ascii, isEmpty, every, chain, beginsWith}
 use Rattle.format.specs.Utf8.{isUtf8, scalars, isWhiteSpace, isBetween}
 
 -- texts are lists of bytes; a word that is not initialised is none
@@ -64,10 +64,6 @@ apart ls = chain (λ l m. leb (lineEnd l) (m .first)) ls
 unfoldable pub namesOf : ObjectFile → List (List ℕ)
 namesOf h = map (λ l. l .name) (h .labels) ++ map (λ r. r .name) (h .relocations)
 
-unfoldable pub isSome : {A : Type 0} → Option A → Bool
-isSome none = false
-isSome (some a) = true
-
 unfoldable pub sourceText : Option (List ℕ) → List ℕ
 sourceText none = []
 sourceText (some s) = s
@@ -109,6 +105,6 @@ fair h =
     else isEmpty (h .labels) && isEmpty (h .relocations)
 
 -- opens every definition of this module where an `unfolding` line names it
-unfoldable pub open-Holding : Unit {0}
-unfolding apart namesOf isSome sourceText consistent newlines hasNoWhite fairName fairLines fair
-open-Holding = tt
+unfoldable pub open-ObjectFile : Unit {0}
+unfolding apart namesOf sourceText consistent newlines hasNoWhite fairName fairLines fair
+open-ObjectFile = tt

@@ -3,9 +3,9 @@ use mathlib.Core.Bool.{false, _&&_, not}
 use mathlib.Core.List.{List, [], _∷_, _++_, map}
 use mathlib.Core.Option.{Option, none, some, Option·getD}
 use Prim.Native.Nat.{ℕ}
-use Rattle.format.specs.Basics.{if_then_else_, isEmpty}
+use Rattle.format.specs.Basics.{if_then_else_, isEmpty, isSome}
 use Rattle.format.specs.Sorted.{upsert, atKey}
-use Rattle.format.specs.ObjectFile.{Block, Label, LineBlock, Relocation, ObjectFile, blockKey, labelKey, lineKey, relocationKey, sourceText, isSome}
+use Rattle.format.specs.ObjectFile.{Block, Label, LineBlock, Relocation, ObjectFile, blockKey, labelKey, lineKey, relocationKey, sourceText}
 
 pub data Record : Type 0 where
   block : Block → Record

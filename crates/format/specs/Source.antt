@@ -1,10 +1,10 @@
 -- Line and source tables (document 01, "Line and source tables"; source document 001). A source is its bytes. Assumes nothing.
 use mathlib.Core.List.{List, [], _∷_}
-use mathlib.Core.Option.{Option, none, some}
+use mathlib.Core.Option.{Option, none, some, orElse}
 use Prim.Native.Nat.{ℕ, zero, suc, _+_, _-_, _%_, _^_, min}
 use lib.ListN.{length, take, drop, getD, getElem?}
 use lib.Dec.{leb, ltb, eqb}
-use Rattle.format.specs.Basics.{Outcome, given, _>>=_, ask, andThen, orElse, if_then_else_}
+use Rattle.format.specs.Basics.{Outcome, given, _>>=_, ask, andThen, if_then_else_}
 use Rattle.format.specs.Utf8.{trimStart, trimEnd}
 use Rattle.format.specs.ObjectFile.{LineBlock, newlines}
 

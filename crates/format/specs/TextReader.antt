@@ -1,16 +1,16 @@
 -- Reading the text form (document 01, "Text form" and the questions 20 to 31; source document 000). Texts, lines and cells are lists of
 -- bytes. Assumes nothing.
 use mathlib.Core.Bool.{Bool, true, false, _&&_, not}
-use mathlib.Core.List.{List, [], _∷_, _++_, map}
+use mathlib.Core.List.{List, [], _∷_, _++_, map, flatMap}
 use mathlib.Core.Option.{Option, none, some}
 use Prim.Native.Nat.{ℕ, zero, suc, _+_, _-_, _*_, _^_}
 use lib.ListN.{length, take, drop, getD}
 use lib.Dec.{leb, ltb, eqb}
-use Rattle.format.specs.Basics.{Outcome, refused, given, _>>=_, ask, need, andThen, if_then_else_, ascii, isEmpty, every, keep, flatMap, allSome, eqs, beginsWith}
+use Rattle.format.specs.Basics.{Outcome, refused, given, _>>=_, ask, need, andThen, if_then_else_, ascii, isEmpty, every, keep, allSome, eqs, beginsWith, isSome}
 use Rattle.format.specs.Tokens.{tokens, scanTokens, foldOutcome, partsAt}
 use Rattle.format.specs.Sorted.{atKey}
 use Rattle.format.specs.Utf8.{isUtf8, isScalar, encodeScalar, isBetween, isBlank, trim}
-use Rattle.format.specs.ObjectFile.{LineBlock, ObjectFile, blockKey, neverFall, isSome}
+use Rattle.format.specs.ObjectFile.{LineBlock, ObjectFile, blockKey, neverFall}
 use Rattle.format.specs.Records.{block, label, relocation, putRecord, dropStrayRelocations, emptyObject, withLines, labelNamed}
 
 -- an element in front of the first list

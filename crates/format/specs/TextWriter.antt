@@ -1,15 +1,15 @@
 -- Writing the text form, as `serialize` does (document 01, "Text form"; source document 000). Assumes nothing.
 use mathlib.Core.Bool.{Bool, _&&_, not}
-use mathlib.Core.List.{List, [], _∷_, _++_, map, reverse}
+use mathlib.Core.List.{List, [], _∷_, _++_, map, reverse, flatMap}
 use mathlib.Core.Option.{Option, none, some, Option·getD}
 use Prim.Native.Nat.{ℕ, zero, suc, _+_, _-_, _/_, _%_, _^_, max}
 use lib.ListN.{length, replicate}
 use lib.Dec.{ltb, eqb}
-use Rattle.format.specs.Basics.{given, _>>=_, givenOr, andThen, if_then_else_, ascii, flatMap, isEmpty}
+use Rattle.format.specs.Basics.{given, _>>=_, givenOr, andThen, if_then_else_, ascii, isEmpty, isSome}
 use Rattle.format.specs.Digits.{digitsOf}
 use Rattle.format.specs.Sorted.{upsert, sorted}
 use Rattle.format.specs.Utf8.{scalars, characters, isBetween}
-use Rattle.format.specs.ObjectFile.{Block, Label, LineBlock, Relocation, ObjectFile, isSome}
+use Rattle.format.specs.ObjectFile.{Block, Label, LineBlock, Relocation, ObjectFile}
 use Rattle.format.specs.Words.{flagBit}
 use Rattle.format.specs.Source.{lineCount, rawLineSpan, spanBytes}
 

@@ -41,6 +41,6 @@ partsAt isHead [] = record { before = []; groups = [] }
 partsAt isHead (a ∷ xs) = if isHead a then headOf a (partsAt isHead xs) else bodyOf a (partsAt isHead xs)
 
 -- opens every definition of this module where an `unfolding` line names it
-unfoldable pub open-Scan : Unit {0}
+unfoldable pub open-Tokens : Unit {0}
 unfolding tokens scanTokens foldOutcome partsAt
-open-Scan = tt
+open-Tokens = tt

@@ -1,11 +1,11 @@
 -- UTF-8 (Unicode, table 3-6 and 3-7; RFC 3629): bytes of a scalar value, the character that a text begins with, and White_Space.
 -- Assumes nothing.
-use mathlib.Core.Bool.{Bool, true, false, _&&_, _||_}
+use mathlib.Core.Bool.{Bool, _&&_, _||_}
 use mathlib.Core.List.{List, [], _∷_}
 use mathlib.Core.Option.{Option, none, some}
 use Prim.Native.Nat.{ℕ, zero, suc, _+_, _-_, _*_, _/_, _%_, _^_}
 use lib.Dec.{leb, ltb, eqb}
-use Rattle.format.specs.Basics.{Outcome, refused, given, if_then_else_, need, isEmpty}
+use Rattle.format.specs.Basics.{Outcome, if_then_else_, need, isEmpty, isGiven}
 use Rattle.format.specs.Tokens.{tokens}
 
 -- between, both ends included
@@ -48,10 +48,6 @@ charAt (b ∷ bs) =
 -- the scalar values of a text, or none if it is not UTF-8
 unfoldable pub scalars : List ℕ → Outcome (List ℕ)
 scalars bs = tokens (λ s. need 0 (charAt s)) 0 bs
-
-abbrev pub isGiven : {A : Type 0} → Outcome A → Bool
-isGiven (refused n) = false
-isGiven (given a) = true
 
 unfoldable pub isUtf8 : List ℕ → Bool
 isUtf8 bs = isGiven (scalars bs)

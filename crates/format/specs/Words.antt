@@ -1,11 +1,11 @@
 -- An object as 32-bit words (document 01, "The object"): the top 3 bits are the word's kind. Assumes nothing.
 use mathlib.Core.Bool.{Bool, true, false, _&&_, _||_}
-use mathlib.Core.List.{List, [], _∷_, _++_, map}
+use mathlib.Core.List.{List, [], _∷_, _++_, map, flatMap}
 use mathlib.Core.Option.{Option, none, some}
 use Prim.Native.Nat.{ℕ, _+_, _-_, _*_, _/_, _%_, _^_}
 use lib.ListN.{length}
 use lib.Dec.{leb, ltb, eqb}
-use Rattle.format.specs.Basics.{Outcome, refused, given, _>>=_, ask, if_then_else_, flatMap, isEmpty}
+use Rattle.format.specs.Basics.{Outcome, refused, given, _>>=_, ask, if_then_else_, isEmpty}
 use Rattle.format.specs.Digits.{valueOf, digitsOf}
 use Rattle.format.specs.Tokens.{partsAt}
 use Rattle.format.specs.Utf8.{isBetween}
