@@ -9,9 +9,9 @@ use native.Mathlib.Omega.{arith}
 use lib.ListN.{length, length-append}
 use Rattle.format.specs.Basics.{given, chain, isEmpty, beginsWith, All, isSome}
 use Rattle.format.specs.Utf8.{isUtf8}
-use Rattle.format.specs.Sorted.{sorted}
+use Rattle.format.specs.Sorted.{upsertAll}
 use Rattle.format.proofs.SortedLaws.{Rises}
-use Rattle.format.proofs.GatherLaws.{inserted, inserted-back}
+use Rattle.format.proofs.GatherLaws.{sorted-back}
 use Rattle.format.specs.ObjectFile.{Block, Label, LineBlock, Relocation, ObjectFile, blockKey, consistent, fair, apart, sourceText}
 use Rattle.format.specs.Records.{Record, block, label, lineBlock, source, relocation, recordsOf, sourceRecords, dropStrayRelocations, emptyObject, withLines}
 use Rattle.format.specs.Words.{textWords, numberWords, recordWords, wordsOf}
@@ -79,7 +79,7 @@ blocks-trip : (bs : List Block) → Rises blockKey bs → All (λ b. Writable (b
 unfolding binaryObject binaryRecords binaryFile header beginsWith dropStrayRelocations isSome apart chain emptyObject isEmpty
 blocks-trip bs h w =
     let a = records-back (map block bs) (all-images Writable block bs w) in
-    let b : inserted blockKey bs [] ≡ bs = inserted-back blockKey bs bs h (unchanged bs) in
+    let b : upsertAll blockKey bs [] ≡ bs = sorted-back blockKey bs bs h (unchanged bs) in
     rw (only-records bs, a, back-blocks bs, gather-blocks emptyObject bs, b)
 
 module _ (h : ObjectFile) (ls : List Label) (rs : List Relocation) (w : WellFormed h) (r : InRange h) (p : Reordered (h .labels) ls) (q : Reordered (h .relocations) rs) (short : PartsHave Short h) where
@@ -112,7 +112,7 @@ by-source :
     (h : ObjectFile) (o : Option (List ℕ)) (ls : List Label) (rs : List Relocation) → WellFormed (holds h o) → InRange (holds h o) → fair (holds h o) ≡ true
     → Reordered (h .labels) ls → Reordered (h .relocations) rs → PartsHave Short (holds h o)
     → binaryObject (binaryFile (inOrder (holds h o) ls rs)) ≡ given (swapRelocations (holds h o))
-unfolding swapRelocations sorted sourceRecords sourceText isEmpty
+unfolding swapRelocations sourceRecords sourceText isEmpty upsertAll
 by-source h none ls rs w r f p q short =
     let b = fair-blocks (holds h none) refl (w .consistent) f in
     let l : ls ≡ [] = empty-is ls (sym (empty-reordered p) ∙ ap isEmpty (b .labels)) in

@@ -6,9 +6,9 @@ use mathlib.Core.List.{List, [], _∷_, _++_, map}
 use mathlib.Core.Option.{Option, none, some}
 use Prim.Native.Nat.{ℕ}
 use Rattle.format.specs.Basics.{given, beginsWith, isEmpty, All, isSome}
-use Rattle.format.specs.Sorted.{upsert}
+use Rattle.format.specs.Sorted.{upsert, upsertAll}
 use Rattle.format.proofs.SortedLaws.{Rises}
-use Rattle.format.proofs.GatherLaws.{inserted, inserted-back, gather-append, gather-labels}
+use Rattle.format.proofs.GatherLaws.{sorted-back, gather-append, gather-labels}
 use Rattle.format.specs.ObjectFile.{Block, Label, LineBlock, Relocation, ObjectFile, blockKey, labelKey, lineKey, relocationKey, sourceText, apart}
 use Rattle.format.specs.Records.{Record, block, label, lineBlock, source, relocation, recordsOf, sourceRecords, putRecord, gatherRecords, dropStrayRelocations, emptyObject, withBlocks, withLines, withRelocations}
 use Rattle.format.specs.Binary.{header, binaryFile, binaryRecords, binaryObject}
@@ -18,13 +18,13 @@ use Rattle.format.proofs.ListLaws.{unchanged, map-append}
 use Rattle.format.proofs.SwapLaws.{Fits, relocations-back}
 use Rattle.format.proofs.BinaryBack.{Writable, back, records-back}
 
-pub gather-blocks : (h : ObjectFile) (bs : List Block) → gatherRecords h (map block bs) ≡ withBlocks h (inserted blockKey bs (h .blocks))
-unfolding gatherRecords putRecord inserted
+pub gather-blocks : (h : ObjectFile) (bs : List Block) → gatherRecords h (map block bs) ≡ withBlocks h (upsertAll blockKey bs (h .blocks))
+unfolding gatherRecords putRecord upsertAll
 gather-blocks h [] = refl
 gather-blocks h (b ∷ bs) = gather-blocks (withBlocks h (upsert blockKey b (h .blocks))) bs
 
-pub gather-relocations : (h : ObjectFile) (rs : List Relocation) → gatherRecords h (map relocation rs) ≡ withRelocations h (inserted relocationKey rs (h .relocations))
-unfolding gatherRecords putRecord inserted
+pub gather-relocations : (h : ObjectFile) (rs : List Relocation) → gatherRecords h (map relocation rs) ≡ withRelocations h (upsertAll relocationKey rs (h .relocations))
+unfolding gatherRecords putRecord upsertAll
 gather-relocations h [] = refl
 gather-relocations h (r ∷ rs) = gather-relocations (withRelocations h (upsert relocationKey r (h .relocations))) rs
 
@@ -37,12 +37,12 @@ unfolding sourceAfter sourceText
 source-stays [] s = refl
 source-stays (m ∷ ms) s = refl
 
-pub gather-lines : (h : ObjectFile) (ms : List LineBlock) → gatherRecords h (map lineBlock ms) ≡ withLines h (inserted lineKey ms (h .lineBlocks)) (sourceAfter ms (h .source))
-unfolding gatherRecords putRecord inserted sourceAfter
+pub gather-lines : (h : ObjectFile) (ms : List LineBlock) → gatherRecords h (map lineBlock ms) ≡ withLines h (upsertAll lineKey ms (h .lineBlocks)) (sourceAfter ms (h .source))
+unfolding gatherRecords putRecord upsertAll sourceAfter
 gather-lines h [] = refl
 gather-lines h (m ∷ ms) =
     gather-lines (withLines h (upsert lineKey m (h .lineBlocks)) (some (sourceText (h .source)))) ms
-    ∙ ap (λ (o : Option (List ℕ)). withLines h (inserted lineKey ms (upsert lineKey m (h .lineBlocks))) o) (source-stays ms (sourceText (h .source)))
+    ∙ ap (λ (o : Option (List ℕ)). withLines h (upsertAll lineKey ms (upsert lineKey m (h .lineBlocks))) o) (source-stays ms (sourceText (h .source)))
 
 -- a text after none: where there was no source before the line blocks, the source record gives it whole
 source-whole : (ms : List LineBlock) (s : List ℕ) → sourceText (sourceAfter ms none) ++ s ≡ s
@@ -56,12 +56,12 @@ module _ (bs : List Block) (ls₀ ls : List Label) (ms : List LineBlock) (s : Li
 
   gathered :
       Rises blockKey bs → Rises labelKey ls₀ → Rises lineKey ms → Reordered ls₀ ls
-      → gatherRecords emptyObject (map block bs ++ map label ls ++ map lineBlock ms ++ source s ∷ [] ++ map relocation rs) ≡ held ls₀ (inserted relocationKey rs [])
+      → gatherRecords emptyObject (map block bs ++ map label ls ++ map lineBlock ms ++ source s ∷ [] ++ map relocation rs) ≡ held ls₀ (upsertAll relocationKey rs [])
   unfolding gatherRecords putRecord emptyObject
   gathered hb hl hm r =
-      let e1 : inserted blockKey bs [] ≡ bs = inserted-back blockKey bs bs hb (unchanged bs) in
-      let e2 : inserted labelKey ls [] ≡ ls₀ = inserted-back labelKey ls₀ ls hl r in
-      let e3 : inserted lineKey ms [] ≡ ms = inserted-back lineKey ms ms hm (unchanged ms) in
+      let e1 : upsertAll blockKey bs [] ≡ bs = sorted-back blockKey bs bs hb (unchanged bs) in
+      let e2 : upsertAll labelKey ls [] ≡ ls₀ = sorted-back labelKey ls₀ ls hl r in
+      let e3 : upsertAll lineKey ms [] ≡ ms = sorted-back lineKey ms ms hm (unchanged ms) in
       rw
       (gather-append, gather-append, gather-append, gather-append, gather-blocks emptyObject bs, e1, gather-labels, e2, gather-lines, e3, gather-relocations, source-whole ms s)
 

@@ -11,9 +11,8 @@ use lib.Dec.{leb}
 use borrow.Author.Tests.{le-leb}
 use Rattle.format.specs.Basics.{Outcome, given, allSome, All, isSome}
 use Rattle.format.specs.Tokens.{scanTokens}
-use Rattle.format.specs.Sorted.{upsert, atKey}
+use Rattle.format.specs.Sorted.{upsert, atKey, upsertAll}
 use Rattle.format.proofs.SortedLaws.{Rises}
-use Rattle.format.proofs.GatherLaws.{inserted}
 use Rattle.format.specs.ObjectFile.{Block, ObjectFile, blockKey}
 use Rattle.format.specs.Records.{block, putRecord, withBlocks}
 use Rattle.format.specs.TextWriter.{textLine, hex4, decimal, memoryText, blockLines}
@@ -22,7 +21,7 @@ use Rattle.format.proofs.ListLaws.{all-map, all-images, flatMap-map}
 use Rattle.format.proofs.ListFacts.{all-some, all-flatMap, flatMap-flatMap, flatMap-ext}
 use Rattle.format.proofs.NumeralBack.{hex-back, decimal-back, decimal-numeric, entry-back, entry-numeric, Word16}
 use Rattle.format.proofs.RowLaws.{Ordinary, numeric-ordinary, hex-ordinary, entry-full}
-use Rattle.format.proofs.OrderLaws.{absent-insert}
+use Rattle.format.proofs.OrderLaws.{absent-upsert}
 
 abbrev pub InBlock : Block → Type 0
 InBlock b = (b .address < 2 ^ 16) × (length (b .words) < 2 ^ 16) × All Word16 (b .words)
@@ -57,8 +56,8 @@ scan-drop one s (suc k) (x ∷ xs) = scan-drop one s k xs
 
 pub blocks-back :
     (h : ObjectFile) (bs : List Block) → Rises blockKey bs → All InBlock bs → All (λ b. atKey blockKey (blockKey b) (h .blocks) ≡ none) bs
-    → parseTextGroup h (flatMap blockRows bs) ≡ given (withBlocks h (inserted blockKey bs (h .blocks)))
-unfolding parseTextGroup scanTokens flatMap inserted putRecord
+    → parseTextGroup h (flatMap blockRows bs) ≡ given (withBlocks h (upsertAll blockKey bs (h .blocks)))
+unfolding parseTextGroup scanTokens flatMap upsertAll putRecord
 blocks-back h [] r i f = refl
 blocks-back h (b ∷ bs) r i f =
     let rest : List (List ℕ) = flatMap blockRows bs in
@@ -66,7 +65,7 @@ blocks-back h (b ∷ bs) r i f =
     let m = length-map (b .words) memoryText in
     let d : drop (length (b .words)) (map memoryText (b .words) ++ rest) ≡ rest = drop-at (map memoryText (b .words)) rest (length (b .words)) m in
     rw (e, scan-drop blockAt (withBlocks h (upsert blockKey b (h .blocks))) (length (b .words)) (map memoryText (b .words) ++ rest), d)
-    (blocks-back (withBlocks h (upsert blockKey b (h .blocks))) bs (r .1) (i .1) (absent-insert blockKey b bs (h .blocks) (r .0) (f .1)))
+    (blocks-back (withBlocks h (upsert blockKey b (h .blocks))) bs (r .1) (i .1) (absent-upsert blockKey b bs (h .blocks) (r .0) (f .1)))
 
 pub blocks-ordinary : (bs : List Block) → All InBlock bs → All Ordinary (flatMap blockRows bs)
 blocks-ordinary bs h = all-flatMap Ordinary blockRows bs (all-map one bs h)

@@ -6,19 +6,14 @@ use Prim.Native.Nat.{ℕ, Ordering, Ordering·lt, Ordering·eq, Ordering·gt}
 use native.Mathlib.Omega.{arith}
 use lib.Dec.{isEq}
 use Rattle.format.specs.Basics.{if_then_else_}
-use Rattle.format.specs.Sorted.{order, upsert, atKey}
-use Rattle.format.proofs.SortedLaws.{order-self, order-eq, find-insert, Rises, rises-insert, find-above, ext-find}
+use Rattle.format.specs.Sorted.{order, upsert, atKey, upsertAll, sorted}
+use Rattle.format.proofs.SortedLaws.{order-self, order-eq, atKey-upsert, Rises, rises-upsert, atKey-above, ext-atKey}
 use Rattle.format.specs.ObjectFile.{Label, ObjectFile, labelKey}
 use Rattle.format.specs.Records.{Record, label, putRecord, gatherRecords, withLabels}
 use Rattle.format.specs.Calls.{Reordered, none-left, same-first, swap, chained}
 use Rattle.format.proofs.ListLaws.{or-none}
 
 module _ {A : Type 0} (key : A → List ℕ) where
-  -- inserted one after the other
-  unfoldable pub inserted : List A → List A → List A
-  inserted [] acc = acc
-  inserted (a ∷ xs) acc = inserted xs (upsert key a acc)
-
   -- no key twice
   abbrev pub Distinct : List A → Type 0
   Distinct [] = Unit {0}
@@ -26,17 +21,17 @@ module _ {A : Type 0} (key : A → List ℕ) where
 
   pub rises-distinct : (xs : List A) → Rises key xs → Distinct xs
   rises-distinct [] h = tt
-  rises-distinct (a ∷ xs) h = (find-above key (key a) xs (h .0), rises-distinct xs (h .1))
+  rises-distinct (a ∷ xs) h = (atKey-above key (key a) xs (h .0), rises-distinct xs (h .1))
 
-  pub rises-inserted : (xs acc : List A) → Rises key acc → Rises key (inserted xs acc)
-  unfolding inserted
-  rises-inserted [] acc h = h
-  rises-inserted (a ∷ xs) acc h = rises-inserted xs (upsert key a acc) (rises-insert key a acc h)
+  pub rises-upsertAll : (xs acc : List A) → Rises key acc → Rises key (upsertAll key xs acc)
+  unfolding upsertAll
+  rises-upsertAll [] acc h = h
+  rises-upsertAll (a ∷ xs) acc h = rises-upsertAll xs (upsert key a acc) (rises-upsert key a acc h)
 
-  pub find-inserted : (k : List ℕ) (xs acc : List A) → Distinct xs → atKey key k (inserted xs acc) ≡ orElse (atKey key k xs) (atKey key k acc)
-  unfolding inserted atKey orElse
-  find-inserted k [] acc d = refl
-  find-inserted k (a ∷ xs) acc d = find-inserted k xs (upsert key a acc) (d .1) ∙ rw (find-insert key k a acc) (pick (order k (key a)) refl)
+  pub atKey-upsertAll : (k : List ℕ) (xs acc : List A) → Distinct xs → atKey key k (upsertAll key xs acc) ≡ orElse (atKey key k xs) (atKey key k acc)
+  unfolding upsertAll atKey orElse
+  atKey-upsertAll k [] acc d = refl
+  atKey-upsertAll k (a ∷ xs) acc d = atKey-upsertAll k xs (upsert key a acc) (d .1) ∙ rw (atKey-upsert key k a acc) (pick (order k (key a)) refl)
     where
       pick : (o : Ordering) → order k (key a) ≡ o
           → orElse (atKey key k xs) (if isEq o then some a else atKey key k acc) ≡ orElse (if isEq o then some a else atKey key k xs) (atKey key k acc)
@@ -45,13 +40,13 @@ module _ {A : Type 0} (key : A → List ℕ) where
       pick Ordering·eq e = let p : k ≡ key a = order-eq k (key a) e in rw (ap (λ (j : List ℕ). atKey key j xs) p ∙ d .0)
 
   -- the order in which they stand does not matter, where no key comes twice
-  pub reordered-find : {xs ys : List A} → Reordered xs ys → Distinct xs → ((k : List ℕ) → atKey key k xs ≡ atKey key k ys) × Distinct ys
+  pub reordered-atKey : {xs ys : List A} → Reordered xs ys → Distinct xs → ((k : List ℕ) → atKey key k xs ≡ atKey key k ys) × Distinct ys
   unfolding atKey
-  reordered-find none-left d = (λ k. refl, tt)
-  reordered-find (same-first {a = a} {xs = xs} {ys = ys} r) d =
-      let ih = reordered-find r (d .1) in
+  reordered-atKey none-left d = (λ k. refl, tt)
+  reordered-atKey (same-first {a = a} {xs = xs} {ys = ys} r) d =
+      let ih = reordered-atKey r (d .1) in
       (λ k. rw (ih .0 k), (sym (ih .0 (key a)) ∙ d .0, ih .1))
-  reordered-find (swap {a = a} {b = b} {xs = xs}) d = (λ k. pick k (order k (key a)) refl (order k (key b)) refl, (first (order (key b) (key a)) refl, (second (order (key a) (key b)) refl (d .0), d .1 .1)))
+  reordered-atKey (swap {a = a} {b = b} {xs = xs}) d = (λ k. pick k (order k (key a)) refl (order k (key b)) refl, (first (order (key b) (key a)) refl, (second (order (key a) (key b)) refl (d .0), d .1 .1)))
     where
       clash : (k : List ℕ) → order k (key a) ≡ Ordering·eq → order k (key b) ≡ Ordering·eq → (if isEq (order (key a) (key b)) then some b else atKey key (key a) xs) ≡ none → ⊥
       clash k p q n =
@@ -77,24 +72,24 @@ module _ {A : Type 0} (key : A → List ℕ) where
       first Ordering·lt e = d .1 .0
       first Ordering·gt e = d .1 .0
       first Ordering·eq e = absurd (clash (key b) e (order-self (key b)) (d .0))
-  reordered-find (chained r s) d =
-      let u = reordered-find r d in
-      let v = reordered-find s (u .1) in
+  reordered-atKey (chained r s) d =
+      let u = reordered-atKey r d in
+      let v = reordered-atKey s (u .1) in
       (λ k. u .0 k ∙ v .0 k, v .1)
 
   -- from a reordering of a rising list, the rising list
-  pub inserted-back : (xs ys : List A) → Rises key xs → Reordered xs ys → inserted ys [] ≡ xs
+  pub sorted-back : (xs ys : List A) → Rises key xs → Reordered xs ys → sorted key ys ≡ xs
   unfolding atKey
-  inserted-back xs ys h r =
-      let u = reordered-find r (rises-distinct xs h) in
-      ext-find key (inserted ys []) xs (rises-inserted ys [] tt) h (λ k. find-inserted k ys [] (u .1) ∙ or-none (atKey key k ys) ∙ sym (u .0 k))
+  sorted-back xs ys h r =
+      let u = reordered-atKey r (rises-distinct xs h) in
+      ext-atKey key (sorted key ys) xs (rises-upsertAll ys [] tt) h (λ k. atKey-upsertAll k ys [] (u .1) ∙ or-none (atKey key k ys) ∙ sym (u .0 k))
 
 pub gather-append : (h : ObjectFile) (rs ts : List Record) → gatherRecords h (rs ++ ts) ≡ gatherRecords (gatherRecords h rs) ts
 unfolding gatherRecords
 gather-append h [] ts = refl
 gather-append h (r ∷ rs) ts = gather-append (putRecord h r) rs ts
 
-pub gather-labels : (h : ObjectFile) (ls : List Label) → gatherRecords h (map label ls) ≡ withLabels h (inserted labelKey ls (h .labels))
-unfolding gatherRecords putRecord inserted
+pub gather-labels : (h : ObjectFile) (ls : List Label) → gatherRecords h (map label ls) ≡ withLabels h (upsertAll labelKey ls (h .labels))
+unfolding gatherRecords putRecord upsertAll
 gather-labels h [] = refl
 gather-labels h (l ∷ ls) = gather-labels (withLabels h (upsert labelKey l (h .labels))) ls

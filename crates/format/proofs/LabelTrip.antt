@@ -9,9 +9,9 @@ use lib.ListN.{length}
 use lib.Dec.{isEq}
 use Rattle.format.specs.Basics.{given, ascii, if_then_else_, beginsWith, eqs, isEmpty, All}
 use Rattle.format.specs.Tokens.{foldOutcome}
-use Rattle.format.specs.Sorted.{order, upsert, atKey, sorted}
-use Rattle.format.proofs.SortedLaws.{order-self, order-eq, find-insert, Rises, ext-find}
-use Rattle.format.proofs.GatherLaws.{inserted, Distinct, rises-distinct, rises-inserted, find-inserted, reordered-find}
+use Rattle.format.specs.Sorted.{order, upsert, atKey, sorted, upsertAll}
+use Rattle.format.proofs.SortedLaws.{order-self, order-eq, atKey-upsert, Rises, ext-atKey}
+use Rattle.format.proofs.GatherLaws.{Distinct, rises-distinct, rises-upsertAll, atKey-upsertAll, reordered-atKey}
 use Rattle.format.specs.Utf8.{trim, characters, open-Utf8}
 use Rattle.format.specs.ObjectFile.{Label, Relocation, ObjectFile, labelKey, relocationKey}
 use Rattle.format.specs.Records.{label, putRecord, withLabels, withRelocations, labelNamed}
@@ -23,7 +23,7 @@ use Rattle.format.proofs.ListFacts.{eqs-self}
 use Rattle.format.proofs.TrimLaws.{Visible, visible-solid, trim-right}
 use Rattle.format.proofs.CellLaws.{Undivided, cells-1, undivided-append, undivided-spaces}
 use Rattle.format.proofs.RowLaws.{GoodName, symbolLine, symbol-row, linkerLine, linker-row, indexLine, index-row}
-use Rattle.format.proofs.OrderLaws.{distinct-find}
+use Rattle.format.proofs.OrderLaws.{distinct-atKey}
 
 pub rows-under :
     (n : ℕ) (columns : List (List ℕ)) (l : List ℕ) (ls : List (List ℕ)) → sameCells (map trim (splitn (length columns - 1) l)) columns ≡ true → rowsUnder n columns (l ∷ ls) ≡ given ls
@@ -60,7 +60,7 @@ module _ {A : Type 0} (key : A → List ℕ) where
       (v : A → Option A) (a : A) (xs acc : List A) → All (λ x. isEq (order (key x) (key a)) ≡ false) xs → All (λ x. atKey key (key x) acc ≡ v x) xs
       → All (λ x. atKey key (key x) (upsert key a acc) ≡ v x) xs
   found-insert v a [] acc d h = tt
-  found-insert v a (x ∷ xs) acc d h = (find-insert key (key x) a acc ∙ rw (d .0, h .0), found-insert v a xs acc (d .1) (h .1))
+  found-insert v a (x ∷ xs) acc d h = (atKey-upsert key (key x) a acc ∙ rw (d .0, h .0), found-insert v a xs acc (d .1) (h .1))
 
 -- a label as the first table gives it
 abbrev pub unplaced : Label → Label
@@ -75,8 +75,8 @@ symbol-new h m i f = symbol-row h m (i .0) (i .2) ∙ rw f
 
 pub symbols-through :
     (h : ObjectFile) (ms : List Label) → Distinct labelKey ms → All InLabel ms → All (λ m. atKey labelKey (m .name) (h .labels) ≡ none) ms
-    → foldOutcome parseSymbolRow h (map symbolLine ms) ≡ given (withLabels h (inserted labelKey (map unplaced ms) (h .labels)))
-unfolding foldOutcome inserted putRecord
+    → foldOutcome parseSymbolRow h (map symbolLine ms) ≡ given (withLabels h (upsertAll labelKey (map unplaced ms) (h .labels)))
+unfolding foldOutcome upsertAll putRecord
 symbols-through h [] d i f = refl
 symbols-through h (m ∷ ms) d i f =
     rw (symbol-new h m (i .0) (f .0))
@@ -88,8 +88,8 @@ index-known names indices h m i f = index-row names indices h m (i .1) (i .2) �
 
 pub indices-through :
     (names indices : ℕ) (h : ObjectFile) (ms : List Label) → Distinct labelKey ms → All InLabel ms → All (λ m. atKey labelKey (m .name) (h .labels) ≡ some (unplaced m)) ms
-    → foldOutcome parseLabelRow h (map (indexLine names indices) ms) ≡ given (withLabels h (inserted labelKey ms (h .labels)))
-unfolding foldOutcome inserted putRecord
+    → foldOutcome parseLabelRow h (map (indexLine names indices) ms) ≡ given (withLabels h (upsertAll labelKey ms (h .labels)))
+unfolding foldOutcome upsertAll putRecord
 indices-through names indices h [] d i f = refl
 indices-through names indices h (m ∷ ms) d i f =
     rw (index-known names indices h m (i .0) (f .0))
@@ -120,25 +120,25 @@ or-none (some a) = refl
 
 module _ (ls ms ns : List Label) (r : Rises labelKey ls) (p : Reordered ls ms) (q : Reordered ls ns) where
   abbrev placing : List Label
-  placing = inserted labelKey (map unplaced ms) []
+  placing = upsertAll labelKey (map unplaced ms) []
 
   find-placing : (k : List ℕ) → atKey labelKey k placing ≡ first (atKey labelKey k ls)
   unfolding atKey
   find-placing k =
-      let u = reordered-find labelKey p (rises-distinct labelKey ls r) in
-      find-inserted labelKey k (map unplaced ms) [] (distinct-unplaced ms (u .1)) ∙ or-none (atKey labelKey k (map unplaced ms)) ∙ find-unplaced k ms ∙ ap first (sym (u .0 k))
+      let u = reordered-atKey labelKey p (rises-distinct labelKey ls r) in
+      atKey-upsertAll labelKey k (map unplaced ms) [] (distinct-unplaced ms (u .1)) ∙ or-none (atKey labelKey k (map unplaced ms)) ∙ find-unplaced k ms ∙ ap first (sym (u .0 k))
 
   pub placing-known : All (λ m. atKey labelKey (m .name) placing ≡ some (unplaced m)) ns
   placing-known =
       all-reordered (λ m. atKey labelKey (m .name) placing ≡ some (unplaced m)) q
-      (all-map (λ m e. find-placing (m .name) ∙ ap first e) ls (distinct-find labelKey ls (rises-distinct labelKey ls r)))
+      (all-map (λ m e. find-placing (m .name) ∙ ap first e) ls (distinct-atKey labelKey ls (rises-distinct labelKey ls r)))
 
-  pub labels-back : inserted labelKey ns placing ≡ ls
+  pub labels-back : upsertAll labelKey ns placing ≡ ls
   unfolding orElse
   labels-back =
-      let v = reordered-find labelKey q (rises-distinct labelKey ls r) in
-      ext-find labelKey (inserted labelKey ns placing) ls (rises-inserted labelKey ns placing (rises-inserted labelKey (map unplaced ms) [] tt)) r
-      (λ k. find-inserted labelKey k ns placing (v .1) ∙ rw (sym (v .0 k), find-placing k) (pick (atKey labelKey k ls)))
+      let v = reordered-atKey labelKey q (rises-distinct labelKey ls r) in
+      ext-atKey labelKey (upsertAll labelKey ns placing) ls (rises-upsertAll labelKey ns placing (rises-upsertAll labelKey (map unplaced ms) [] tt)) r
+      (λ k. atKey-upsertAll labelKey k ns placing (v .1) ∙ rw (sym (v .0 k), find-placing k) (pick (atKey labelKey k ls)))
     where
       pick : (o : Option Label) → orElse o (first o) ≡ o
       pick none = refl
@@ -169,9 +169,9 @@ symbol-header = refl
 
 pub symbols-back :
     (h : ObjectFile) (ls : List Label) → Distinct labelKey (byAddress ls) → All InLabel (byAddress ls) → All (λ m. atKey labelKey (m .name) (h .labels) ≡ none) (byAddress ls)
-    → parseSymbolGroup h (symbolLines ls) ≡ given (withLabels h (inserted labelKey (map unplaced (byAddress ls)) (h .labels)))
+    → parseSymbolGroup h (symbolLines ls) ≡ given (withLabels h (upsertAll labelKey (map unplaced (byAddress ls)) (h .labels)))
 unfolding parseSymbolGroup
-symbols-back h [] d i f = unfold rowsUnder sorted foldOutcome inserted in refl
+symbols-back h [] d i f = unfold rowsUnder foldOutcome upsertAll in refl
 symbols-back h (l ∷ ls) d i f =
     rw (rows-under 26 (ascii "ADDR" ∷ ascii "EXT" ∷ ascii "LABEL" ∷ []) symbolHeader (map symbolLine (byAddress (l ∷ ls))) symbol-header)
     (symbols-through h (byAddress (l ∷ ls)) d i f)
@@ -218,9 +218,9 @@ index-lines (l ∷ ls) =
 
 pub indices-back :
     (h : ObjectFile) (ls : List Label) → Distinct labelKey (byStart ls) → All InLabel (byStart ls) → All (λ m. atKey labelKey (m .name) (h .labels) ≡ some (unplaced m)) (byStart ls)
-    → parseLabelTable h (indexLines ls) ≡ given (withLabels h (inserted labelKey (byStart ls) (h .labels)))
+    → parseLabelTable h (indexLines ls) ≡ given (withLabels h (upsertAll labelKey (byStart ls) (h .labels)))
 unfolding parseLabelTable
-indices-back h [] d i f = unfold rowsUnder sorted foldOutcome inserted in refl
+indices-back h [] d i f = unfold rowsUnder foldOutcome upsertAll in refl
 indices-back h (l ∷ ls) d i f =
     rw (rows-under 26 (ascii "LABEL" ∷ ascii "INDEX" ∷ []) (indexHeader (nameWidth (l ∷ ls)) (indexWidth (l ∷ ls))) (map (indexLine (nameWidth (l ∷ ls)) (indexWidth (l ∷ ls))) (byStart (l ∷ ls))) (index-header (nameWidth (l ∷ ls)) (indexWidth (l ∷ ls))))
     (indices-through (nameWidth (l ∷ ls)) (indexWidth (l ∷ ls)) h (byStart (l ∷ ls)) d i f)
@@ -230,8 +230,8 @@ abbrev pub InRelocation : Relocation → Type 0
 InRelocation q = (q .address < 2 ^ 16) × GoodName (q .name)
 
 pub linker-through :
-    (h : ObjectFile) (rs : List Relocation) → All InRelocation rs → foldOutcome parseLinkerRow h (map linkerLine rs) ≡ given (withRelocations h (inserted relocationKey rs (h .relocations)))
-unfolding foldOutcome inserted putRecord
+    (h : ObjectFile) (rs : List Relocation) → All InRelocation rs → foldOutcome parseLinkerRow h (map linkerLine rs) ≡ given (withRelocations h (upsertAll relocationKey rs (h .relocations)))
+unfolding foldOutcome upsertAll putRecord
 linker-through h [] i = refl
 linker-through h (q ∷ rs) i =
     rw (linker-row h q (i .0 .0) (i .0 .1)) (linker-through (withRelocations h (upsert relocationKey q (h .relocations))) rs (i .1))
@@ -252,8 +252,8 @@ linker-header : sameCells (map trim (splitn 1 linkerHeader)) (ascii "ADDR" ∷ a
 unfolding open-Utf8 isEmpty ascii beginsWith splitOnce splitn sameCells eqs
 linker-header = refl
 
-pub linker-back : (h : ObjectFile) (rs : List Relocation) → All InRelocation rs → parseLinkerGroup h (linkerLines rs) ≡ given (withRelocations h (inserted relocationKey rs (h .relocations)))
+pub linker-back : (h : ObjectFile) (rs : List Relocation) → All InRelocation rs → parseLinkerGroup h (linkerLines rs) ≡ given (withRelocations h (upsertAll relocationKey rs (h .relocations)))
 unfolding parseLinkerGroup
-linker-back h [] i = unfold rowsUnder foldOutcome inserted in refl
+linker-back h [] i = unfold rowsUnder foldOutcome upsertAll in refl
 linker-back h (q ∷ rs) i =
     rw (rows-under 26 (ascii "ADDR" ∷ ascii "LABEL" ∷ []) linkerHeader (map linkerLine (q ∷ rs)) linker-header) (linker-through h (q ∷ rs) i)

@@ -8,7 +8,7 @@ use native.Mathlib.Omega.{arith}
 use lib.Dec.{isEq}
 use Rattle.format.specs.Basics.{if_then_else_, All}
 use Rattle.format.specs.Sorted.{order, thenBy, upsert, atKey}
-use Rattle.format.proofs.SortedLaws.{order-self, order-eq, find-insert, find-first, Above}
+use Rattle.format.proofs.SortedLaws.{order-self, order-eq, atKey-upsert, atKey-first, Above}
 use Rattle.format.proofs.GatherLaws.{Distinct}
 
 module _ {A : Type 0} (key : A → List ℕ) where
@@ -27,9 +27,9 @@ module _ {A : Type 0} (key : A → List ℕ) where
           let z : _≡_ {A = Option A} (some x) none = sym (h .0) ∙ ap (λ (k : List ℕ). atKey key k ys) q ∙ n in
           let w : _≡_ {A = ℕ} 0 1 = cc in absurd (omega arith)
 
-  pub distinct-find : (xs : List A) → Distinct key xs → All (λ x. atKey key (key x) xs ≡ some x) xs
-  distinct-find [] h = tt
-  distinct-find (a ∷ xs) h = (find-first key a xs, own a xs xs (h .0) (distinct-find xs (h .1)))
+  pub distinct-atKey : (xs : List A) → Distinct key xs → All (λ x. atKey key (key x) xs ≡ some x) xs
+  distinct-atKey [] h = tt
+  distinct-atKey (a ∷ xs) h = (atKey-first key a xs, own a xs xs (h .0) (distinct-atKey xs (h .1)))
 
   -- also by a number in front of the key
   front : (f : A → ℕ) (a : A) (xs : List A) → atKey key (key a) xs ≡ none → atKey (λ x. f x ∷ key x) (f a ∷ key a) xs ≡ none
@@ -65,7 +65,7 @@ module _ {A : Type 0} (key : A → List ℕ) where
           let w : _≡_ {A = ℕ} 0 1 = cc in absurd (omega arith)
 
   -- after an insertion, keys above it are found as before
-  pub absent-insert : (a : A) (xs acc : List A) → Above key (key a) xs → All (λ x. atKey key (key x) acc ≡ none) xs → All (λ x. atKey key (key x) (upsert key a acc) ≡ none) xs
-  absent-insert a [] acc r h = tt
-  absent-insert a (x ∷ xs) acc r h =
-      (find-insert key (key x) a acc ∙ rw (differs (key a) (key x) (r .0), h .0), absent-insert a xs acc (r .1) (h .1))
+  pub absent-upsert : (a : A) (xs acc : List A) → Above key (key a) xs → All (λ x. atKey key (key x) acc ≡ none) xs → All (λ x. atKey key (key x) (upsert key a acc) ≡ none) xs
+  absent-upsert a [] acc r h = tt
+  absent-upsert a (x ∷ xs) acc r h =
+      (atKey-upsert key (key x) a acc ∙ rw (differs (key a) (key x) (r .0), h .0), absent-upsert a xs acc (r .1) (h .1))

@@ -9,16 +9,16 @@ use native.Mathlib.Decide.{ℕ-discrete}
 use lib.Dec.{isEq}
 use lib.ListN.{length, length-append}
 use Rattle.format.specs.Basics.{if_then_else_, isEmpty, every, All}
-use Rattle.format.specs.Sorted.{order, thenBy, atKey, sorted}
+use Rattle.format.specs.Sorted.{order, thenBy, atKey, sorted, upsertAll}
 use Rattle.format.proofs.SortedLaws.{eq-of-compare, order-self, Rises}
-use Rattle.format.proofs.GatherLaws.{inserted, Distinct, rises-distinct, inserted-back}
+use Rattle.format.proofs.GatherLaws.{Distinct, rises-distinct, sorted-back}
 use Rattle.format.specs.ObjectFile.{Relocation, ObjectFile, relocationKey, namesOf, consistent, fair, fairName}
 use Rattle.format.specs.Records.{withRelocations}
 use Rattle.format.specs.Utf8.{isUtf8}
 use Rattle.format.specs.Calls.{Reordered, chained}
 use Rattle.format.specs.Trips.{swapRelocations, swapRelocation, byteSwapped}
 use Rattle.format.proofs.ListLaws.{all-map, all-reordered, every-append, every-reordered, empty-reordered, flatMap-reordered, reordered-map, reordered-back}
-use Rattle.format.proofs.RisesLaws.{rises-sorted, reordered-sorted, sorted-back}
+use Rattle.format.proofs.RisesLaws.{rises-sorted, reordered-sorted}
 use Rattle.format.proofs.Ranges.{WellFormed, InRange, InRelocation}
 
 abbrev pub Fits : Relocation → Type 0
@@ -65,9 +65,9 @@ swap-reordered rs h f = reordered-sorted relocationKey (map swapRelocation rs) (
 -- read one after the other, in any order, they are sorted anew
 pub relocations-back :
     (rs₀ rs : List Relocation) → Rises relocationKey rs₀ → All Fits rs₀ → Reordered rs₀ rs
-    → inserted relocationKey (map swapRelocation rs) [] ≡ sorted relocationKey (map swapRelocation rs₀)
+    → upsertAll relocationKey (map swapRelocation rs) [] ≡ sorted relocationKey (map swapRelocation rs₀)
 relocations-back rs₀ rs h f r =
-    inserted-back relocationKey (sorted relocationKey (map swapRelocation rs₀)) (map swapRelocation rs) (rises-sorted relocationKey (map swapRelocation rs₀))
+    sorted-back relocationKey (sorted relocationKey (map swapRelocation rs₀)) (map swapRelocation rs) (rises-sorted relocationKey (map swapRelocation rs₀))
     (chained (reordered-back (swap-reordered rs₀ h f)) (reordered-map swapRelocation r))
 
 swap-swap : (rs : List Relocation) → All Fits rs → map swapRelocation (map swapRelocation rs) ≡ rs

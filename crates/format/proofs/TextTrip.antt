@@ -9,9 +9,9 @@ use lib.ListN.{length}
 use Rattle.format.proofs.NumeralBack.{Word16}
 use Rattle.format.specs.Basics.{given, ascii, beginsWith, isEmpty, every, eqs, All, isSome}
 use Rattle.format.specs.Tokens.{foldOutcome, partsAt}
-use Rattle.format.specs.Sorted.{atKey}
+use Rattle.format.specs.Sorted.{atKey, upsertAll}
 use Rattle.format.proofs.SortedLaws.{Rises}
-use Rattle.format.proofs.GatherLaws.{inserted, Distinct, rises-distinct, inserted-back, reordered-find}
+use Rattle.format.proofs.GatherLaws.{Distinct, rises-distinct, sorted-back, reordered-atKey}
 use Rattle.format.specs.Utf8.{isUtf8}
 use Rattle.format.specs.ObjectFile.{Block, Label, LineBlock, Relocation, ObjectFile, blockKey, labelKey, relocationKey, neverFall, sourceText, consistent, fairName, fair, newlines}
 use Rattle.format.specs.Records.{source, emptyObject, dropStrayRelocations}
@@ -125,24 +125,24 @@ module _ (bs : List Block) (ls : List Label) (ms : List LineBlock) (s : List ℕ
     h1 = record { blocks = bs; labels = []; lineBlocks = []; source = none; relocations = [] }
 
     abbrev h2 : ObjectFile
-    h2 = record { blocks = bs; labels = inserted labelKey (map unplaced (byAddress ls)) []; lineBlocks = []; source = none; relocations = [] }
+    h2 = record { blocks = bs; labels = upsertAll labelKey (map unplaced (byAddress ls)) []; lineBlocks = []; source = none; relocations = [] }
 
     abbrev h3 : ObjectFile
-    h3 = record { blocks = bs; labels = inserted labelKey (map unplaced (byAddress ls)) []; lineBlocks = []; source = none; relocations = rs }
+    h3 = record { blocks = bs; labels = upsertAll labelKey (map unplaced (byAddress ls)) []; lineBlocks = []; source = none; relocations = rs }
 
     abbrev h4 : ObjectFile
     h4 = record { blocks = bs; labels = ls; lineBlocks = []; source = none; relocations = rs }
 
     read-blocks : parseGroup emptyObject (ascii ".TEXT", flatMap blockRows bs) ≡ given h1
     unfolding emptyObject atKey
-    read-blocks = group-text emptyObject (flatMap blockRows bs) ∙ blocks-back emptyObject bs rb ib (all-of (λ b. refl) bs) ∙ rw (inserted-back blockKey bs bs rb (unchanged bs))
+    read-blocks = group-text emptyObject (flatMap blockRows bs) ∙ blocks-back emptyObject bs rb ib (all-of (λ b. refl) bs) ∙ rw (sorted-back blockKey bs bs rb (unchanged bs))
 
     read-symbols : parseGroup h1 (ascii ".SYMBOL", symbolLines ls) ≡ given h2
     unfolding atKey
-    read-symbols = group-symbol h1 (symbolLines ls) ∙ symbols-back h1 ls (reordered-find labelKey by-address distinct .1) address-in (all-of (λ m. refl) (byAddress ls))
+    read-symbols = group-symbol h1 (symbolLines ls) ∙ symbols-back h1 ls (reordered-atKey labelKey by-address distinct .1) address-in (all-of (λ m. refl) (byAddress ls))
 
     read-linker : parseGroup h2 (ascii ".LINKER_INFO", linkerLines rs) ≡ given h3
-    read-linker = group-linker h2 (linkerLines rs) ∙ linker-back h2 rs ir ∙ rw (inserted-back relocationKey rs rs rr (unchanged rs))
+    read-linker = group-linker h2 (linkerLines rs) ∙ linker-back h2 rs ir ∙ rw (sorted-back relocationKey rs rs rr (unchanged rs))
 
     bar-is : isBar barLine ≡ true
     unfolding ascii beginsWith
@@ -154,7 +154,7 @@ module _ (bs : List Block) (ls : List Label) (ms : List LineBlock) (s : List ℕ
         group-debug h3 (debugRows (flatMap blockRows bs) (symbolLines ls) (linkerLines rs) (indexLines ls) (lineLines s ms))
         ∙ debug-tables h3 (indexLines ls) (lineLines s ms) barLine (indices-no-bars ls start-in) bar-is
         ∙ rw
-        (indices-back h3 ls (reordered-find labelKey by-start distinct .1) start-in (placing-known ls (byAddress ls) (byStart ls) rl by-address by-start), labels-back ls (byAddress ls) (byStart ls) rl by-address by-start)
+        (indices-back h3 ls (reordered-atKey labelKey by-start distinct .1) start-in (placing-known ls (byAddress ls) (byStart ls) rl by-address by-start), labels-back ls (byAddress ls) (byStart ls) rl by-address by-start)
         (lines-back s ms x small sp iw h4 refl)
 
     read-groups :
@@ -204,7 +204,7 @@ module _ (bs : List Block) where
       let eb = blocks-end bs ib in
       let bl : List (List ℕ) = flatMap blockRows bs in
       let r : parseGroup emptyObject (ascii ".TEXT", bl) ≡ given onlyBlocks =
-      group-text emptyObject bl ∙ blocks-back emptyObject bs rb ib (all-of (λ b. refl) bs) ∙ rw (inserted-back blockKey bs bs rb (unchanged bs)) in
+      group-text emptyObject bl ∙ blocks-back emptyObject bs rb ib (all-of (λ b. refl) bs) ∙ rw (sorted-back blockKey bs bs rb (unchanged bs)) in
       ap textObject short-lines
       ∙ text-path (flatMap textLine (title ∷ [] ∷ ascii ".TEXT" ∷ bl) ++ 0x0A ∷ []) (ascii ".TEXT" ∷ bl) ((ascii ".TEXT", bl) ∷ []) onlyBlocks (short-utf8 bl ob eb) (short-body bl ob eb) (short-parts bl ob eb) (rw r) refl
 

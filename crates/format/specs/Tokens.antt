@@ -1,4 +1,4 @@
--- Three walks along a list. Assumes nothing.
+-- Walks along a list: cut into tokens, with a state, and cut before each head. Assumes nothing.
 use mathlib.Core.Bool.{Bool}
 use mathlib.Core.List.{List, [], _∷_}
 use Prim.Native.Nat.{ℕ, zero, suc}
@@ -6,7 +6,8 @@ use Rattle.format.specs.Basics.{Outcome, given, _>>=_, if_then_else_}
 
 module _ {A B : Type 0} (one : List A → Outcome (B × ℕ)) where
   -- Cut a list into tokens. `one` is asked at the start of each token: it gives the token and how many elements it has after its first.
-  -- The number counts the elements of the current token that are still to be passed over.
+  -- The number counts the elements of the current token that are still to be passed over. A token longer than what is left would end
+  -- with the list; every `one` here refuses before it gives such a token.
   unfoldable pub tokens : ℕ → List A → Outcome (List B)
   tokens k [] = given []
   tokens zero (a ∷ xs) = one (a ∷ xs) >>= λ t. tokens (t .1) xs >>= λ ts. given (t .0 ∷ ts)
