@@ -12,7 +12,7 @@ use Rattle.format.specs.Utf8.{isUtf8}
 use Rattle.format.specs.Sorted.{upsertAll}
 use Rattle.format.proofs.SortedLaws.{Rises}
 use Rattle.format.proofs.GatherLaws.{sorted-back}
-use Rattle.format.specs.ObjectFile.{Block, Label, LineBlock, Relocation, ObjectFile, blockKey, consistent, fair, apart, sourceText}
+use Rattle.format.specs.ObjectFile.{Block, Label, LineBlock, Relocation, ObjectFile, blockKey, consistent, apart, sourceText}
 use Rattle.format.specs.Records.{Record, block, label, lineBlock, source, relocation, recordsOf, sourceRecords, dropStrayRelocations, emptyObject, withLines}
 use Rattle.format.specs.Words.{textWords, numberWords, recordWords, wordsOf}
 use Rattle.format.specs.Binary.{header, binaryFile, binaryRecords, binaryObject}
@@ -20,10 +20,12 @@ use Rattle.format.specs.Calls.{Reordered, inOrder}
 use Rattle.format.specs.Trips.{swapRelocations}
 use Rattle.format.proofs.ListLaws.{unchanged, all-map, all-both, all-reordered, all-images, part-fits, empty-reordered, empty-is}
 use Rattle.format.proofs.Ranges.{WellFormed, InRange, InBlock, InLabel, InLine, InRelocation, PartsHave, to-parts, of-parts}
-use Rattle.format.proofs.FairLaws.{Consistent, consistent-parts, FairLine, FairSource, fair-source, fair-blocks}
+use Rattle.format.proofs.FairLaws.{Consistent, consistent-parts, fair-source, fair-blocks}
+use Rattle.format.specs.Fair.{FairLineBlock, FairSource, FairParts}
 use Rattle.format.proofs.BinaryBack.{Writable, records-back}
 use Rattle.format.proofs.BinaryTrip.{binary-trip, gather-blocks, back-blocks}
 use Rattle.format.proofs.SwapLaws.{all-fit}
+use Rattle.format.specs.Fair.{FairSource}
 
 -- the length of a record's text fits its 8 bytes
 abbrev pub Short : Record → Type 0
@@ -58,8 +60,8 @@ block-writable b h n = (h .0, omega arith, h .1)
 label-writable : (l : Label) → InLabel l → isUtf8 (l .name) ≡ true → Short (label l) → Writable (label l)
 label-writable l h u s = (h .0, h .1, (omega arith, u))
 
-line-writable : (t : List ℕ) (l : LineBlock) → InLine l → FairLine t l → Writable (lineBlock l)
-line-writable t l h f = let n = f .few-lines in (h .0, omega arith, h .1, f .rise)
+line-writable : (t : List ℕ) (l : LineBlock) → InLine l → FairLineBlock t l → Writable (lineBlock l)
+line-writable t l h f = let n = f .few-lines in (h .0, omega arith, h .1, f .rising)
 
 source-writable : (s : List ℕ) → isUtf8 s ≡ true → Short (source s) → Writable (source s)
 source-writable s u h = (omega arith, u)
@@ -102,23 +104,23 @@ module _ (h : ObjectFile) (ls : List Label) (rs : List Relocation) (w : WellForm
       (all-reordered (λ x. InRelocation x × (isUtf8 (x .name) ≡ true)) q (all-both InRelocation (λ x. isUtf8 (x .name) ≡ true) (h .relocations) (r .relocations) (sounds .names .relocations))) (all-reordered (λ x. Short (relocation x)) q (short .relocations)))
 
   lines-writable : (s : List ℕ) → FairSource h s → All (λ l. Writable (lineBlock l)) (h .lineBlocks)
-  lines-writable s f = all-map (λ l u. line-writable s l (u .0) (u .1)) (h .lineBlocks) (all-both InLine (FairLine s) (h .lineBlocks) (r .lineBlocks) (f .lineBlocks))
+  lines-writable s f = all-map (λ l u. line-writable s l (u .0) (u .1)) (h .lineBlocks) (all-both InLine (FairLineBlock s) (h .lineBlocks) (r .lineBlocks) (f .line-blocks))
 
 -- the object with this source
 abbrev holds : ObjectFile → Option (List ℕ) → ObjectFile
 holds h o = withLines h (h .lineBlocks) o
 
 by-source :
-    (h : ObjectFile) (o : Option (List ℕ)) (ls : List Label) (rs : List Relocation) → WellFormed (holds h o) → InRange (holds h o) → fair (holds h o) ≡ true
+    (h : ObjectFile) (o : Option (List ℕ)) (ls : List Label) (rs : List Relocation) → WellFormed (holds h o) → InRange (holds h o) → FairParts (holds h o)
     → Reordered (h .labels) ls → Reordered (h .relocations) rs → PartsHave Short (holds h o)
     → binaryObject (binaryFile (inOrder (holds h o) ls rs)) ≡ given (swapRelocations (holds h o))
 unfolding swapRelocations sourceRecords sourceText isEmpty upsertAll
 by-source h none ls rs w r f p q short =
-    let b = fair-blocks (holds h none) refl (w .consistent) f in
+    let b = fair-blocks (holds h none) refl f in
     let l : ls ≡ [] = empty-is ls (sym (empty-reordered p) ∙ ap isEmpty (b .labels)) in
     let m : rs ≡ [] = empty-is rs (sym (empty-reordered q) ∙ ap isEmpty (b .relocations)) in
     let e = blocks-trip (h .blocks) (w .blocks) (blocks-writable (holds h none) ls rs w r p q short) in
-    rw (l, m, b .labels, b .lineBlocks, b .relocations) e
+    rw (l, m, b .labels, b .line-blocks, b .relocations) e
 by-source h (some s) ls rs w r f p q short =
     let g : ObjectFile = holds h (some s) in
     let fs : FairSource g s = fair-source g s refl f in
@@ -128,6 +130,6 @@ by-source h (some s) ls rs w r f p q short =
     (source-writable s (u .text) (short .source .0), tt) (relocations-writable g ls rs w r p q short))
 
 pub binary-fair :
-    (h : ObjectFile) (ls : List Label) (rs : List Relocation) → WellFormed h → InRange h → fair h ≡ true → Reordered (h .labels) ls → Reordered (h .relocations) rs
+    (h : ObjectFile) (ls : List Label) (rs : List Relocation) → WellFormed h → InRange h → FairParts h → Reordered (h .labels) ls → Reordered (h .relocations) rs
     → PartsHave Short h → binaryObject (binaryFile (inOrder h ls rs)) ≡ given (swapRelocations h)
 binary-fair h ls rs = by-source h (h .source) ls rs

@@ -10,9 +10,9 @@ use lib.Dec.{ltb, eqb}
 use borrow.Author.Tests.{ltb-true}
 use Rattle.format.specs.Basics.{given, _>>=_, if_then_else_, ascii, isEmpty, chain, All, isSome}
 use Rattle.format.specs.Utf8.{trim, characters}
-use Rattle.format.specs.ObjectFile.{LineBlock, ObjectFile, lineEnd, newlines}
+use Rattle.format.specs.ObjectFile.{LineBlock, ObjectFile, lineEnd}
 use Rattle.format.specs.Records.{withLines}
-use Rattle.format.specs.Source.{lineCount}
+use Rattle.format.specs.Source.{lineCount, newlines}
 use Rattle.format.specs.TextWriter.{textLine, tableDiv, spaces, toLeft, decimal, widest, Row, addBlocks, lineRows, sourceCell, lineTable as lineText}
 use Rattle.format.specs.TextReader.{splitn, sameCells, rowsUnder, parseLabelTable, parseLineRows, runsFrom, unescape, parseLineTable, isBar, splitAtBar, upToBar, parseDebugGroup}
 use Rattle.format.proofs.ListLaws.{both, all-append, flatMap-map}
@@ -24,7 +24,7 @@ use Rattle.format.proofs.LineLaws.{one-line-append, printable-line}
 use Rattle.format.proofs.CellLaws.{cells-2, undivided-solid}
 use Rattle.format.proofs.RowLaws.{Ordinary, Starts, Numbered, starts-append, row-ordinary, printable-text, spaces-printable, divider-printable, lineLine, line-rows, line-ordinary}
 use Rattle.format.proofs.LabelTrip.{rows-under, same-self, left-cell}
-use Rattle.format.proofs.FairLaws.{FairLine}
+use Rattle.format.specs.Fair.{FairLineBlock, gapsBetween}
 use Rattle.format.proofs.RunLaws.{rowsFrom, plain-rows, laid, Spaced, add-blocks, runs-back, laid-length, laid-words, rows-addresses, rows-numbered}
 use Rattle.format.proofs.SourceLaws.{cells-flatMap, source-unescapes, cell-printable}
 
@@ -192,14 +192,11 @@ abbrev pub firstOf : List LineBlock → List LineBlock
 firstOf [] = []
 firstOf (l ∷ ls) = l ∷ []
 
-abbrev pub gapped : LineBlock → LineBlock → Bool
-gapped l m = ltb (lineEnd l) (m .first)
-
-pub fair-spaced : (s : List ℕ) (ls : List LineBlock) (p : ℕ) → p ≤ lineCount s → All (λ l. p ≤ l .first) (firstOf ls) → All (FairLine s) ls → chain gapped ls ≡ true → Spaced p (lineCount s) ls
-unfolding chain lineCount
+pub fair-spaced : (s : List ℕ) (ls : List LineBlock) (p : ℕ) → p ≤ lineCount s → All (λ l. p ≤ l .first) (firstOf ls) → All (FairLineBlock s) ls → gapsBetween ls ≡ true → Spaced p (lineCount s) ls
+unfolding chain gapsBetween lineCount
 fair-spaced s [] p n h f c = n
-fair-spaced s (l ∷ []) p n h f c = let e = f .0 .end in (h .0, full-of (l .addresses) (f .0 .some-lines), omega arith)
+fair-spaced s (l ∷ []) p n h f c = let e = f .0 .in-source in (h .0, full-of (l .addresses) (f .0 .some-lines), omega arith)
 fair-spaced s (l ∷ m ∷ ls) p n h f c =
-    let e = f .0 .end in
-    let b = both (gapped l m) (chain gapped (m ∷ ls)) c in
+    let e = f .0 .in-source in
+    let b = both (ltb (lineEnd l) (m .first)) (gapsBetween (m ∷ ls)) c in
     (h .0, full-of (l .addresses) (f .0 .some-lines), fair-spaced s (m ∷ ls) (suc (lineEnd l)) (omega arith) (ltb-true (lineEnd l) (m .first) (b .0), tt) (f .1) (b .1))

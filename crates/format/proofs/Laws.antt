@@ -15,9 +15,9 @@ use Rattle.format.specs.Basics.{Outcome, refused, given, _>>=_, All}
 use Rattle.format.specs.Digits.{valueOf, digitsOf}
 use Rattle.format.specs.Tokens.{tokens}
 use Rattle.format.specs.Utf8.{isUtf8}
-use Rattle.format.specs.ObjectFile.{newlines}
 use Rattle.format.specs.Records.{source}
 use Rattle.format.specs.Binary.{sourceFrom, numberAt, bytesAt}
+use Rattle.format.specs.Source.{newlines}
 
 -- the digits of a number that fits give it back
 pub value-digits : (k n x : ℕ) → x < (2 ^ k) ^ n → valueOf k (digitsOf k n x) ≡ x

@@ -1,7 +1,6 @@
 pub mod Laws
 pub mod SortedLaws
 pub mod NumeralLaws
-pub mod TripsLaws
 pub mod TextLaws
 pub mod BinaryBack
 pub mod GatherLaws
@@ -16,12 +15,8 @@ pub mod WordsOnly
 pub mod WordsTrip
 pub mod SwapLaws
 pub mod Lengths
-pub mod TextSize
-pub mod TextGoal
 pub mod FairLaws
 pub mod BinaryFair
-pub mod TripLaws
-pub mod Demand3Proof
 pub mod ListFacts
 pub mod NumeralBack
 pub mod Utf8Laws
@@ -39,5 +34,6 @@ pub mod FileLaws
 pub mod DebugTrip
 pub mod TableLaws
 pub mod TextTrip
-pub mod Demand3Done
 pub mod Settled
+pub mod TripLaws
+pub mod Demand3

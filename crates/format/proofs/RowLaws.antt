@@ -1,23 +1,23 @@
 -- Each row that is written reads back. Assumes nothing.
 use mathlib.Core.Path.{_≡_, refl, sym, _∙_, ap}
-use mathlib.Core.Bool.{Bool, true, false, not, _&&_}
+use mathlib.Core.Bool.{Bool, true, false, not}
 use mathlib.Core.List.{List, [], _∷_, _++_, map, append-assoc}
 use mathlib.Core.Option.{Option, none, some}
 use Prim.Native.Nat.{ℕ, zero, suc, _-_, _^_, _<_}
 use native.Mathlib.Omega.{arith}
 use lib.ListN.{length}
 use lib.Dec.{eqb}
-use borrow.Author.Tests.{ne-eqb, eq-eqb, not-true}
+use borrow.Author.Tests.{ne-eqb, eq-eqb}
 use Rattle.format.specs.Basics.{given, ascii, beginsWith, isEmpty, All}
 use Rattle.format.specs.Digits.{digitsOf}
-use Rattle.format.specs.Utf8.{isUtf8, scalars, isBlank, trim, characters}
-use Rattle.format.specs.ObjectFile.{Label, Relocation, ObjectFile, fairName, hasNoWhite}
+use Rattle.format.specs.Utf8.{isUtf8, isBlank, trim, characters}
+use Rattle.format.specs.ObjectFile.{Label, Relocation, ObjectFile}
+use Rattle.format.specs.Fair.{FairName}
 use Rattle.format.specs.Records.{label, relocation, putRecord, labelNamed}
 use Rattle.format.specs.Words.{flagBit}
 use Rattle.format.specs.TextWriter.{spaces, toRight, toLeft, tableDiv, memoryText, hex4, decimal, Row}
 use Rattle.format.specs.TextReader.{hex2u16, parseDecimal, maybeHex2u16, splitn, parseSymbolRow, parseLinkerRow, parseLabelRow, parseLineRows}
 use Rattle.format.proofs.TextLaws.{OneLine}
-use Rattle.format.proofs.ListFacts.{and-left, and-right}
 use Rattle.format.proofs.ListLaws.{all-map}
 use Rattle.format.proofs.NumeralBack.{Numeric, Full, hex-back, hex-numeric, decimal-back, decimal-numeric, entry-back, entry-numeric, Word16}
 use Rattle.format.proofs.Utf8Laws.{Text, text-of, text-append, text-ascii}
@@ -102,24 +102,15 @@ clash c b bs h e =
     let z : _≡_ {A = Bool} true false = rw q at h in
     let w : _≡_ {A = ℕ} 0 1 = cc in omega arith
 
-starts-of : (n : List ℕ) → not (isEmpty n) ≡ true → beginsWith (ascii "#") n ≡ false → beginsWith (ascii ".") n ≡ false → Starts n
+starts-of : (n : List ℕ) → isEmpty n ≡ false → beginsWith (ascii "#") n ≡ false → beginsWith (ascii ".") n ≡ false → Starts n
 unfolding isEmpty ascii
 starts-of [] f a b = let z : _≡_ {A = ℕ} 0 1 = cc in absurd (omega arith)
 starts-of (x ∷ xs) f a b = (clash 0x23 x xs a, clash 0x2E x xs b)
 
-pub good-name : (n : List ℕ) → isUtf8 n ≡ true → fairName n ≡ true → GoodName n
-unfolding fairName
-good-name n u h =
-    let e1 = and-left (not (isEmpty n) && hasNoWhite (scalars n) && not (beginsWith (ascii ".") n) && not (beginsWith (ascii "#") n)) (not (beginsWith (ascii "=") n)) h in
-    let e2 = and-left (not (isEmpty n) && hasNoWhite (scalars n) && not (beginsWith (ascii ".") n)) (not (beginsWith (ascii "#") n)) e1 in
-    let e3 = and-left (not (isEmpty n) && hasNoWhite (scalars n)) (not (beginsWith (ascii ".") n)) e2 in
-    let bar = and-right (not (isEmpty n) && hasNoWhite (scalars n) && not (beginsWith (ascii ".") n) && not (beginsWith (ascii "#") n)) (not (beginsWith (ascii "=") n)) h in
-    let hash = and-right (not (isEmpty n) && hasNoWhite (scalars n) && not (beginsWith (ascii ".") n)) (not (beginsWith (ascii "#") n)) e1 in
-    let dot = and-right (not (isEmpty n) && hasNoWhite (scalars n)) (not (beginsWith (ascii ".") n)) e2 in
-    let white = and-right (not (isEmpty n)) (hasNoWhite (scalars n)) e3 in
-    let full = and-left (not (isEmpty n)) (hasNoWhite (scalars n)) e3 in
+pub good-name : (n : List ℕ) → isUtf8 n ≡ true → FairName n → GoodName n
+good-name n u f =
     let t = text-of n u in
-    (solid-name n t white, t, starts-of n full (not-true (beginsWith (ascii "#") n) hash) (not-true (beginsWith (ascii ".") n) dot), not-true (beginsWith (ascii "=") n) bar)
+    (solid-name n t (f .no-white-space), t, starts-of n (f .some-character) (f .no-hash) (f .no-dot), f .no-equals)
 
 -- a number to the right of its cell
 pub right-cell : (w n limit : ℕ) → n < 2 ^ 64 → n < limit → (parseDecimal limit (trim (toRight w (decimal n))) ≡ some n) × Undivided (toRight w (decimal n))

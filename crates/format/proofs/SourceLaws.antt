@@ -11,8 +11,7 @@ use lib.Dec.{ltb, eqb}
 use borrow.Author.Tests.{ltb-true, ltb-false, lt-ltb, le-ltb, eqb-true, eqb-false, ne-eqb}
 use Rattle.format.specs.Basics.{given, if_then_else_, All}
 use Rattle.format.specs.Utf8.{encodeScalar}
-use Rattle.format.specs.ObjectFile.{newlines}
-use Rattle.format.specs.Source.{lineCount, nlIndicesFrom, nlIndices, lineStart, rawLineSpan, spanBytes}
+use Rattle.format.specs.Source.{lineCount, nlIndicesFrom, nlIndices, lineStart, rawLineSpan, spanBytes, newlines}
 use Rattle.format.specs.TextWriter.{escape, escapeChar, sourceCell, Row}
 use Rattle.format.specs.TextReader.{onFirst, unescape}
 use Rattle.format.proofs.ListLaws.{by-test, all-images, all-map, flatMap-map}

@@ -12,12 +12,13 @@ use Rattle.format.specs.Basics.{if_then_else_, isEmpty, every, All}
 use Rattle.format.specs.Sorted.{order, thenBy, atKey, sorted, upsertAll}
 use Rattle.format.proofs.SortedLaws.{eq-of-compare, order-self, Rises}
 use Rattle.format.proofs.GatherLaws.{Distinct, rises-distinct, sorted-back}
-use Rattle.format.specs.ObjectFile.{Relocation, ObjectFile, relocationKey, namesOf, consistent, fair, fairName}
+use Rattle.format.specs.ObjectFile.{Relocation, ObjectFile, relocationKey, namesOf, consistent}
 use Rattle.format.specs.Records.{withRelocations}
 use Rattle.format.specs.Utf8.{isUtf8}
+use Rattle.format.specs.Fair.{FairName, FairParts, only-blocks, with-source}
 use Rattle.format.specs.Calls.{Reordered, chained}
 use Rattle.format.specs.Trips.{swapRelocations, swapRelocation, byteSwapped}
-use Rattle.format.proofs.ListLaws.{all-map, all-reordered, every-append, every-reordered, empty-reordered, flatMap-reordered, reordered-map, reordered-back}
+use Rattle.format.proofs.ListLaws.{all-parts, all-append, all-map, all-reordered, every-append, every-reordered, empty-reordered, flatMap-reordered, reordered-map, reordered-back}
 use Rattle.format.proofs.RisesLaws.{rises-sorted, reordered-sorted}
 use Rattle.format.proofs.Ranges.{WellFormed, InRange, InRelocation}
 
@@ -127,9 +128,21 @@ module _ (h : ObjectFile) (w : WellFormed h) (r : InRange h) where
   unfolding consistent swapRelocations
   swapped-consistent = rw (names-same isUtf8)
 
-  pub swapped-fair : fair (swapRelocations h) ≡ fair h
-  unfolding fair swapRelocations
-  swapped-fair = rw (names-same fairName, empty-same)
+  -- what holds of all names
+  names-all : (P : List ℕ → Type 0) → All P (namesOf h) → All P (namesOf (swapRelocations h))
+  unfolding namesOf swapRelocations
+  names-all P all =
+      let ls : List (List ℕ) = map (λ l. l .name) (h .labels) in
+      let a = all-parts P ls (map (λ q. q .name) (h .relocations)) all in
+      let b : All P (map (λ q. q .name) (map swapRelocation (h .relocations))) = rw (swap-names (h .relocations)) (a .1) in
+      all-append P ls (map (λ q. q .name) (anew h)) (a .0) (all-reordered P (reordered-map (λ (q : Relocation). q .name) swapped-order) b)
+
+  pub swapped-fair : FairParts h → FairParts (swapRelocations h)
+  unfolding swapRelocations upsertAll
+  swapped-fair (only-blocks b) =
+      only-blocks (record { labels = b .labels; line-blocks = b .line-blocks; source = b .source; relocations = rw (b .relocations) })
+  swapped-fair (with-source s f) =
+      with-source s (record { source = f .source; names = names-all FairName (f .names); line-blocks = f .line-blocks; gaps = f .gaps })
 
   pub swapped-well : WellFormed (swapRelocations h)
   unfolding swapRelocations

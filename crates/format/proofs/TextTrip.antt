@@ -13,7 +13,7 @@ use Rattle.format.specs.Sorted.{atKey, upsertAll}
 use Rattle.format.proofs.SortedLaws.{Rises}
 use Rattle.format.proofs.GatherLaws.{Distinct, rises-distinct, sorted-back, reordered-atKey}
 use Rattle.format.specs.Utf8.{isUtf8}
-use Rattle.format.specs.ObjectFile.{Block, Label, LineBlock, Relocation, ObjectFile, blockKey, labelKey, relocationKey, neverFall, sourceText, consistent, fairName, fair, newlines}
+use Rattle.format.specs.ObjectFile.{Block, Label, LineBlock, Relocation, ObjectFile, blockKey, labelKey, relocationKey, neverFall, sourceText, consistent}
 use Rattle.format.specs.Records.{source, emptyObject, dropStrayRelocations}
 use Rattle.format.specs.TextWriter.{textLine, blocksOnly, symbolGroups, textFile}
 use Rattle.format.specs.TextReader.{keptLines, afterMagic, parseGroup, parseTextGroup, parseSymbolGroup, parseLinkerGroup, parseDebugGroup, isBar, textObject}
@@ -26,11 +26,13 @@ use Rattle.format.proofs.RisesLaws.{reordered-sorted}
 use Rattle.format.proofs.OrderLaws.{distinct-front}
 use Rattle.format.proofs.BlockTrip.{InBlock, blockRows, blocks-back, blocks-ordinary, blocks-lines}
 use Rattle.format.proofs.LabelTrip.{InLabel, InRelocation, unplaced, byAddress, byStart, symbolLines, symbol-lines, symbols-back, indexLines, index-lines, indices-back, linkerLines, linker-lines, linker-back, placing-known, labels-back}
-use Rattle.format.proofs.FairLaws.{consistent-parts, fair-source, fair-blocks}
+use Rattle.format.specs.Fair.{FairName, FairParts}
+use Rattle.format.proofs.Ranges.{WellFormed, InRange}
+use Rattle.format.proofs.FairLaws.{of-names, consistent-parts, fair-source, fair-blocks}
 use Rattle.format.proofs.DebugTrip.{firstOf, debug-tables, lineLines, line-lines, lines-back, lines-ordinary, fair-spaced}
 use Rattle.format.proofs.TableLaws.{symbols-ordinary, linkers-ordinary, indices-ordinary, indices-no-bars, blocks-end}
 use Rattle.format.proofs.RunLaws.{Spaced}
-use Rattle.format.specs.Source.{lineCount}
+use Rattle.format.specs.Source.{lineCount, newlines}
 use Rattle.format.proofs.FileLaws.{title, comment, barLine, isHeader, debugRows, fullFile, fullBody, full-utf8, full-body, full-parts, short-utf8, short-body, short-parts}
 
 -- the reader's path
@@ -208,14 +210,6 @@ module _ (bs : List Block) where
       ap textObject short-lines
       ∙ text-path (flatMap textLine (title ∷ [] ∷ ascii ".TEXT" ∷ bl) ++ 0x0A ∷ []) (ascii ".TEXT" ∷ bl) ((ascii ".TEXT", bl) ∷ []) onlyBlocks (short-utf8 bl ob eb) (short-body bl ob eb) (short-parts bl ob eb) (rw r) refl
 
--- addresses and memory below 2 ^ 16, source starts below 2 ^ 64, and lines that can be numbered
-pub record InText (h : ObjectFile) : Type 0 where
-  pub blocks : All (λ b. (b .address < 2 ^ 16) × All Word16 (b .words)) (h .blocks)
-  pub labels : All (λ l. (l .address < 2 ^ 16) × (l .start < 2 ^ 64)) (h .labels)
-  pub lineBlocks : All (λ l. All (λ a. a < 2 ^ 16) (l .addresses)) (h .lineBlocks)
-  pub relocations : All (λ r. r .address < 2 ^ 16) (h .relocations)
-  pub count : newlines (sourceText (h .source)) < 2 ^ 64
-
 -- the count is in range too, as the object is sound
 blocks-in : (bs : List Block) → All (λ b. (b .address < 2 ^ 16) × All Word16 (b .words)) bs → All (λ b. length (b .words) ≤ 65535) bs → All InBlock bs
 blocks-in bs h e =
@@ -223,41 +217,44 @@ blocks-in bs h e =
 
 -- and the names are fair UTF-8
 labels-in :
-    (ls : List Label) → All (λ l. (l .address < 2 ^ 16) × (l .start < 2 ^ 64)) ls → All (λ l. isUtf8 (l .name) ≡ true) ls → All (λ l. fairName (l .name) ≡ true) ls → All InLabel ls
+    (ls : List Label) → All (λ l. (l .address < 2 ^ 16) × (l .start < 2 ^ 64)) ls → All (λ l. isUtf8 (l .name) ≡ true) ls → All (λ l. FairName (l .name)) ls → All InLabel ls
 labels-in ls h u f =
     all-map (λ l p. (p .0 .0, p .0 .1, good-name (l .name) (p .1 .0) (p .1 .1))) ls
-    (all-both (λ l. (l .address < 2 ^ 16) × (l .start < 2 ^ 64)) (λ l. (isUtf8 (l .name) ≡ true) × (fairName (l .name) ≡ true)) ls h (all-both (λ l. isUtf8 (l .name) ≡ true) (λ l. fairName (l .name) ≡ true) ls u f))
+    (all-both (λ l. (l .address < 2 ^ 16) × (l .start < 2 ^ 64)) (λ l. (isUtf8 (l .name) ≡ true) × (FairName (l .name))) ls h (all-both (λ l. isUtf8 (l .name) ≡ true) (λ l. FairName (l .name)) ls u f))
 
 relocations-in :
-    (rs : List Relocation) → All (λ r. r .address < 2 ^ 16) rs → All (λ r. isUtf8 (r .name) ≡ true) rs → All (λ r. fairName (r .name) ≡ true) rs → All InRelocation rs
+    (rs : List Relocation) → All (λ r. r .address < 2 ^ 16) rs → All (λ r. isUtf8 (r .name) ≡ true) rs → All (λ r. FairName (r .name)) rs → All InRelocation rs
 relocations-in rs h u f =
     all-map (λ r p. (p .0, good-name (r .name) (p .1 .0) (p .1 .1))) rs
-    (all-both (λ r. r .address < 2 ^ 16) (λ r. (isUtf8 (r .name) ≡ true) × (fairName (r .name) ≡ true)) rs h (all-both (λ r. isUtf8 (r .name) ≡ true) (λ r. fairName (r .name) ≡ true) rs u f))
+    (all-both (λ r. r .address < 2 ^ 16) (λ r. (isUtf8 (r .name) ≡ true) × (FairName (r .name))) rs h (all-both (λ r. isUtf8 (r .name) ≡ true) (λ r. FairName (r .name)) rs u f))
 
--- every fair object that is in range
+-- every fair object that is in range, and whose lines can be numbered
 module _ (bs : List Block) (ls : List Label) (ms : List LineBlock) (rs : List Relocation) where
-  abbrev holdingWith : Option (List ℕ) → ObjectFile
-  holdingWith o = record { blocks = bs; labels = ls; lineBlocks = ms; source = o; relocations = rs }
+  abbrev objectWith : Option (List ℕ) → ObjectFile
+  objectWith o = record { blocks = bs; labels = ls; lineBlocks = ms; source = o; relocations = rs }
 
   trip-of :
-      (o : Option (List ℕ)) → Rises blockKey bs → Rises labelKey ls → Rises relocationKey rs → InText (holdingWith o) → consistent (holdingWith o) ≡ true → fair (holdingWith o) ≡ true
-      → textObject (textFile (holdingWith o)) ≡ given (holdingWith o)
+      (o : Option (List ℕ)) → WellFormed (objectWith o) → InRange (objectWith o) → FairParts (objectWith o) → newlines (sourceText o) < 2 ^ 64
+      → textObject (textFile (objectWith o)) ≡ given (objectWith o)
   unfolding sourceText lineCount
-  trip-of none rb rl rr i so fa =
-      let e = fair-blocks (holdingWith none) refl so fa in
-      rw (e .labels, e .lineBlocks, e .relocations) (blocks-trip bs rb (blocks-in bs (i .blocks) (consistent-parts (holdingWith none) so .counts)))
-  trip-of (some s) rb rl rr i so fa =
-      let p = consistent-parts (holdingWith (some s)) so in
-      let f = fair-source (holdingWith (some s)) s refl fa in
-      source-trip bs ls ms s rs rb rl rr (blocks-in bs (i .blocks) (p .counts)) (labels-in ls (i .labels) (p .names .labels) (f .names .labels))
-      (relocations-in rs (i .relocations) (p .names .relocations) (f .names .relocations)) (text-of s (p .text)) (i .count)
-      (fair-spaced s ms 0 (omega arith) (starts ms) (f .lineBlocks) (f .gaps)) (i .lineBlocks) (every-all (λ l. neverFall (l .addresses)) ms (p .falls))
+  trip-of none w r f n =
+      let e = fair-blocks (objectWith none) refl f in
+      rw (e .labels, e .line-blocks, e .relocations)
+      (blocks-trip bs (w .blocks) (blocks-in bs (r .blocks) (consistent-parts (objectWith none) (w .consistent) .counts)))
+  trip-of (some s) w r f n =
+      let p = consistent-parts (objectWith (some s)) (w .consistent) in
+      let g = fair-source (objectWith (some s)) s refl f in
+      let names = of-names FairName (objectWith (some s)) (g .names) in
+      source-trip bs ls ms s rs (w .blocks) (w .labels) (w .relocations) (blocks-in bs (r .blocks) (p .counts))
+      (labels-in ls (all-map (λ l q. (q .0, q .1)) ls (r .labels)) (p .names .labels) (names .labels))
+      (relocations-in rs (all-map (λ x q. q .0) rs (r .relocations)) (p .names .relocations) (names .relocations)) (text-of s (p .text)) n
+      (fair-spaced s ms 0 (omega arith) (starts ms) (g .line-blocks) (g .gaps)) (all-map (λ l q. q .1) ms (r .lineBlocks))
+      (every-all (λ l. neverFall (l .addresses)) ms (p .falls))
     where
       starts : (xs : List LineBlock) → All (λ l. 0 ≤ l .first) (firstOf xs)
       starts [] = tt
       starts (x ∷ xs) = (omega arith, tt)
 
 pub text-trip :
-    (h : ObjectFile) → Rises blockKey (h .blocks) → Rises labelKey (h .labels) → Rises relocationKey (h .relocations) → InText h → consistent h ≡ true → fair h ≡ true
-    → textObject (textFile h) ≡ given h
-text-trip h rb rl rr i so fa = trip-of (h .blocks) (h .labels) (h .lineBlocks) (h .relocations) (h .source) rb rl rr i so fa
+    (h : ObjectFile) → WellFormed h → InRange h → FairParts h → newlines (sourceText (h .source)) < 2 ^ 64 → textObject (textFile h) ≡ given h
+text-trip h = trip-of (h .blocks) (h .labels) (h .lineBlocks) (h .relocations) (h .source)

@@ -8,9 +8,9 @@ use native.Mathlib.Omega.{arith}
 use lib.ListN.{length, replicate}
 use lib.Dec.{ltb}
 use borrow.Author.Tests.{ltb-true, ltb-false, le-leb, lt-leb, ne-eqb, not-true}
-use Rattle.format.specs.Basics.{given, if_then_else_, isEmpty, every, All}
+use Rattle.format.specs.Basics.{if_then_else_, isEmpty, every, All}
 use Rattle.format.specs.Utf8.{encodeScalar, charAt, scalars, isWhiteSpace, whiteSpaceLength, passOver, trimFrom, trimStart, isBlank, trimEnd, trim}
-use Rattle.format.specs.ObjectFile.{hasNoWhite}
+use Rattle.format.specs.Fair.{noWhiteSpace}
 use Rattle.format.specs.TextWriter.{spaces}
 use Rattle.format.proofs.ListLaws.{all-every}
 use Rattle.format.proofs.NumeralBack.{Numeric}
@@ -68,10 +68,10 @@ unfolding flatMap
 solid-flatMap [] h w = tt
 solid-flatMap (c ∷ cs) h w = solid-char c (flatMap encodeScalar cs) (h .0) (not-true (isWhiteSpace c) (w .0)) (solid-flatMap cs (h .1) (w .1))
 
-pub solid-name : (t : List ℕ) → Text t → hasNoWhite (scalars t) ≡ true → Solid t
-unfolding hasNoWhite
+pub solid-name : (t : List ℕ) → Text t → noWhiteSpace t ≡ true → Solid t
+unfolding noWhiteSpace
 solid-name t x h =
-    let e : scalars t ≡ given (x .0) = sym (ap scalars (x .2)) ∙ scalars-of (x .0) (x .1) in
+    let e : scalars t ≡ some (x .0) = sym (ap scalars (x .2)) ∙ scalars-of (x .0) (x .1) in
     let k : every (λ c. not (isWhiteSpace c)) (x .0) ≡ true = rw e at h in
     subst (λ (r : List ℕ). Solid r) (x .2) (solid-flatMap (x .0) (x .1) (all-every (λ c. not (isWhiteSpace c)) (x .0) k))
 

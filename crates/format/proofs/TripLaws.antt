@@ -1,8 +1,8 @@
--- One trip, in either form: its number by the lengths of its buffers, and the object that stands after it. What the text form must do
--- for it is the parameter `text-trip`. Assumes nothing else.
+-- One trip, in either form: its number by the lengths of its buffers, and the words that stand after it. Each form has a step law,
+-- `FormStep`; what follows from it is said once, for every form. Assumes nothing.
 use mathlib.Core.Path.{_≡_, refl, sym, _∙_, ap, subst}
 use mathlib.Core.Bool.{Bool, true, false, _||_}
-use mathlib.Core.List.{List, []}
+use mathlib.Core.List.{List}
 use mathlib.Core.Option.{Option, none, some}
 use Prim.Native.Nat.{ℕ, _^_, _≤_, _<_}
 use native.Mathlib.Omega.{arith}
@@ -11,23 +11,24 @@ use lib.Seq.{take-append-seam}
 use lib.Dec.{leb, ltb, eqb}
 use borrow.Author.Tests.{leb-true, leb-false, le-leb, lt-ltb, le-ltb}
 use Rattle.format.specs.Basics.{Outcome, given, if_then_else_, every, All}
-use Rattle.format.specs.ObjectFile.{Label, Relocation, ObjectFile, fair, newlines, sourceText}
+use Rattle.format.specs.ObjectFile.{Label, Relocation, ObjectFile, sourceText}
+use Rattle.format.specs.Records.{sourceRecords}
 use Rattle.format.specs.Words.{wordsOf, objectOf}
+use Rattle.format.specs.Source.{newlines}
+use Rattle.format.specs.Fair.{FairParts, only-blocks, with-source}
 use Rattle.format.specs.Binary.{binaryFile, binaryObject, countsFit}
 use Rattle.format.specs.TextWriter.{textFile}
 use Rattle.format.specs.TextReader.{textObject}
 use Rattle.format.specs.Calls.{Filled, fill, inOrder, writeBinary, writeText, readBinary, readText}
-use Rattle.format.specs.Trips.{Form, binary, text, Trip, Writes, Reads, filledPart, TripMade, write-refused, read-refused, completed, fileIn, fileOf, isShort, swapRelocations}
-use Rattle.format.specs.Records.{sourceRecords}
+use Rattle.format.specs.Trips.{Form, binary, text, Trip, Writes, Reads, filledPart, TripMade, write-refused, read-refused, completed, fileIn, fileOf, isShort, swapRelocations, tripStep}
 use Rattle.format.proofs.Ranges.{WellFormed, InRange}
-use Rattle.format.proofs.FairLaws.{FairLine, fair-source, fair-blocks}
 use Rattle.format.proofs.ListLaws.{by-test, every-all, all-map}
 use Rattle.format.proofs.WordsTrip.{words-back, words-only}
 use Rattle.format.proofs.SwapLaws.{swapped-fair, swapped-well, swapped-range}
 use Rattle.format.proofs.Lengths.{binary-order, swapped-words}
 use Rattle.format.proofs.DebugTrip.{newlines-length}
-use Rattle.format.proofs.TextGoal.{TextTrip}
 use Rattle.format.proofs.BinaryFair.{binary-fair, texts-short, Short}
+use Rattle.format.proofs.TextTrip.{text-trip}
 
 -- a call that would give `out`, by the length of its buffer
 module _ (out buffer : List ℕ) (r : Filled) (e : r ≡ fill (given out) buffer) where
@@ -51,50 +52,91 @@ module _ (out buffer : List ℕ) (r : Filled) (e : r ≡ fill (given out) buffer
       no-case : leb (length out) (length buffer) ≡ false → (length buffer < length out) × (r .number ≡ 3)
       no-case t = (leb-false (length out) (length buffer) t, ap (λ (x : Filled). x .number) (rw t at e))
 
--- the words of a fair object
+-- the words of a fair object, few enough for a slice
 pub record Stands (ws : List ℕ) (h : ObjectFile) : Type 0 where
   pub words : wordsOf h ≡ ws
   pub well : WellFormed h
   pub range : InRange h
-  pub fair : fair h ≡ true
+  pub fair : FairParts h
   pub size : length ws < 2 ^ 62
 
-pub stands : (ws : List ℕ) (h : ObjectFile) → length ws < 2 ^ 62 → objectOf ws ≡ given h → fair h ≡ true → Stands ws h
+pub stands : (ws : List ℕ) (h : ObjectFile) → length ws < 2 ^ 62 → objectOf ws ≡ given h → FairParts h → Stands ws h
 stands ws h n e f = let o = words-only ws h e in record { words = o .0; well = o .1; range = o .2; fair = f; size = n }
 
-pub read-back : (ws : List ℕ) (h : ObjectFile) → Stands ws h → objectOf ws ≡ given h
+read-back : (ws : List ℕ) (h : ObjectFile) → Stands ws h → objectOf ws ≡ given h
 read-back ws h s = ap objectOf (sym (s .words)) ∙ words-back h (s .well) (s .range)
 
--- and the swapped object is fair too
-pub stands-swapped : (ws : List ℕ) (h : ObjectFile) → Stands ws h → Stands (wordsOf (swapRelocations h)) (swapRelocations h)
-stands-swapped ws h s = record {
-  words = refl;
-  well = swapped-well h (s .well) (s .range);
-  range = swapped-range h (s .well) (s .range);
-  fair = swapped-fair h (s .well) (s .range) ∙ s .fair;
-  size = let a = swapped-words h (s .well) (s .range) in let b : length (wordsOf h) ≡ length ws = ap length (s .words) in let c = s .size in omega arith;
-}
+words-few : (ws : List ℕ) (h : ObjectFile) → Stands ws h → length (wordsOf h) < 2 ^ 62
+words-few ws h s = subst (λ (x : List ℕ). length x < 2 ^ 62) (sym (s .words)) (s .size)
 
--- what stands after an unrefused trip
-abbrev pub after : Form → ObjectFile → ObjectFile
-after binary h = swapRelocations h
-after text h = h
+file-of : (f : Form) (ws : List ℕ) (h : ObjectFile) → Stands ws h → fileOf f ws ≡ fileIn f h
+unfolding fileOf
+file-of f ws h s = rw (read-back ws h s)
 
-no-counts : (h : ObjectFile) → h .lineBlocks ≡ [] → countsFit h ≡ true
-unfolding countsFit every
-no-counts h e = rw e
+-- what a write promises, and a read of the file written
+pub record Promise (f : Form) (ws : List ℕ) (h : ObjectFile) (buffer : List ℕ) (w : Filled) : Type 0 where
+  pub file : List ℕ
+  pub written : w ≡ fill (given file) buffer
+  pub size : length file ≡ length (fileOf f ws)
+  pub back : (room : List ℕ) (r : Filled) → Reads f file room r → r ≡ fill (given (wordsOf (tripStep f h))) room
 
-all-counts : (h : ObjectFile) (s : List ℕ) → All (FairLine s) (h .lineBlocks) → countsFit h ≡ true
-unfolding countsFit
-all-counts h s f = every-all (λ l. leb (length (l .addresses)) 65535) (h .lineBlocks) (all-map (λ l u. le-leb (length (l .addresses)) 65535 (u .few-lines)) (h .lineBlocks) f)
+-- A form's step law: a fair object's file comes back as the step of the object, which is fair too and has as many words.
+pub record FormStep (f : Form) : Type 0 where
+  pub promise : (ws : List ℕ) (h : ObjectFile) → Stands ws h → (buffer : List ℕ) (w : Filled) → Writes f ws buffer w → Promise f ws h buffer w
+  pub kept : (ws : List ℕ) (h : ObjectFile) → Stands ws h → Stands (wordsOf (tripStep f h)) (tripStep f h)
+  pub words : (ws : List ℕ) (h : ObjectFile) → Stands ws h → length (wordsOf (tripStep f h)) ≡ length ws
+
+-- the binary form
 
 -- question 2 is never answered no
-fair-counts : (h : ObjectFile) → WellFormed h → fair h ≡ true → countsFit h ≡ true
-fair-counts h w f = go (h .source) refl
-  where
-    go : (o : Option (List ℕ)) → h .source ≡ o → countsFit h ≡ true
-    go none e = no-counts h (fair-blocks h e (w .consistent) f .lineBlocks)
-    go (some s) e = all-counts h s (fair-source h s e f .lineBlocks)
+fair-counts : (h : ObjectFile) → FairParts h → countsFit h ≡ true
+unfolding countsFit every
+fair-counts h (only-blocks b) = rw (b .line-blocks)
+fair-counts h (with-source s f) =
+    every-all (λ l. leb (length (l .addresses)) 65535) (h .lineBlocks)
+    (all-map (λ l u. le-leb (length (l .addresses)) 65535 (u .few-lines)) (h .lineBlocks) (f .line-blocks))
+
+bytes-binary :
+    (ws : List ℕ) (h : ObjectFile) (ls : List Label) (rs : List Relocation) → objectOf ws ≡ given h → countsFit h ≡ true
+    → writeBinary ws ls rs ≡ given (binaryFile (inOrder h ls rs))
+unfolding writeBinary
+bytes-binary ws h ls rs e c = rw (e, c)
+
+words-binary : (bs : List ℕ) (h : ObjectFile) → binaryObject bs ≡ given h → readBinary bs ≡ given (wordsOf h)
+unfolding readBinary
+words-binary bs h e = rw e
+
+binary-words : (ws : List ℕ) (h : ObjectFile) → Stands ws h → length (wordsOf (swapRelocations h)) ≡ length ws
+binary-words ws h s = swapped-words h (s .well) (s .range) ∙ ap length (s .words)
+
+pub binary-step : FormStep binary
+binary-step = record {
+  promise = λ ws h s buffer w p.
+      let ls : List Label = p .0 in
+      let rs : List Relocation = p .1 in
+      let e = read-back ws h s in
+      let o = p .2 h e in
+      record {
+        file = binaryFile (inOrder h ls rs);
+        written = p .3 ∙ ap (λ (x : Outcome (List ℕ)). fill x buffer) (bytes-binary ws h ls rs e (fair-counts h (s .fair)));
+        size = binary-order h ls rs (o .0) (o .1) ∙ ap length (sym (file-of binary ws h s));
+        back = λ room r q.
+            q
+            ∙ ap (λ (x : Outcome (List ℕ)). fill x room)
+            (words-binary (binaryFile (inOrder h ls rs)) (swapRelocations h)
+            (binary-fair h ls rs (s .well) (s .range) (s .fair) (o .0) (o .1) (texts-short h (words-few ws h s))));
+      };
+  kept = λ ws h s. record {
+    words = refl;
+    well = swapped-well h (s .well) (s .range);
+    range = swapped-range h (s .well) (s .range);
+    fair = swapped-fair h (s .well) (s .range) (s .fair);
+    size = let a = binary-words ws h s in let c = s .size in omega arith;
+  };
+  words = binary-words;
+}
+
+-- the text form
 
 few-lines : (h : ObjectFile) → length (wordsOf h) < 2 ^ 62 → newlines (sourceText (h .source)) < 2 ^ 64
 unfolding sourceRecords sourceText newlines
@@ -104,37 +146,32 @@ few-lines h n = go (h .source) (texts-short h n .source)
     go none a = omega arith
     go (some s) a = let e = newlines-length s in let b = a .0 in omega arith
 
--- what a write and a read of its file give
-pub record Promise (f : Form) (ws : List ℕ) (h : ObjectFile) (buffer : List ℕ) (w : Filled) : Type 0 where
-  pub file : List ℕ
-  pub written : w ≡ fill (given file) buffer
-  pub size : length file ≡ length (fileOf f ws)
-  pub back : (room : List ℕ) (r : Filled) → Reads f file room r → r ≡ fill (given (wordsOf (after f h))) room
-
-file-of : (f : Form) (ws : List ℕ) (h : ObjectFile) → objectOf ws ≡ given h → fileOf f ws ≡ fileIn f h
-unfolding fileOf
-file-of f ws h e = rw e
-
-bytes-binary :
-    (ws : List ℕ) (h : ObjectFile) (ls : List Label) (rs : List Relocation) → objectOf ws ≡ given h → countsFit h ≡ true → writeBinary ws ls rs ≡ given (binaryFile (inOrder h ls rs))
-unfolding writeBinary
-bytes-binary ws h ls rs e c = rw (e, c)
-
 bytes-text : (ws : List ℕ) (h : ObjectFile) → objectOf ws ≡ given h → writeText ws ≡ given (textFile h)
 unfolding writeText
 bytes-text ws h e = rw e
-
-words-binary : (bs : List ℕ) (h : ObjectFile) → binaryObject bs ≡ given h → readBinary bs ≡ given (wordsOf h)
-unfolding readBinary
-words-binary bs h e = rw e
 
 words-text : (bs : List ℕ) (h : ObjectFile) → textObject bs ≡ given h → readText bs ≡ given (wordsOf h)
 unfolding readText
 words-text bs h e = rw e
 
-after-size : (f : Form) (ws : List ℕ) (h : ObjectFile) → Stands ws h → length (wordsOf (after f h)) ≡ length ws
-after-size binary ws h s = swapped-words h (s .well) (s .range) ∙ ap length (s .words)
-after-size text ws h s = ap length (s .words)
+pub text-step : FormStep text
+text-step = record {
+  promise = λ ws h s buffer w p. record {
+    file = textFile h;
+    written = p ∙ ap (λ (x : Outcome (List ℕ)). fill x buffer) (bytes-text ws h (read-back ws h s));
+    size = ap length (sym (file-of text ws h s));
+    back = λ room r q.
+        q
+        ∙ ap (λ (x : Outcome (List ℕ)). fill x room)
+        (words-text (textFile h) h (text-trip h (s .well) (s .range) (s .fair) (few-lines h (words-few ws h s))));
+  };
+  kept = λ ws h s. record { words = refl; well = s .well; range = s .range; fair = s .fair; size = words-few ws h s };
+  words = λ ws h s. ap length (s .words);
+}
+
+pub form-step : (f : Form) → FormStep f
+form-step binary = binary-step
+form-step text = text-step
 
 -- a trip by the lengths of its buffers, the file's and the object's
 module _ (t : Trip) (ws : List ℕ) where
@@ -151,59 +188,33 @@ module _ (t : Trip) (ws : List ℕ) where
 -- its number, and what stands after it
 pub record Turn (t : Trip) (ws : List ℕ) (h : ObjectFile) (n : ℕ) (next : List ℕ) : Type 0 where
   pub number : n ≡ (if isShort t ws then 3 else 0)
-  pub stood : next ≡ (if eqb n 0 then wordsOf (after (t .form) h) else ws)
+  pub stood : next ≡ (if eqb n 0 then wordsOf (tripStep (t .form) h) else ws)
 
-module _ (text-trip : TextTrip) where
-  promise : (f : Form) (ws : List ℕ) (h : ObjectFile) → Stands ws h → (buffer : List ℕ) (w : Filled) → Writes f ws buffer w → Promise f ws h buffer w
-  promise binary ws h s buffer w p =
-      let ls : List Label = p .0 in
-      let rs : List Relocation = p .1 in
-      let e = read-back ws h s in
-      let o = p .2 h e in
-      record {
-        file = binaryFile (inOrder h ls rs);
-        written = p .3 ∙ ap (λ (x : Outcome (List ℕ)). fill x buffer) (bytes-binary ws h ls rs e (fair-counts h (s .well) (s .fair)));
-        size = binary-order h ls rs (o .0) (o .1) ∙ ap length (sym (file-of binary ws h e));
-        back = λ room r q.
-            q
-            ∙ ap (λ (x : Outcome (List ℕ)). fill x room)
-            (words-binary (binaryFile (inOrder h ls rs)) (swapRelocations h) (binary-fair h ls rs (s .well) (s .range) (s .fair) (o .0) (o .1) (texts-short h (let b : length (wordsOf h) ≡ length ws = ap length (s .words) in let c = s .size in omega arith))));
-      }
-  promise text ws h s buffer w p =
-      let e = read-back ws h s in
-      record {
-        file = textFile h;
-        written = p ∙ ap (λ (x : Outcome (List ℕ)). fill x buffer) (bytes-text ws h e);
-        size = ap length (sym (file-of text ws h e));
-        back = λ room r q.
-            q ∙ ap (λ (x : Outcome (List ℕ)). fill x room) (words-text (textFile h) h (text-trip h (s .well) (s .range) (s .fair) (few-lines h (let b : length (wordsOf h) ≡ length ws = ap length (s .words) in let c = s .size in omega arith))));
-      }
-
-  -- a trip from the words of a fair object
-  pub takes-law : (t : Trip) (ws : List ℕ) (h : ObjectFile) (n : ℕ) (next : List ℕ) → Stands ws h → TripMade t ws n next → Turn t ws h n next
-  takes-law t ws h n next s (write-refused w p ne) =
-      let x = promise (t .form) ws h s (t .bytes) w p in
-      let o = not-filled (x .file) (t .bytes) w (x .written) ne in
-      let z = x .size in
-      let a : bytesShort t ws ≡ true = lt-ltb (length (t .bytes)) (length (fileOf (t .form) ws)) (omega arith) in
-      record { number = o .1 ∙ sym (number-of t ws true (wordsShort t ws) a refl); stood = rw (o .1) }
-  takes-law t ws h n next s (read-refused w r p e q ne) =
-      let x = promise (t .form) ws h s (t .bytes) w p in
-      let o = filled (x .file) (t .bytes) w (x .written) e in
-      let z = x .size in
-      let y = after-size (t .form) ws h s in
-      let q′ : Reads (t .form) (x .file) (t .words) r = subst (λ (b : List ℕ). Reads (t .form) b (t .words) r) (o .1) q in
-      let u = not-filled (wordsOf (after (t .form) h)) (t .words) r (x .back (t .words) r q′) ne in
-      let a : bytesShort t ws ≡ false = le-ltb (length (t .bytes)) (length (fileOf (t .form) ws)) (omega arith) in
-      let b : wordsShort t ws ≡ true = lt-ltb (length (t .words)) (length ws) (omega arith) in
-      record { number = u .1 ∙ sym (number-of t ws false true a b); stood = rw (u .1) }
-  takes-law t ws h n next s (completed w r p e q d) =
-      let x = promise (t .form) ws h s (t .bytes) w p in
-      let o = filled (x .file) (t .bytes) w (x .written) e in
-      let z = x .size in
-      let y = after-size (t .form) ws h s in
-      let q′ : Reads (t .form) (x .file) (t .words) r = subst (λ (b : List ℕ). Reads (t .form) b (t .words) r) (o .1) q in
-      let u = filled (wordsOf (after (t .form) h)) (t .words) r (x .back (t .words) r q′) d in
-      let a : bytesShort t ws ≡ false = le-ltb (length (t .bytes)) (length (fileOf (t .form) ws)) (omega arith) in
-      let b : wordsShort t ws ≡ false = le-ltb (length (t .words)) (length ws) (omega arith) in
-      record { number = sym (number-of t ws false false a b); stood = u .1 }
+-- a trip from the words of a fair object
+pub trip-law : (t : Trip) (ws : List ℕ) (h : ObjectFile) (n : ℕ) (next : List ℕ) → Stands ws h → TripMade t ws n next → Turn t ws h n next
+trip-law t ws h n next s (write-refused w p ne) =
+    let x = form-step (t .form) .promise ws h s (t .bytes) w p in
+    let o = not-filled (x .file) (t .bytes) w (x .written) ne in
+    let z = x .size in
+    let a : bytesShort t ws ≡ true = lt-ltb (length (t .bytes)) (length (fileOf (t .form) ws)) (omega arith) in
+    record { number = o .1 ∙ sym (number-of t ws true (wordsShort t ws) a refl); stood = rw (o .1) }
+trip-law t ws h n next s (read-refused w r p e q ne) =
+    let x = form-step (t .form) .promise ws h s (t .bytes) w p in
+    let o = filled (x .file) (t .bytes) w (x .written) e in
+    let z = x .size in
+    let y = form-step (t .form) .words ws h s in
+    let q′ : Reads (t .form) (x .file) (t .words) r = subst (λ (b : List ℕ). Reads (t .form) b (t .words) r) (o .1) q in
+    let u = not-filled (wordsOf (tripStep (t .form) h)) (t .words) r (x .back (t .words) r q′) ne in
+    let a : bytesShort t ws ≡ false = le-ltb (length (t .bytes)) (length (fileOf (t .form) ws)) (omega arith) in
+    let b : wordsShort t ws ≡ true = lt-ltb (length (t .words)) (length ws) (omega arith) in
+    record { number = u .1 ∙ sym (number-of t ws false true a b); stood = rw (u .1) }
+trip-law t ws h n next s (completed w r p e q d) =
+    let x = form-step (t .form) .promise ws h s (t .bytes) w p in
+    let o = filled (x .file) (t .bytes) w (x .written) e in
+    let z = x .size in
+    let y = form-step (t .form) .words ws h s in
+    let q′ : Reads (t .form) (x .file) (t .words) r = subst (λ (b : List ℕ). Reads (t .form) b (t .words) r) (o .1) q in
+    let u = filled (wordsOf (tripStep (t .form) h)) (t .words) r (x .back (t .words) r q′) d in
+    let a : bytesShort t ws ≡ false = le-ltb (length (t .bytes)) (length (fileOf (t .form) ws)) (omega arith) in
+    let b : wordsShort t ws ≡ false = le-ltb (length (t .words)) (length ws) (omega arith) in
+    record { number = sym (number-of t ws false false a b); stood = u .1 }

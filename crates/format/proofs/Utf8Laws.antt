@@ -9,9 +9,8 @@ use native.Mathlib.Omega.{arith}
 use lib.ListN.{length, drop}
 use lib.Dec.{ltb, leb}
 use borrow.Author.Tests.{ltb-true, ltb-false, leb-true, lt-ltb, le-ltb, le-leb, lt-leb}
-use Rattle.format.specs.Basics.{Outcome, refused, given, _>>=_, if_then_else_, need, All, isGiven}
-use Rattle.format.specs.Tokens.{tokens}
-use Rattle.format.specs.Utf8.{isBetween, isScalar, encodeScalar, follow, shortestForm, charAt, scalars, isUtf8}
+use Rattle.format.specs.Basics.{if_then_else_, andThen, isSome, All}
+use Rattle.format.specs.Utf8.{isBetween, isScalar, encodeScalar, follow, shortestForm, charAt, scalarsFrom, scalars, isUtf8}
 use Rattle.format.proofs.ListFacts.{and-left, and-right}
 use Rattle.format.proofs.ListLaws.{all-append, flatMap-append}
 
@@ -74,34 +73,34 @@ module _ (c : ℕ) (rest : List ℕ) (s : Scalar c) where
       rw
       (le-ltb (0xF0 + c / 262144) 0x80 (omega arith), lt-leb (0xF0 + c / 262144) 0xDF (omega arith), le-leb 0xC0 (0xF0 + c / 262144) (omega arith), lt-leb (0xF0 + c / 262144) 0xEF (omega arith), le-leb 0xE0 (0xF0 + c / 262144) (omega arith), le-leb 0xF0 (0xF0 + c / 262144) (omega arith), le-leb (0xF0 + c / 262144) 0xF7 (omega arith), le-leb 0x80 (0x80 + c / 4096 % 64) (omega arith), le-leb (0x80 + c / 4096 % 64) 0xBF (omega arith), le-leb 0x80 (0x80 + c / 64 % 64) (omega arith), le-leb (0x80 + c / 64 % 64) 0xBF (omega arith), le-leb 0x80 (0x80 + c % 64) (omega arith), le-leb (0x80 + c % 64) 0xBF (omega arith), e1, e2, e3, le-leb 0x10000 c h, s)
 
-  pub scalars-char : scalars (encodeScalar c ++ rest) ≡ (scalars rest >>= λ ds. given (c ∷ ds))
-  unfolding scalars encodeScalar tokens
+  pub scalars-char : scalars (encodeScalar c ++ rest) ≡ (andThen (scalars rest) λ ds. some (c ∷ ds))
+  unfolding scalarsFrom encodeScalar
   scalars-char = go (ltb c 0x80) refl (ltb c 0x800) refl (ltb c 0x10000) refl
     where
       go : (t : Bool) → ltb c 0x80 ≡ t → (u : Bool) → ltb c 0x800 ≡ u → (v : Bool) → ltb c 0x10000 ≡ v
-          → tokens (λ x. need 0 (charAt x)) 0 ((if t then c ∷ [] else if u then (0xC0 + c / 64) ∷ (0x80 + c % 64) ∷ [] else if v then (0xE0 + c / 4096) ∷ (0x80 + c / 64 % 64) ∷ (0x80 + c % 64) ∷ [] else (0xF0 + c / 262144) ∷ (0x80 + c / 4096 % 64) ∷ (0x80 + c / 64 % 64) ∷ (0x80 + c % 64) ∷ []) ++ rest)
-          ≡ (tokens (λ x. need 0 (charAt x)) 0 rest >>= λ ds. given (c ∷ ds))
+          → scalarsFrom 0 ((if t then c ∷ [] else if u then (0xC0 + c / 64) ∷ (0x80 + c % 64) ∷ [] else if v then (0xE0 + c / 4096) ∷ (0x80 + c / 64 % 64) ∷ (0x80 + c % 64) ∷ [] else (0xF0 + c / 262144) ∷ (0x80 + c / 4096 % 64) ∷ (0x80 + c / 64 % 64) ∷ (0x80 + c % 64) ∷ []) ++ rest)
+          ≡ (andThen (scalarsFrom 0 rest) λ ds. some (c ∷ ds))
       go true e u f v g = rw (char-one c rest (ltb-true c 0x80 e))
       go false e true f v g = rw (char-2 (ltb-false c 0x80 e) (ltb-true c 0x800 f))
       go false e false f true g = rw (char-3 (ltb-false c 0x800 f) (ltb-true c 0x10000 g))
       go false e false f false g = rw (char-4 (ltb-false c 0x10000 g))
 
-pub scalars-flatMap : (cs : List ℕ) (rest : List ℕ) → All Scalar cs → scalars (flatMap encodeScalar cs ++ rest) ≡ (scalars rest >>= λ ds. given (cs ++ ds))
+pub scalars-flatMap : (cs : List ℕ) (rest : List ℕ) → All Scalar cs → scalars (flatMap encodeScalar cs ++ rest) ≡ (andThen (scalars rest) λ ds. some (cs ++ ds))
 unfolding flatMap
 scalars-flatMap [] rest h = same (scalars rest)
   where
-    same : (o : Outcome (List ℕ)) → o ≡ (o >>= λ ds. given ds)
-    same (refused n) = refl
-    same (given a) = refl
+    same : (o : Option (List ℕ)) → o ≡ (andThen o λ ds. some ds)
+    same none = refl
+    same (some a) = refl
 scalars-flatMap (c ∷ cs) rest h =
     rw (append-assoc (encodeScalar c) (flatMap encodeScalar cs) rest, scalars-char c (flatMap encodeScalar cs ++ rest) (h .0), scalars-flatMap cs rest (h .1)) (twice (scalars rest))
   where
-    twice : (o : Outcome (List ℕ)) → (o >>= (λ ds. given (cs ++ ds)) >>= λ ds. given (c ∷ ds)) ≡ (o >>= λ ds. given (c ∷ (cs ++ ds)))
-    twice (refused n) = refl
-    twice (given a) = refl
+    twice : (o : Option (List ℕ)) → (andThen (andThen o λ ds. some (cs ++ ds)) λ ds. some (c ∷ ds)) ≡ (andThen o λ ds. some (c ∷ (cs ++ ds)))
+    twice none = refl
+    twice (some a) = refl
 
-pub scalars-of : (cs : List ℕ) → All Scalar cs → scalars (flatMap encodeScalar cs) ≡ given cs
-unfolding flatMap scalars tokens
+pub scalars-of : (cs : List ℕ) → All Scalar cs → scalars (flatMap encodeScalar cs) ≡ some cs
+unfolding flatMap scalarsFrom
 scalars-of [] h = refl
 scalars-of (c ∷ cs) h = scalars-char c (flatMap encodeScalar cs) (h .0) ∙ rw (scalars-of cs (h .1))
 
@@ -228,45 +227,45 @@ char-reads b bs c n h = go (ltb b 0x80) refl (leb 0xC0 b && leb b 0xDF) refl (le
     go false e false f false g false i h = let z : _≡_ {A = ℕ} 0 1 = cc in absurd (omega arith)
 
 -- every text is the bytes of its scalar values
-tokens-back :
-    (k : ℕ) (bs cs : List ℕ) → k ≤ length bs → tokens (λ x. need 0 (charAt x)) k bs ≡ given cs → (flatMap encodeScalar cs ≡ drop k bs) × All Scalar cs
-unfolding tokens flatMap
-tokens-back zero [] cs l h = let e : [] ≡ cs = cc in subst (λ (r : List ℕ). (flatMap encodeScalar r ≡ []) × All Scalar r) e (refl, tt)
-tokens-back (suc k) [] cs l h = absurd (omega arith)
-tokens-back (suc k) (b ∷ bs) cs l h = tokens-back k bs cs (omega arith) h
-tokens-back zero (b ∷ bs) cs l h = go (charAt (b ∷ bs)) refl h (λ k ds. tokens-back k bs ds)
+scalars-back :
+    (k : ℕ) (bs cs : List ℕ) → k ≤ length bs → scalarsFrom k bs ≡ some cs → (flatMap encodeScalar cs ≡ drop k bs) × All Scalar cs
+unfolding scalarsFrom flatMap
+scalars-back zero [] cs l h = let e : [] ≡ cs = cc in subst (λ (r : List ℕ). (flatMap encodeScalar r ≡ []) × All Scalar r) e (refl, tt)
+scalars-back (suc k) [] cs l h = absurd (omega arith)
+scalars-back (suc k) (b ∷ bs) cs l h = scalars-back k bs cs (omega arith) h
+scalars-back zero (b ∷ bs) cs l h = go (charAt (b ∷ bs)) refl h (λ k ds. scalars-back k bs ds)
   where
-    more : (c n : ℕ) → charAt (b ∷ bs) ≡ some (c, n) → (o : Outcome (List ℕ)) → tokens (λ x. need 0 (charAt x)) n bs ≡ o → (o >>= λ ts. given (c ∷ ts)) ≡ given cs
-        → ((ds : List ℕ) → n ≤ length bs → tokens (λ x. need 0 (charAt x)) n bs ≡ given ds → (flatMap encodeScalar ds ≡ drop n bs) × All Scalar ds)
+    more : (c n : ℕ) → charAt (b ∷ bs) ≡ some (c, n) → (o : Option (List ℕ)) → scalarsFrom n bs ≡ o → (andThen o λ ts. some (c ∷ ts)) ≡ some cs
+        → ((ds : List ℕ) → n ≤ length bs → scalarsFrom n bs ≡ some ds → (flatMap encodeScalar ds ≡ drop n bs) × All Scalar ds)
         → (flatMap encodeScalar cs ≡ b ∷ bs) × All Scalar cs
-    more c n e (refused m) f h ih = let z : _≡_ {A = ℕ} 0 1 = cc in absurd (omega arith)
-    more c n e (given ds) f h ih =
+    more c n e none f h ih = let z : _≡_ {A = ℕ} 0 1 = cc in absurd (omega arith)
+    more c n e (some ds) f h ih =
         let r = char-reads b bs c n e in
         let i = ih ds (r .1) f in
         let q : c ∷ ds ≡ cs = cc in
         subst (λ (x : List ℕ). (flatMap encodeScalar x ≡ b ∷ bs) × All Scalar x) q (ap (λ (x : List ℕ). encodeScalar c ++ x) (i .0) ∙ r .0, (r .2, i .1))
 
-    go : (o : Option (ℕ × ℕ)) → charAt (b ∷ bs) ≡ o → (need 0 o >>= λ t. tokens (λ x. need 0 (charAt x)) (t .1) bs >>= λ ts. given (t .0 ∷ ts)) ≡ given cs
-        → ((k : ℕ) (ds : List ℕ) → k ≤ length bs → tokens (λ x. need 0 (charAt x)) k bs ≡ given ds → (flatMap encodeScalar ds ≡ drop k bs) × All Scalar ds)
+    go : (o : Option (ℕ × ℕ)) → charAt (b ∷ bs) ≡ o → (andThen o λ t. andThen (scalarsFrom (t .1) bs) λ ts. some (t .0 ∷ ts)) ≡ some cs
+        → ((k : ℕ) (ds : List ℕ) → k ≤ length bs → scalarsFrom k bs ≡ some ds → (flatMap encodeScalar ds ≡ drop k bs) × All Scalar ds)
         → (flatMap encodeScalar cs ≡ b ∷ bs) × All Scalar cs
     go none e h ih = let z : _≡_ {A = ℕ} 0 1 = cc in absurd (omega arith)
-    go (some p) e h ih = more (p .0) (p .1) e (tokens (λ x. need 0 (charAt x)) (p .1) bs) refl h (ih (p .1))
+    go (some p) e h ih = more (p .0) (p .1) e (scalarsFrom (p .1) bs) refl h (ih (p .1))
 
 -- a text: the bytes of scalar values
 abbrev pub Text : List ℕ → Type 0
 Text t = (cs : List ℕ) × All Scalar cs × (flatMap encodeScalar cs ≡ t)
 
 pub text-of : (t : List ℕ) → isUtf8 t ≡ true → Text t
-unfolding isUtf8 scalars
-text-of t h = go (tokens (λ x. need 0 (charAt x)) 0 t) refl h
+unfolding isUtf8 isSome
+text-of t h = go (scalarsFrom 0 t) refl h
   where
-    go : (o : Outcome (List ℕ)) → tokens (λ x. need 0 (charAt x)) 0 t ≡ o → isGiven o ≡ true → Text t
-    go (refused n) e h = let z : _≡_ {A = ℕ} 0 1 = cc in absurd (omega arith)
-    go (given cs) e h = let r = tokens-back 0 t cs (omega arith) e in (cs, r .1, r .0)
+    go : (o : Option (List ℕ)) → scalarsFrom 0 t ≡ o → isSome o ≡ true → Text t
+    go none e h = let z : _≡_ {A = ℕ} 0 1 = cc in absurd (omega arith)
+    go (some cs) e h = let r = scalars-back 0 t cs (omega arith) e in (cs, r .1, r .0)
 
 pub text-utf8 : (t : List ℕ) → Text t → isUtf8 t ≡ true
-unfolding isUtf8
-text-utf8 t x = rw (sym (ap scalars (x .2)) ∙ scalars-of (x .0) (x .1))
+unfolding isUtf8 isSome
+text-utf8 t x = rw (← x .2, scalars-of (x .0) (x .1))
 
 pub text-append : (s t : List ℕ) → Text s → Text t → Text (s ++ t)
 text-append s t x y =

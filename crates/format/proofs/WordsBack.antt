@@ -13,7 +13,7 @@ use Rattle.format.specs.Basics.{given, All}
 use Rattle.format.specs.Digits.{valueOf, digitsOf}
 use Rattle.format.specs.Utf8.{isBetween}
 use Rattle.format.specs.Records.{Record, block, label, lineBlock, source, relocation}
-use Rattle.format.specs.Words.{word, flagBit, memoryWord, numberWords, textWords, recordWords, bitsOf, memoryOf, memoriesOf, addressesOf, numberOf, textPart, textFrom, isHead, recordFrom}
+use Rattle.format.specs.Words.{word, flagBit, memoryWord, numberWords, textWords, recordWords, bitsOf, memoryOf, memoriesOf, addressesOf, numberFrom, textPart, textFrom, isHead, recordFrom}
 use Rattle.format.proofs.Laws.{value-digits, digits-value}
 use Rattle.format.proofs.ListLaws.{all-append}
 use Rattle.format.proofs.Ranges.{In16, In64, Word16, Bytes, InWords}
@@ -46,8 +46,8 @@ addresses-back (x ∷ xs) h =
     let s : 2 ^ 16 + x - 2 ^ 16 ≡ x = omega arith in
     rw (bits-back 1 (2 ^ 17) (2 ^ 16 + x) (omega arith) (omega arith), le-leb (2 ^ 16) (2 ^ 16 + x) (omega arith), addresses-back xs (h .1), s)
 
-number-back : (n : ℕ) (ws : List ℕ) → In64 n → numberOf (numberWords n ++ ws) ≡ given (n, ws)
-unfolding numberOf numberWords digitsOf
+number-back : (n : ℕ) (ws : List ℕ) → In64 n → numberFrom (numberWords n ++ ws) ≡ given (n, ws)
+unfolding numberFrom numberWords digitsOf
 number-back n ws h =
     let v : valueOf 24 (digitsOf 24 3 n) ≡ n = value-digits 24 3 n (omega arith) in
     rw
@@ -171,13 +171,13 @@ module _ (w : ℕ) (ws : List ℕ) where
   from-block a ms k b c = rw (k, b, c)
 
   from-label :
-      (x n : ℕ) (vs t : List ℕ) (a : ℕ) (e : Bool) → w / 2 ^ 29 ≡ 2 → bitsOf 2 (2 ^ 17) w ≡ given x → numberOf ws ≡ given (n, vs) → textFrom vs ≡ given t → x % 2 ^ 16 ≡ a → leb (2 ^ 16) x ≡ e
+      (x n : ℕ) (vs t : List ℕ) (a : ℕ) (e : Bool) → w / 2 ^ 29 ≡ 2 → bitsOf 2 (2 ^ 17) w ≡ given x → numberFrom ws ≡ given (n, vs) → textFrom vs ≡ given t → x % 2 ^ 16 ≡ a → leb (2 ^ 16) x ≡ e
       → recordFrom (w, ws) ≡ given (label (record { name = t; address = a; external = e; start = n }))
   unfolding recordFrom
   from-label x n vs t a e k b c d f g = rw (k, b, c, d, f, g)
 
   from-line :
-      (n : ℕ) (vs xs : List ℕ) → w / 2 ^ 29 ≡ 3 → bitsOf 3 1 w ≡ given 0 → numberOf ws ≡ given (n, vs) → addressesOf vs ≡ given xs
+      (n : ℕ) (vs xs : List ℕ) → w / 2 ^ 29 ≡ 3 → bitsOf 3 1 w ≡ given 0 → numberFrom ws ≡ given (n, vs) → addressesOf vs ≡ given xs
       → recordFrom (w, ws) ≡ given (lineBlock (record { first = n; addresses = xs }))
   unfolding recordFrom
   from-line n vs xs k b c d = rw (k, b, c, d)

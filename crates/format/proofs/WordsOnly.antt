@@ -13,7 +13,7 @@ use Rattle.format.specs.Basics.{Outcome, refused, given, _>>=_, ask, if_
 use Rattle.format.specs.Digits.{valueOf, digitsOf}
 use Rattle.format.specs.Utf8.{isBetween}
 use Rattle.format.specs.Records.{Record, block, label, lineBlock, source, relocation}
-use Rattle.format.specs.Words.{word, flagBit, memoryWord, numberWords, textWords, recordWords, bitsOf, memoryOf, memoriesOf, addressesOf, numberOf, textPart, textFrom, recordFrom}
+use Rattle.format.specs.Words.{word, flagBit, memoryWord, numberWords, textWords, recordWords, bitsOf, memoryOf, memoriesOf, addressesOf, numberFrom, textPart, textFrom, recordFrom}
 use Rattle.format.proofs.Laws.{digits-value}
 use Rattle.format.proofs.ListLaws.{both, by-test, all-append}
 use Rattle.format.proofs.Ranges.{In16, In64, Word16, Bytes, InWords}
@@ -100,8 +100,8 @@ digits-only x y z a b c ws p q r =
     let d : digitsOf 24 3 (valueOf 24 (x ∷ y ∷ z ∷ [])) ≡ x ∷ y ∷ z ∷ [] = digits-value 24 (x ∷ y ∷ z ∷ []) (p .1, (q .1, (omega arith, tt))) in
     (rw (d, p .0, q .0, r .0), value-fits x y z (p .1) (q .1) (r .1))
 
-number-only : (ws : List ℕ) (p : ℕ × List ℕ) → numberOf ws ≡ given p → (numberWords (p .0) ++ p .1 ≡ ws) × In64 (p .0)
-unfolding numberOf
+number-only : (ws : List ℕ) (p : ℕ × List ℕ) → numberFrom ws ≡ given p → (numberWords (p .0) ++ p .1 ≡ ws) × In64 (p .0)
+unfolding numberFrom
 number-only [] p e = let z : _≡_ {A = ℕ} 0 1 = cc in absurd (omega arith)
 number-only (a ∷ []) p e = let z : _≡_ {A = ℕ} 0 1 = cc in absurd (omega arith)
 number-only (a ∷ b ∷ []) p e = let z : _≡_ {A = ℕ} 0 1 = cc in absurd (omega arith)
@@ -187,14 +187,14 @@ module _ (w : ℕ) (ws : List ℕ) (r : Record) where
       rw (← q) (rw (c .0) (ap (λ (v : ℕ). v ∷ ws) (sym (b .0))), (b .1, c .1))
 
   label-only :
-      (bitsOf 2 (2 ^ 17) w >>= λ x. numberOf ws >>= λ n. textFrom (n .1) >>= λ t. given (label (record { name = t; address = x % 2 ^ 16; external = leb (2 ^ 16) x; start = n .0 }))) ≡ given r
+      (bitsOf 2 (2 ^ 17) w >>= λ x. numberFrom ws >>= λ n. textFrom (n .1) >>= λ t. given (label (record { name = t; address = x % 2 ^ 16; external = leb (2 ^ 16) x; start = n .0 }))) ≡ given r
       → Only
   unfolding recordWords
   label-only e =
       let p =
-      bind-given (bitsOf 2 (2 ^ 17) w) (λ x. numberOf ws >>= λ n. textFrom (n .1) >>= λ t. given (label (record { name = t; address = x % 2 ^ 16; external = leb (2 ^ 16) x; start = n .0 }))) r e in
+      bind-given (bitsOf 2 (2 ^ 17) w) (λ x. numberFrom ws >>= λ n. textFrom (n .1) >>= λ t. given (label (record { name = t; address = x % 2 ^ 16; external = leb (2 ^ 16) x; start = n .0 }))) r e in
       let x : ℕ = p .0 in
-      let n = bind-given (numberOf ws) (λ n. textFrom (n .1) >>= λ t. given (label (record { name = t; address = x % 2 ^ 16; external = leb (2 ^ 16) x; start = n .0 }))) r (p .2) in
+      let n = bind-given (numberFrom ws) (λ n. textFrom (n .1) >>= λ t. given (label (record { name = t; address = x % 2 ^ 16; external = leb (2 ^ 16) x; start = n .0 }))) r (p .2) in
       let t = bind-given (textFrom (n .0 .1)) (λ t. given (label (record { name = t; address = x % 2 ^ 16; external = leb (2 ^ 16) x; start = n .0 .0 }))) r (n .2) in
       let b = bits-only 2 (2 ^ 17) w x (p .1) in
       let c = number-only ws (n .0) (n .1) in
@@ -205,11 +205,11 @@ module _ (w : ℕ) (ws : List ℕ) (r : Record) where
       rw (← q) (rw (d .0, c .0, f) (ap (λ (v : ℕ). v ∷ ws) (sym (b .0))), (omega arith, c .1, d .1))
 
   line-only :
-      (bitsOf 3 1 w >>= λ _. numberOf ws >>= λ n. addressesOf (n .1) >>= λ xs. given (lineBlock (record { first = n .0; addresses = xs }))) ≡ given r → Only
+      (bitsOf 3 1 w >>= λ _. numberFrom ws >>= λ n. addressesOf (n .1) >>= λ xs. given (lineBlock (record { first = n .0; addresses = xs }))) ≡ given r → Only
   unfolding recordWords
   line-only e =
-      let p = bind-given (bitsOf 3 1 w) (λ _. numberOf ws >>= λ n. addressesOf (n .1) >>= λ xs. given (lineBlock (record { first = n .0; addresses = xs }))) r e in
-      let n = bind-given (numberOf ws) (λ n. addressesOf (n .1) >>= λ xs. given (lineBlock (record { first = n .0; addresses = xs }))) r (p .2) in
+      let p = bind-given (bitsOf 3 1 w) (λ _. numberFrom ws >>= λ n. addressesOf (n .1) >>= λ xs. given (lineBlock (record { first = n .0; addresses = xs }))) r e in
+      let n = bind-given (numberFrom ws) (λ n. addressesOf (n .1) >>= λ xs. given (lineBlock (record { first = n .0; addresses = xs }))) r (p .2) in
       let x = bind-given (addressesOf (n .0 .1)) (λ xs. given (lineBlock (record { first = n .0 .0; addresses = xs }))) r (n .2) in
       let b = bits-only 3 1 w (p .0) (p .1) in
       let c = number-only ws (n .0) (n .1) in

@@ -1,32 +1,37 @@
--- An object's five parts, and when it is well formed and fair (document 01, "The object"). Assumes nothing.
-use mathlib.Core.Bool.{Bool, false, _&&_, _||_, not}
+-- An object file's five parts, and what a well formed one is besides the form of its words and the order of its records. Document 01's
+-- word for an object file is "holding". Assumes nothing.
+use mathlib.Core.Bool.{Bool, _&&_, _||_}
 use mathlib.Core.List.{List, [], _∷_, _++_, map}
 use mathlib.Core.Option.{Option, none, some}
-use Prim.Native.Nat.{ℕ, suc, _+_}
+use Prim.Native.Nat.{ℕ, _+_}
 use lib.ListN.{length}
-use lib.Dec.{leb, ltb, eqb}
-use Rattle.format.specs.Basics.{Outcome, refused, given, isSome, if_then_else_, ascii, isEmpty, every, chain, beginsWith}
-use Rattle.format.specs.Utf8.{isUtf8, scalars, isWhiteSpace, isBetween}
+use lib.Dec.{leb, ltb}
+use Rattle.format.specs.Basics.{isSome, isEmpty, every, chain}
+use Rattle.format.specs.Utf8.{isUtf8}
 
--- texts are lists of bytes; a word that is not initialised is none
+-- a block: memory words from an address on; a word that is not initialised is none
 pub record Block : Type 0 where
   pub address : ℕ
   pub words : List (Option ℕ)
 
+-- a label; its name is a text, and `start` is the source byte index where it stands
 pub record Label : Type 0 where
   pub name : List ℕ
   pub address : ℕ
   pub external : Bool
   pub start : ℕ
 
+-- a line block: the addresses of consecutive source lines from a first line on
 pub record LineBlock : Type 0 where
   pub first : ℕ
   pub addresses : List ℕ
 
+-- a relocation: the name whose address goes to an address
 pub record Relocation : Type 0 where
   pub address : ℕ
   pub name : List ℕ
 
+-- "An object file has five parts"; document 01's holding
 pub record ObjectFile : Type 0 where
   pub blocks : List Block
   pub labels : List Label
@@ -34,7 +39,7 @@ pub record ObjectFile : Type 0 where
   pub source : Option (List ℕ)
   pub relocations : List Relocation
 
--- what each part is sorted by
+-- "Blocks rise strictly by address, labels by name bytes, line blocks by first line, relocations by address": the keys
 abbrev pub blockKey : Block → List ℕ
 blockKey b = b .address ∷ []
 
@@ -47,7 +52,7 @@ lineKey l = l .first ∷ []
 abbrev pub relocationKey : Relocation → List ℕ
 relocationKey r = r .address ∷ []
 
--- the first line past a line block, as a whole number
+-- where a line block ends: "first line + count, as whole numbers"
 abbrev pub lineEnd : LineBlock → ℕ
 lineEnd l = l .first + length (l .addresses)
 
@@ -57,18 +62,20 @@ neverFall ns = chain leb ns
 abbrev pub strictlyRise : List ℕ → Bool
 strictlyRise ns = chain ltb ns
 
--- each line block ends at or before the next one's first line
+-- "A line block ends .. at or before the next one's first"
 unfoldable pub apart : List LineBlock → Bool
 apart ls = chain (λ l m. leb (lineEnd l) (m .first)) ls
 
 unfoldable pub namesOf : ObjectFile → List (List ℕ)
 namesOf h = map (λ l. l .name) (h .labels) ++ map (λ r. r .name) (h .relocations)
 
+-- the text of a source, empty where there is none
 unfoldable pub sourceText : Option (List ℕ) → List ℕ
 sourceText none = []
 sourceText (some s) = s
 
--- well formed, apart from the format of the words and the order of the records
+-- The questions of a well formed object that its words and their order leave: at most 65,535 memory words to a block; line blocks apart;
+-- their addresses never fall; line blocks need a source; texts are UTF-8.
 unfoldable pub consistent : ObjectFile → Bool
 consistent h =
     every (λ b. leb (length (b .words)) 65535) (h .blocks)
@@ -78,33 +85,7 @@ consistent h =
     && every isUtf8 (namesOf h)
     && isUtf8 (sourceText (h .source))
 
--- newlines end lines; the line count is newlines + 1
-unfoldable pub newlines : List ℕ → ℕ
-newlines [] = 0
-newlines (b ∷ bs) = if eqb b 10 then suc (newlines bs) else newlines bs
-
-unfoldable pub hasNoWhite : Outcome (List ℕ) → Bool
-hasNoWhite (refused n) = false
-hasNoWhite (given cs) = every (λ c. not (isWhiteSpace c)) cs
-
-unfoldable pub fairName : List ℕ → Bool
-fairName n =
-    not (isEmpty n) && hasNoWhite (scalars n)
-    && not (beginsWith (ascii ".") n) && not (beginsWith (ascii "#") n) && not (beginsWith (ascii "=") n)
-
-unfoldable pub fairLines : List ℕ → List LineBlock → Bool
-fairLines s ls =
-    every (λ l. isBetween 1 65535 (length (l .addresses)) && strictlyRise (l .addresses) && leb (lineEnd l) (newlines s)) ls
-    && chain (λ l m. ltb (lineEnd l) (m .first)) ls
-
--- what a fair object is besides well formed: blocks only, or with source
-unfoldable pub fair : ObjectFile → Bool
-fair h =
-    if isSome (h .source)
-    then every fairName (namesOf h) && fairLines (sourceText (h .source)) (h .lineBlocks)
-    else isEmpty (h .labels) && isEmpty (h .relocations)
-
 -- opens every definition of this module where an `unfolding` line names it
 unfoldable pub open-ObjectFile : Unit {0}
-unfolding apart namesOf sourceText consistent newlines hasNoWhite fairName fairLines fair
+unfolding apart namesOf sourceText consistent
 open-ObjectFile = tt

@@ -1,4 +1,5 @@
--- Line and source tables (document 01, "Line and source tables"; source document 001). A source is its bytes. Assumes nothing.
+-- "Line and source tables (001)": lines of a source, and line blocks asked by line and by address. A source is its bytes; line numbers,
+-- source byte indices and memory addresses are plain numbers here and separate types in the code. Assumes nothing.
 use mathlib.Core.List.{List, [], _∷_}
 use mathlib.Core.Option.{Option, none, some, orElse}
 use Prim.Native.Nat.{ℕ, zero, suc, _+_, _-_, _%_, _^_, min}
@@ -6,12 +7,18 @@ use lib.ListN.{length, take, drop, getD, getElem?}
 use lib.Dec.{leb, ltb, eqb}
 use Rattle.format.specs.Basics.{Outcome, given, _>>=_, ask, andThen, if_then_else_}
 use Rattle.format.specs.Utf8.{trimStart, trimEnd}
-use Rattle.format.specs.ObjectFile.{LineBlock, newlines}
+use Rattle.format.specs.ObjectFile.{LineBlock}
+
+-- "Newlines end lines; line count is newlines + 1."
+unfoldable pub newlines : List ℕ → ℕ
+newlines [] = 0
+newlines (b ∷ bs) = if eqb b 10 then suc (newlines bs) else newlines bs
 
 unfoldable pub lineCount : List ℕ → ℕ
 lineCount s = suc (newlines s)
 
--- where each line ends: at its newline, and the last at the source's end. The first number is the place of the list's start
+-- 001's `nl_indices`, where each line ends: at its newline, and the last at the source's end. The first number is the place of the
+-- list's start.
 unfoldable pub nlIndicesFrom : ℕ → List ℕ → List ℕ
 nlIndicesFrom i [] = i ∷ []
 nlIndicesFrom i (b ∷ bs) = if eqb b 10 then i ∷ nlIndicesFrom (suc i) bs else nlIndicesFrom (suc i) bs
@@ -19,16 +26,17 @@ nlIndicesFrom i (b ∷ bs) = if eqb b 10 then i ∷ nlIndicesFrom (suc i) bs els
 unfoldable pub nlIndices : List ℕ → List ℕ
 nlIndices s = nlIndicesFrom 0 s
 
--- a range of byte indices
+-- a range of source byte indices, its end not included
 pub record Span : Type 0 where
   pub start : ℕ
   pub end : ℕ
 
+-- where a line below the line count starts (of others nothing is asked)
 abbrev pub lineStart : List ℕ → ℕ → ℕ
 lineStart s zero = 0
 lineStart s (suc line) = suc (getD (nlIndices s) line 0)
 
--- with the newline, and not past the source's end
+-- "`raw_line_span` includes the newline", and does not go past the source's end. "For line spans: is the line below the line count? 5"
 unfoldable pub rawLineSpan : List ℕ → ℕ → Outcome Span
 rawLineSpan s line = do
   _ ← ask 5 (ltb line (lineCount s))
@@ -37,12 +45,13 @@ rawLineSpan s line = do
 abbrev pub spanBytes : List ℕ → Span → List ℕ
 spanBytes s r = take (r .end - r .start) (drop (r .start) s)
 
--- less White_Space at both ends; a blank line gives the empty range at its start
+-- less White_Space at the end and then at the start: "a blank line gives the empty range at its start"
 unfoldable pub trimmed : List ℕ → Span → Span
 trimmed s r =
     let line = trimEnd (spanBytes s r) in
     record { start = r .start + (length line - length (trimStart line)); end = r .start + length line }
 
+-- "`line_span` trims White_Space"
 unfoldable pub lineSpan : List ℕ → ℕ → Outcome Span
 lineSpan s line = rawLineSpan s line >>= λ r. given (trimmed s r)
 
@@ -55,7 +64,7 @@ unfoldable pub countBelow : ℕ → List ℕ → ℕ
 countBelow i [] = 0
 countBelow i (x ∷ xs) = if ltb x i then suc (countBelow i xs) else countBelow i xs
 
--- past the end: the line count and the index
+-- the line in which an index stands, and how far it is from the line's start; "`get_pos_pair` past the end gives (line count, index)"
 unfoldable pub getPosPair : List ℕ → ℕ → Position
 getPosPair s i =
     let line = countBelow i (nlIndices s) in
@@ -66,20 +75,21 @@ unfoldable pub lastStarting : ℕ → List LineBlock → Option LineBlock
 lastStarting line [] = none
 lastStarting line (l ∷ ls) = orElse (lastStarting line ls) (if leb (l .first) line then some l else none)
 
--- a line's address, if it is in that block
+-- "`get`: as 001": a line's address, if the last line block that begins at or before the line has it
 unfoldable pub getAddress : List LineBlock → ℕ → Option ℕ
 getAddress ls line = andThen (lastStarting line ls) λ l. getElem? (l .addresses) (line - l .first)
 
+-- the first place of a number in a list
 unfoldable pub offsetOf : ℕ → List ℕ → Option ℕ
 offsetOf a [] = none
 offsetOf a (x ∷ xs) = if eqb x a then some 0 else andThen (offsetOf a xs) λ i. some (suc i)
 
--- the first line block that has the address, and the lowest line in it, wrapped to 64 bits
+-- "`find`: first block having the address, lowest line in it ..; a line past the largest 64-bit value comes wrapped"
 unfoldable pub findLine : List LineBlock → ℕ → Option ℕ
 findLine [] a = none
 findLine (l ∷ ls) a = orElse (andThen (offsetOf a (l .addresses)) λ i. some ((l .first + i) % 2 ^ 64)) (findLine ls a)
 
--- opens every definition of this module where an `unfolding` line names it
+-- opens every definition of this module, and the library's `orElse`, where an `unfolding` line names it
 unfoldable pub open-Source : Unit {0}
-unfolding lineCount nlIndicesFrom nlIndices rawLineSpan trimmed lineSpan countBelow getPosPair lastStarting getAddress offsetOf findLine
+unfolding newlines lineCount nlIndicesFrom nlIndices rawLineSpan trimmed lineSpan countBelow getPosPair lastStarting getAddress offsetOf findLine orElse
 open-Source = tt

@@ -8,7 +8,7 @@ use lib.Dec.{ltb, eqb}
 use Rattle.format.specs.Basics.{given, _>>=_, givenOr, andThen, if_then_else_, ascii, isEmpty, isSome}
 use Rattle.format.specs.Digits.{digitsOf}
 use Rattle.format.specs.Sorted.{upsert, sorted}
-use Rattle.format.specs.Utf8.{scalars, characters, isBetween}
+use Rattle.format.specs.Utf8.{scalarsOf, characters, isBetween}
 use Rattle.format.specs.ObjectFile.{Block, Label, LineBlock, Relocation, ObjectFile}
 use Rattle.format.specs.Words.{flagBit}
 use Rattle.format.specs.Source.{lineCount, rawLineSpan, spanBytes}
@@ -97,7 +97,7 @@ escapeChar c =
     else ascii "\\u{" ++ numeral 5 16 c [] ++ ascii "}"
 
 unfoldable pub escape : List ℕ → List ℕ
-escape t = flatMap escapeChar (givenOr (scalars t) [])
+escape t = flatMap escapeChar (scalarsOf t)
 
 -- rows of the line table: a line number, and its address if it has one
 pub record Row : Type 0 where

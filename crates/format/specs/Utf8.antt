@@ -1,18 +1,17 @@
--- UTF-8 (Unicode, table 3-6 and 3-7; RFC 3629): bytes of a scalar value, the character that a text begins with, and White_Space.
--- Assumes nothing.
+-- UTF-8 and White_Space, from the public tables (RFC 3629; Unicode, tables 3-6 and 3-7; the property White_Space): the bytes of a scalar
+-- value, the character that a text begins with, and trimming. A text is its bytes. Assumes nothing.
 use mathlib.Core.Bool.{Bool, _&&_, _||_}
 use mathlib.Core.List.{List, [], _∷_}
-use mathlib.Core.Option.{Option, none, some}
+use mathlib.Core.Option.{Option, none, some, Option·getD}
 use Prim.Native.Nat.{ℕ, zero, suc, _+_, _-_, _*_, _/_, _%_, _^_}
 use lib.Dec.{leb, ltb, eqb}
-use Rattle.format.specs.Basics.{Outcome, if_then_else_, need, isEmpty, isGiven}
-use Rattle.format.specs.Tokens.{tokens}
+use Rattle.format.specs.Basics.{if_then_else_, andThen, isSome, isEmpty}
 
--- between, both ends included
+-- both ends included
 abbrev pub isBetween : ℕ → ℕ → ℕ → Bool
 isBetween low high x = leb low x && leb x high
 
--- scalar values: to x10FFFF, without the surrogates
+-- scalar values: to x10FFFF, without the surrogates xD800 to xDFFF
 unfoldable pub isScalar : ℕ → Bool
 isScalar c = ltb c 0xD800 || isBetween 0xE000 0x10FFFF c
 
@@ -30,7 +29,7 @@ follow zero c bs = some c
 follow (suc n) c [] = none
 follow (suc n) c (b ∷ bs) = if isBetween 0x80 0xBF b then follow n (c * 2 ^ 6 + (b - 0x80)) bs else none
 
--- a scalar value that needs as many bytes as it has: no shorter form
+-- only the shortest form of a scalar value is well-formed (table 3-7): one that needs as many bytes as it has
 abbrev pub shortestForm : ℕ → ℕ → Option ℕ → Option (ℕ × ℕ)
 shortestForm least n none = none
 shortestForm least n (some c) = if leb least c && isScalar c then some (c, n) else none
@@ -45,12 +44,22 @@ charAt (b ∷ bs) =
     else if isBetween 0xF0 0xF7 b then shortestForm 0x10000 3 (follow 3 (b - 0xF0) bs)
     else none
 
--- the scalar values of a text, or none if it is not UTF-8
-unfoldable pub scalars : List ℕ → Outcome (List ℕ)
-scalars bs = tokens (λ s. need 0 (charAt s)) 0 bs
+-- the scalar values of a text, or none if it is not UTF-8; the number counts the bytes of the current character that are still to be
+-- passed over (a character is never longer than what is left)
+unfoldable pub scalarsFrom : ℕ → List ℕ → Option (List ℕ)
+scalarsFrom k [] = some []
+scalarsFrom zero (b ∷ bs) = andThen (charAt (b ∷ bs)) λ c. andThen (scalarsFrom (c .1) bs) λ cs. some (c .0 ∷ cs)
+scalarsFrom (suc k) (b ∷ bs) = scalarsFrom k bs
+
+abbrev pub scalars : List ℕ → Option (List ℕ)
+scalars bs = scalarsFrom 0 bs
+
+-- the same of a text; nothing of what is not UTF-8, which no caller has
+abbrev pub scalarsOf : List ℕ → List ℕ
+scalarsOf bs = Option·getD (scalars bs) []
 
 unfoldable pub isUtf8 : List ℕ → Bool
-isUtf8 bs = isGiven (scalars bs)
+isUtf8 bs = isSome (scalars bs)
 
 -- the number of characters of a text: of the bytes that are not 10xxxxxx
 unfoldable pub characters : List ℕ → ℕ
@@ -60,7 +69,8 @@ characters (b ∷ bs) = if isBetween 0x80 0xBF b then characters bs else suc (ch
 -- the Unicode property White_Space: 25 characters
 unfoldable pub isWhiteSpace : ℕ → Bool
 isWhiteSpace c =
-    isBetween 0x9 0xD c || eqb c 0x20 || eqb c 0x85 || eqb c 0xA0 || eqb c 0x1680 || isBetween 0x2000 0x200A c || eqb c 0x2028 || eqb c 0x2029 || eqb c 0x202F || eqb c 0x205F || eqb c 0x3000
+    isBetween 0x9 0xD c || eqb c 0x20 || eqb c 0x85 || eqb c 0xA0 || eqb c 0x1680 || isBetween 0x2000 0x200A c || eqb c 0x2028
+    || eqb c 0x2029 || eqb c 0x202F || eqb c 0x205F || eqb c 0x3000
 
 -- how many bytes the White_Space character has that a text begins with; 0 if it begins with none
 abbrev pub whiteSpaceLength : Option (ℕ × ℕ) → ℕ
@@ -94,5 +104,5 @@ trim bs = trimEnd (trimStart bs)
 
 -- opens every definition of this module where an `unfolding` line names it
 unfoldable pub open-Utf8 : Unit {0}
-unfolding isScalar encodeScalar follow charAt scalars isUtf8 characters isWhiteSpace trimFrom trimStart isBlank trimEnd trim
+unfolding isScalar encodeScalar follow charAt scalarsFrom isUtf8 characters isWhiteSpace trimFrom trimStart isBlank trimEnd trim
 open-Utf8 = tt

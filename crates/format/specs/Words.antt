@@ -64,11 +64,11 @@ addressesOf [] = given []
 addressesOf (w ∷ ws) = bitsOf 1 (2 ^ 17) w >>= λ x. ask 1 (leb (2 ^ 16) x) >>= λ _. addressesOf ws >>= λ xs. given ((x - 2 ^ 16) ∷ xs)
 
 -- a number, and the words after it
-unfoldable pub numberOf : List ℕ → Outcome (ℕ × List ℕ)
-numberOf [] = refused 1
-numberOf (a ∷ []) = refused 1
-numberOf (a ∷ b ∷ []) = refused 1
-numberOf (a ∷ b ∷ c ∷ ws) = do
+unfoldable pub numberFrom : List ℕ → Outcome (ℕ × List ℕ)
+numberFrom [] = refused 1
+numberFrom (a ∷ []) = refused 1
+numberFrom (a ∷ b ∷ []) = refused 1
+numberFrom (a ∷ b ∷ c ∷ ws) = do
   x ← bitsOf 6 (2 ^ 24) a
   y ← bitsOf 6 (2 ^ 24) b
   z ← bitsOf 6 (2 ^ 16) c
@@ -97,10 +97,10 @@ recordFrom g =
     if eqb k 0
     then (bitsOf 0 (2 ^ 16) (g .0) >>= λ a. memoriesOf (g .1) >>= λ ms. given (block (record { address = a; words = ms })))
     else if eqb k 2
-    then (bitsOf 2 (2 ^ 17) (g .0) >>= λ x. numberOf (g .1) >>= λ n. textFrom (n .1) >>= λ t.
+    then (bitsOf 2 (2 ^ 17) (g .0) >>= λ x. numberFrom (g .1) >>= λ n. textFrom (n .1) >>= λ t.
     given (label (record { name = t; address = x % 2 ^ 16; external = leb (2 ^ 16) x; start = n .0 })))
     else if eqb k 3
-    then (bitsOf 3 1 (g .0) >>= λ _. numberOf (g .1) >>= λ n. addressesOf (n .1) >>= λ xs. given (lineBlock (record { first = n .0; addresses = xs })))
+    then (bitsOf 3 1 (g .0) >>= λ _. numberFrom (g .1) >>= λ n. addressesOf (n .1) >>= λ xs. given (lineBlock (record { first = n .0; addresses = xs })))
     else if eqb k 4
     then (bitsOf 4 1 (g .0) >>= λ _. textFrom (g .1) >>= λ t. given (source t))
     else (bitsOf 5 (2 ^ 16) (g .0) >>= λ a. textFrom (g .1) >>= λ t. given (relocation (record { address = a; name = t })))
@@ -122,5 +122,5 @@ objectOf ws = do
 
 -- opens every definition of this module where an `unfolding` line names it
 unfoldable pub open-Words : Unit {0}
-unfolding memoryWord numberWords textWords recordWords wordsOf bitsOf memoryOf memoriesOf addressesOf numberOf textPart textFrom isHead recordFrom recordsFrom objectOf
+unfolding memoryWord numberWords textWords recordWords wordsOf bitsOf memoryOf memoriesOf addressesOf numberFrom textPart textFrom isHead recordFrom recordsFrom objectOf
 open-Words = tt
