@@ -14,7 +14,7 @@ use Rattle.format.proofs.SortedLaws.{Rises}
 use Rattle.format.proofs.GatherLaws.{Distinct, rises-distinct, sorted-back, reordered-atKey}
 use Rattle.format.specs.Utf8.{isUtf8}
 use Rattle.format.specs.ObjectFile.{Block, Label, LineBlock, Relocation, ObjectFile, blockKey, labelKey, relocationKey, neverFall, sourceText, consistent}
-use Rattle.format.specs.Records.{source, emptyObject, dropStrayRelocations}
+use Rattle.format.specs.Records.{source, emptyObject, dropStrayRelocations, concluded, askAll}
 use Rattle.format.specs.TextWriter.{textLine, blocksOnly, symbolGroups, textFile}
 use Rattle.format.specs.TextReader.{keptLines, afterMagic, parseGroup, parseTextGroup, parseSymbolGroup, parseLinkerGroup, parseDebugGroup, isBar, textObject}
 use Rattle.format.specs.Calls.{Reordered}
@@ -40,7 +40,7 @@ text-path :
     (bs : List ℕ) (ls : List (List ℕ)) (gs : List (List ℕ × List (List ℕ))) (h : ObjectFile) → isUtf8 bs ≡ true → afterMagic (keptLines bs) ≡ given ls
     → partsAt isHeader ls ≡ record { before = []; groups = gs } → foldOutcome parseGroup emptyObject gs ≡ given h → every (λ l. neverFall (l .addresses)) (h .lineBlocks) ≡ true
     → textObject bs ≡ given (dropStrayRelocations h)
-unfolding textObject isEmpty
+unfolding textObject isEmpty concluded dropStrayRelocations askAll isSome
 text-path bs ls gs h h1 h2 h3 h4 h5 = rw (h1, h2, h3, h4, h5)
 
 group-text : (h : ObjectFile) (ls : List (List ℕ)) → parseGroup h (ascii ".TEXT", ls) ≡ parseTextGroup h ls

@@ -9,8 +9,8 @@ use Rattle.format.specs.Basics.{Outcome, refused, given, _>>=_, ask, if_
 use Rattle.format.specs.Digits.{valueOf, digitsOf}
 use Rattle.format.specs.Tokens.{tokens}
 use Rattle.format.specs.Utf8.{isUtf8}
-use Rattle.format.specs.ObjectFile.{ObjectFile, strictlyRise, apart}
-use Rattle.format.specs.Records.{Record, block, label, lineBlock, source, relocation, recordsOf, gatherRecords, dropStrayRelocations, emptyObject}
+use Rattle.format.specs.ObjectFile.{ObjectFile, strictlyRise}
+use Rattle.format.specs.Records.{Record, block, label, lineBlock, source, relocation, recordsOf, gatherRecords, emptyObject, binaryQuestions, concluded}
 use Rattle.format.specs.Words.{flagBit}
 
 -- magic and version
@@ -128,9 +128,7 @@ binaryRecords bs = do
 unfoldable pub binaryObject : List ℕ → Outcome ObjectFile
 binaryObject bs = do
   rs ← binaryRecords bs
-  let h = dropStrayRelocations (gatherRecords emptyObject rs)
-  _ ← ask 15 (apart (h .lineBlocks))
-  given h
+  concluded binaryQuestions (gatherRecords emptyObject rs)
 
 -- opens every definition of this module where an `unfolding` line names it
 unfoldable pub open-Binary : Unit {0}

@@ -1,12 +1,14 @@
--- Records: what the words of an object, a binary file and a text file are made of, one after the other. Assumes nothing.
-use mathlib.Core.Bool.{false, _&&_, not}
+-- Records: what the words of an object and a binary file are made of, one after the other; how a reader gathers them; and the questions
+-- that it asks after the last. Assumes nothing.
+use mathlib.Core.Bool.{Bool, false, _&&_, not}
 use mathlib.Core.List.{List, [], _∷_, _++_, map}
 use mathlib.Core.Option.{Option, none, some, Option·getD}
 use Prim.Native.Nat.{ℕ}
-use Rattle.format.specs.Basics.{if_then_else_, isEmpty, isSome}
+use Rattle.format.specs.Basics.{Outcome, given, _>>=_, ask, if_then_else_, every, isEmpty, isSome}
 use Rattle.format.specs.Sorted.{upsert, atKey}
-use Rattle.format.specs.ObjectFile.{Block, Label, LineBlock, Relocation, ObjectFile, blockKey, labelKey, lineKey, relocationKey, sourceText}
+use Rattle.format.specs.ObjectFile.{Block, Label, LineBlock, Relocation, ObjectFile, blockKey, labelKey, lineKey, relocationKey, apart, neverFall, sourceText}
 
+-- a part of an object, or one of its elements
 pub data Record : Type 0 where
   block : Block → Record
   label : Label → Record
@@ -14,7 +16,7 @@ pub data Record : Type 0 where
   source : List ℕ → Record
   relocation : Relocation → Record
 
--- the order of an object's records: blocks, labels, line blocks, the source, relocations, and each part by its key
+-- "order is blocks, labels, line blocks, at most one source, relocations", and each part by its key
 unfoldable pub recordKey : Record → List ℕ
 recordKey (block b) = 0 ∷ blockKey b
 recordKey (label l) = 1 ∷ labelKey l
@@ -31,6 +33,7 @@ recordsOf h =
     map block (h .blocks) ++ map label (h .labels) ++ map lineBlock (h .lineBlocks) ++ sourceRecords (h .source)
     ++ map relocation (h .relocations)
 
+-- the object without records
 unfoldable pub emptyObject : ObjectFile
 emptyObject = record { blocks = []; labels = []; lineBlocks = []; source = none; relocations = [] }
 
@@ -56,8 +59,8 @@ placed (lineBlock l ∷ rs) = withLines (placed rs) (l ∷ placed rs .lineBlocks
 placed (source s ∷ rs) = withLines (placed rs) (placed rs .lineBlocks) (some s)
 placed (relocation r ∷ rs) = withRelocations (placed rs) (r ∷ placed rs .relocations)
 
--- a record read from a file, put to the object that stands: one with the same address, name or first line is replaced, source
--- chunks append, and a line block or a source chunk makes the source exist
+-- a record read from a file, put to the object read so far: "a later record with the same address, name or first line replaces; 03 chunks
+-- append; 02 or 03 makes the source exist"
 unfoldable pub putRecord : ObjectFile → Record → ObjectFile
 putRecord h (block b) = withBlocks h (upsert blockKey b (h .blocks))
 putRecord h (label l) = withLabels h (upsert labelKey l (h .labels))
@@ -65,19 +68,41 @@ putRecord h (lineBlock l) = withLines h (upsert lineKey l (h .lineBlocks)) (some
 putRecord h (source s) = withLines h (h .lineBlocks) (some (sourceText (h .source) ++ s))
 putRecord h (relocation r) = withRelocations h (upsert relocationKey r (h .relocations))
 
+-- one after the other
 unfoldable pub gatherRecords : ObjectFile → List Record → ObjectFile
 gatherRecords h [] = h
 gatherRecords h (r ∷ rs) = gatherRecords (putRecord h r) rs
 
--- with no label and no source, relocations are dropped
+-- "No label and no source: relocations are dropped."
 unfoldable pub dropStrayRelocations : ObjectFile → ObjectFile
 dropStrayRelocations h = if isEmpty (h .labels) && not (isSome (h .source)) then withRelocations h [] else h
 
--- a label with the name, for the text form's tables, which set some of its fields; 0 for the others
+-- Questions after a reader's last record (binary) or group (text), each with its number, in the order asked, of the object gathered.
+abbrev pub Question : Type 0
+Question = ℕ × (ObjectFile → Bool)
+
+-- "After the last record: does each line block left end at or before the next? 15"
+abbrev pub binaryQuestions : List Question
+binaryQuestions = (15, λ h. apart (h .lineBlocks)) ∷ []
+
+-- "After all groups: addresses in each kept run never fall? 31"
+abbrev pub textQuestions : List Question
+textQuestions = (31, λ h. every (λ l. neverFall (l .addresses)) (h .lineBlocks)) ∷ []
+
+unfoldable pub askAll : List Question → ObjectFile → Outcome (Unit {0})
+askAll [] h = given tt
+askAll (q ∷ qs) h = ask (q .0) (q .1 h) >>= λ _. askAll qs h
+
+-- what a reader hands on: its questions asked, and stray relocations dropped
+unfoldable pub concluded : List Question → ObjectFile → Outcome ObjectFile
+concluded qs h = askAll qs h >>= λ _. given (dropStrayRelocations h)
+
+-- a label with the name, for the text form's tables, which set some of its fields: "a label named in only one of its two tables has 0 for
+-- the other's fields"
 unfoldable pub labelNamed : List ℕ → List Label → Label
 labelNamed n ls = Option·getD (atKey labelKey n ls) (record { name = n; address = 0; external = false; start = 0 })
 
 -- opens every definition of this module where an `unfolding` line names it
 unfoldable pub open-Records : Unit {0}
-unfolding recordKey sourceRecords recordsOf emptyObject placed putRecord gatherRecords dropStrayRelocations labelNamed
+unfolding recordKey sourceRecords recordsOf emptyObject placed putRecord gatherRecords dropStrayRelocations askAll concluded labelNamed
 open-Records = tt

@@ -10,8 +10,8 @@ use Rattle.format.specs.Basics.{Outcome, refused, given, _>>=_, ask, nee
 use Rattle.format.specs.Tokens.{tokens, scanTokens, foldOutcome, partsAt}
 use Rattle.format.specs.Sorted.{atKey}
 use Rattle.format.specs.Utf8.{isUtf8, isScalar, encodeScalar, isBetween, isBlank, trim}
-use Rattle.format.specs.ObjectFile.{LineBlock, ObjectFile, blockKey, neverFall}
-use Rattle.format.specs.Records.{block, label, relocation, putRecord, dropStrayRelocations, emptyObject, withLines, labelNamed}
+use Rattle.format.specs.ObjectFile.{LineBlock, ObjectFile, blockKey}
+use Rattle.format.specs.Records.{block, label, relocation, putRecord, emptyObject, withLines, labelNamed, textQuestions, concluded}
 
 -- an element in front of the first list
 unfoldable pub onFirst : {A : Type 0} → A → List (List A) → List (List A)
@@ -257,8 +257,7 @@ textObject bs = do
   let parts = partsAt (beginsWith (ascii ".")) ls
   _ ← ask 22 (isEmpty (parts .before))
   h ← foldOutcome parseGroup emptyObject (parts .groups)
-  _ ← ask 31 (every (λ l. neverFall (l .addresses)) (h .lineBlocks))
-  given (dropStrayRelocations h)
+  concluded textQuestions h
 
 -- opens every definition of this module where an `unfolding` line names it
 unfoldable pub open-TextReader : Unit {0}
