@@ -16,7 +16,7 @@ use Rattle.format.specs.Utf8.{isUtf8}
 use Rattle.format.specs.ObjectFile.{strictlyRise}
 use Rattle.format.specs.Records.{Record, block, label, lineBlock, source, relocation}
 use Rattle.format.specs.Words.{flagBit}
-use Rattle.format.specs.Binary.{recordBytes, recordAt, blockFrom, labelFrom, linesFrom, relocationFrom, cellsFrom, addressesFrom, numberAt, bytesAt, numberBytes, memoryBytes}
+use Rattle.format.specs.Binary.{recordBytes, recordAt, blockFrom, labelFrom, linesFrom, relocationFrom, memoriesFrom, addressesFrom, numberAt, bytesAt, numberBytes, memoryBytes}
 use Rattle.format.specs.Trips.{byteSwapped, swapRelocation}
 use Rattle.format.proofs.Ranges.{In16, In64, Word16}
 use Rattle.format.proofs.Laws.{value-digits, source-from, tokens-drop}
@@ -45,8 +45,8 @@ cells-length [] = refl
 cells-length (none ∷ ws) = let ih = cells-length ws in omega arith
 cells-length (some v ∷ ws) = let ih = cells-length ws in omega arith
 
-cells-back : (ws : List (Option ℕ)) → All Word16 ws → cellsFrom (flatMap memoryBytes ws) ≡ ws
-unfolding flatMap digitsOf cellsFrom
+cells-back : (ws : List (Option ℕ)) → All Word16 ws → memoriesFrom (flatMap memoryBytes ws) ≡ ws
+unfolding flatMap digitsOf memoriesFrom
 cells-back [] h = refl
 cells-back (none ∷ ws) h = rw (cells-back ws (h .1))
 cells-back (some v ∷ ws) h = rw (value-digits 8 2 v (h .0), cells-back ws (h .1))
@@ -77,7 +77,7 @@ bit-back false = refl
 module _ (bs : List ℕ) (n : ℕ) where
   block-from :
       (a : ℕ) (ws : List (Option ℕ)) → leb 4 (length bs) ≡ true → numberAt 2 2 bs ≡ n → leb (4 + 3 * n) (length bs) ≡ true → numberAt 0 2 bs ≡ a
-      → cellsFrom (bytesAt 4 (3 * n) bs) ≡ ws → blockFrom bs ≡ given (block (record { address = a; words = ws }), 4 + 3 * n)
+      → memoriesFrom (bytesAt 4 (3 * n) bs) ≡ ws → blockFrom bs ≡ given (block (record { address = a; words = ws }), 4 + 3 * n)
   unfolding blockFrom
   block-from a ws h1 h2 h3 h4 h5 = rw (h1, h2, h3, h4, h5)
 
@@ -121,7 +121,7 @@ record-back (block b) rest h =
     let f = length-append (flatMap memoryBytes (b .words)) rest in
     block-from bs (length (b .words)) (b .address) (b .words) (le-leb (4) (length bs) (omega arith)) (value-digits 8 2 (length (b .words)) (h .1)) (le-leb (4 + 3 * length (b .words)) (length bs) (omega arith))
     (value-digits 8 2 (b .address) (h .0))
-    (ap cellsFrom (take-at (flatMap memoryBytes (b .words)) rest (3 * length (b .words)) e) ∙ cells-back (b .words) (h .2))
+    (ap memoriesFrom (take-at (flatMap memoryBytes (b .words)) rest (3 * length (b .words)) e) ∙ cells-back (b .words) (h .2))
 record-back (label l) rest h =
     let bs : List ℕ = drop 1 (recordBytes (label l) ++ rest) in
     let f = length-append (l .name) rest in

@@ -15,7 +15,7 @@ use Rattle.format.proofs.GatherLaws.{sorted-back}
 use Rattle.format.specs.ObjectFile.{Block, Label, LineBlock, Relocation, ObjectFile, blockKey, consistent, apart, sourceText}
 use Rattle.format.specs.Records.{Record, block, label, lineBlock, source, relocation, recordsOf, sourceRecords, dropStrayRelocations, emptyObject, concluded, askAll, withLines}
 use Rattle.format.specs.Words.{textWords, numberWords, recordWords, wordsOf}
-use Rattle.format.specs.Binary.{header, binaryFile, binaryRecords, binaryObject}
+use Rattle.format.specs.Binary.{magic, version, header, binaryFile, binaryRecords, binaryObject}
 use Rattle.format.specs.Calls.{Reordered, inOrder}
 use Rattle.format.specs.Trips.{swapRelocations}
 use Rattle.format.proofs.ListLaws.{unchanged, all-map, all-both, all-reordered, all-images, part-fits, empty-reordered, empty-is}
@@ -78,7 +78,7 @@ unfolding recordsOf sourceRecords
 only-records bs = simp append-nil
 
 blocks-trip : (bs : List Block) → Rises blockKey bs → All (λ b. Writable (block b)) bs → binaryObject (binaryFile (only bs)) ≡ given (only bs)
-unfolding binaryObject binaryRecords binaryFile header beginsWith dropStrayRelocations isSome apart chain emptyObject isEmpty concluded askAll
+unfolding binaryObject binaryRecords binaryFile header magic version beginsWith dropStrayRelocations isSome apart chain emptyObject isEmpty concluded askAll
 blocks-trip bs h w =
     let a = records-back (map block bs) (all-images Writable block bs w) in
     let b : upsertAll blockKey bs [] ≡ bs = sorted-back blockKey bs bs h (unchanged bs) in

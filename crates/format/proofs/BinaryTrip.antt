@@ -11,7 +11,7 @@ use Rattle.format.proofs.SortedLaws.{Rises}
 use Rattle.format.proofs.GatherLaws.{sorted-back, gather-append, gather-labels}
 use Rattle.format.specs.ObjectFile.{Block, Label, LineBlock, Relocation, ObjectFile, blockKey, labelKey, lineKey, relocationKey, sourceText, apart}
 use Rattle.format.specs.Records.{Record, block, label, lineBlock, source, relocation, recordsOf, sourceRecords, putRecord, gatherRecords, dropStrayRelocations, emptyObject, withBlocks, withLines, withRelocations, concluded, askAll}
-use Rattle.format.specs.Binary.{header, binaryFile, binaryRecords, binaryObject}
+use Rattle.format.specs.Binary.{magic, version, header, binaryFile, binaryRecords, binaryObject}
 use Rattle.format.specs.Calls.{Reordered, inOrder}
 use Rattle.format.specs.Trips.{swapRelocations, swapRelocation}
 use Rattle.format.proofs.ListLaws.{unchanged, map-append}
@@ -90,7 +90,7 @@ module _ (bs : List Block) (ls₀ ls : List Label) (ms : List LineBlock) (s : Li
       Rises blockKey bs → Rises labelKey ls₀ → Rises lineKey ms → Rises relocationKey rs₀ → All Fits rs₀ → apart ms ≡ true
       → Reordered ls₀ ls → Reordered rs₀ rs → All Writable (recordsOf (inOrder taken ls rs))
       → binaryObject (binaryFile (inOrder taken ls rs)) ≡ given (swapRelocations taken)
-  unfolding binaryObject binaryRecords binaryFile header beginsWith recordsOf sourceRecords dropStrayRelocations isSome swapRelocations concluded upsertAll askAll
+  unfolding binaryObject binaryRecords binaryFile header magic version beginsWith recordsOf sourceRecords dropStrayRelocations isSome swapRelocations concluded upsertAll askAll
   binary-trip hb hl hm hr hf ha pl pr range =
       let e0 = records-back (recordsOf (inOrder taken ls rs)) range in
       let e1 : map back (recordsOf (inOrder taken ls rs)) ≡ map block bs ++ map label ls ++ map lineBlock ms ++ source s ∷ [] ++ map relocation (map swapRelocation rs) =

@@ -1,4 +1,5 @@
--- The binary form (document 01, "Binary form"; source document 000). Assumes nothing.
+-- The binary form (document 01, "Binary form (000)"): the file of an object, and the object of a file by the questions 10 to 15.
+-- Assumes nothing.
 use mathlib.Core.Bool.{Bool, not}
 use mathlib.Core.List.{List, [], _∷_, _++_, reverse, flatMap}
 use mathlib.Core.Option.{Option, none, some}
@@ -13,66 +14,87 @@ use Rattle.format.specs.ObjectFile.{ObjectFile, strictlyRise}
 use Rattle.format.specs.Records.{Record, block, label, lineBlock, source, relocation, recordsOf, gatherRecords, emptyObject, binaryQuestions, concluded}
 use Rattle.format.specs.Words.{flagBit}
 
--- magic and version
-unfoldable pub header : List ℕ
-header = 0x6F ∷ 0x62 ∷ 0x6A ∷ 0x21 ∷ 0x10 ∷ 0x00 ∷ 0x01 ∷ []
+-- "Header 6F 62 6A 21 10 00 01": magic, five bytes, and version, two
+unfoldable pub magic : List ℕ
+magic = 0x6F ∷ 0x62 ∷ 0x6A ∷ 0x21 ∷ 0x10 ∷ []
 
--- a number of n bytes, low byte first
+unfoldable pub version : List ℕ
+version = 0x00 ∷ 0x01 ∷ []
+
+unfoldable pub header : List ℕ
+header = magic ++ version
+
+-- WRITING
+
+-- "Numbers low byte first": a number of n bytes
 abbrev pub numberBytes : ℕ → ℕ → List ℕ
 numberBytes n x = digitsOf 8 n x
 
+-- "3 bytes per word: FF and value, or 00 00 00"
 abbrev pub memoryBytes : Option ℕ → List ℕ
 memoryBytes none = 0x00 ∷ 0x00 ∷ 0x00 ∷ []
 memoryBytes (some v) = 0xFF ∷ numberBytes 2 v
 
 unfoldable pub recordBytes : Record → List ℕ
-recordBytes (block b) = 0x00 ∷ numberBytes 2 (b .address) ++ numberBytes 2 (length (b .words)) ++ flatMap memoryBytes (b .words)
-recordBytes (label l) = 0x01 ∷ numberBytes 2 (l .address) ++ numberBytes 1 (flagBit (l .external)) ++ numberBytes 8 (l .start) ++ numberBytes 8 (length (l .name)) ++ l .name
-recordBytes (lineBlock l) = 0x02 ∷ numberBytes 8 (l .first) ++ numberBytes 2 (length (l .addresses)) ++ flatMap (numberBytes 2) (l .addresses)
+-- "00: address 2, count 2, then 3 bytes per word"
+recordBytes (block b) =
+    0x00 ∷ numberBytes 2 (b .address) ++ numberBytes 2 (length (b .words)) ++ flatMap memoryBytes (b .words)
+-- "01: address 2, external 1, source start 8, length 8, name."
+recordBytes (label l) =
+    0x01 ∷ numberBytes 2 (l .address) ++ numberBytes 1 (flagBit (l .external)) ++ numberBytes 8 (l .start)
+    ++ numberBytes 8 (length (l .name)) ++ l .name
+-- "02: first line 8, count 2, addresses."
+recordBytes (lineBlock l) =
+    0x02 ∷ numberBytes 8 (l .first) ++ numberBytes 2 (length (l .addresses)) ++ flatMap (numberBytes 2) (l .addresses)
+-- "03: length 8, source."
 recordBytes (source s) = 0x03 ∷ numberBytes 8 (length s) ++ s
--- the address high byte first
+-- "04: address 2, length 8, name. Written high byte first, read low byte first."
 recordBytes (relocation r) = 0x04 ∷ reverse (numberBytes 2 (r .address)) ++ numberBytes 8 (length (r .name)) ++ r .name
 
--- the file of an object, with labels and relocations in the order in which they stand in it
+-- "Written in this order, blocks and line blocks rising": with labels and relocations in the order in which they stand in the object
 unfoldable pub binaryFile : ObjectFile → List ℕ
 binaryFile h = header ++ flatMap recordBytes (recordsOf h)
 
--- question 2
+-- "At most 65,535 addresses per line block? 2"
 unfoldable pub countsFit : ObjectFile → Bool
 countsFit h = every (λ l. leb (length (l .addresses)) 65535) (h .lineBlocks)
 
--- reading: fields of n bytes at a place
+-- READING
+
+-- n bytes at a place
 abbrev pub bytesAt : ℕ → ℕ → List ℕ → List ℕ
 bytesAt at n bs = take n (drop at bs)
 
+-- the number in n bytes at a place
 abbrev pub numberAt : ℕ → ℕ → List ℕ → ℕ
 numberAt at n bs = valueOf 8 (bytesAt at n bs)
 
 abbrev pub hasBytes : ℕ → List ℕ → Bool
 hasBytes n bs = leb n (length bs)
 
--- 3 bytes to a word: a flag other than FF means uninitialised
-unfoldable pub cellsFrom : List ℕ → List (Option ℕ)
-cellsFrom [] = []
-cellsFrom (f ∷ []) = []
-cellsFrom (f ∷ a ∷ []) = []
-cellsFrom (f ∷ a ∷ b ∷ bs) = (if eqb f 0xFF then some (valueOf 8 (a ∷ b ∷ [])) else none) ∷ cellsFrom bs
+-- "a flag other than FF means uninitialised"; there are always 3 bytes to a word
+unfoldable pub memoriesFrom : List ℕ → List (Option ℕ)
+memoriesFrom [] = []
+memoriesFrom (f ∷ []) = []
+memoriesFrom (f ∷ a ∷ []) = []
+memoriesFrom (f ∷ a ∷ b ∷ bs) = (if eqb f 0xFF then some (valueOf 8 (a ∷ b ∷ [])) else none) ∷ memoriesFrom bs
 
--- 2 bytes to an address
+-- there are always 2 bytes to an address
 unfoldable pub addressesFrom : List ℕ → List ℕ
 addressesFrom [] = []
 addressesFrom (a ∷ []) = []
 addressesFrom (a ∷ b ∷ bs) = valueOf 8 (a ∷ b ∷ []) ∷ addressesFrom bs
 
--- The record of each kind, from the bytes after its kind byte, and how many of them it has. A count or a length is read only where its
--- bytes are there.
+-- The record of each kind, from the bytes after its kind byte, and how many of them it has: "All its bytes there? 12", "Name or source chunk
+-- UTF-8? 13", "Line addresses strictly rising? 14". A count or a length is read only where its bytes are there.
 unfoldable pub blockFrom : List ℕ → Outcome (Record × ℕ)
 blockFrom bs = do
   _ ← ask 12 (hasBytes 4 bs)
   let n = numberAt 2 2 bs
   _ ← ask 12 (hasBytes (4 + 3 * n) bs)
-  given (block (record { address = numberAt 0 2 bs; words = cellsFrom (bytesAt 4 (3 * n) bs) }), 4 + 3 * n)
+  given (block (record { address = numberAt 0 2 bs; words = memoriesFrom (bytesAt 4 (3 * n) bs) }), 4 + 3 * n)
 
+-- "external is any nonzero"
 unfoldable pub labelFrom : List ℕ → Outcome (Record × ℕ)
 labelFrom bs = do
   _ ← ask 12 (hasBytes 19 bs)
@@ -80,7 +102,8 @@ labelFrom bs = do
   _ ← ask 12 (hasBytes (19 + n) bs)
   let name = bytesAt 19 n bs
   _ ← ask 13 (isUtf8 name)
-  given (label (record { name = name; address = numberAt 0 2 bs; external = not (eqb (numberAt 2 1 bs) 0); start = numberAt 3 8 bs }), 19 + n)
+  let external = not (eqb (numberAt 2 1 bs) 0)
+  given (label (record { name = name; address = numberAt 0 2 bs; external = external; start = numberAt 3 8 bs }), 19 + n)
 
 unfoldable pub linesFrom : List ℕ → Outcome (Record × ℕ)
 linesFrom bs = do
@@ -100,7 +123,7 @@ sourceFrom bs = do
   _ ← ask 13 (isUtf8 text)
   given (source text, 8 + n)
 
--- the address low byte first
+-- "read low byte first"
 unfoldable pub relocationFrom : List ℕ → Outcome (Record × ℕ)
 relocationFrom bs = do
   _ ← ask 12 (hasBytes 10 bs)
@@ -110,6 +133,7 @@ relocationFrom bs = do
   _ ← ask 13 (isUtf8 name)
   given (relocation (record { address = numberAt 0 2 bs; name = name }), 10 + n)
 
+-- "kind 0 to 4? 11"; it is asked of a byte that is there
 unfoldable pub recordAt : List ℕ → Outcome (Record × ℕ)
 recordAt [] = refused 11
 recordAt (k ∷ bs) =
@@ -120,6 +144,7 @@ recordAt (k ∷ bs) =
     else if eqb k 4 then relocationFrom bs
     else refused 11
 
+-- "Do the seven header bytes come first? 10", "Then per record"
 unfoldable pub binaryRecords : List ℕ → Outcome (List Record)
 binaryRecords bs = do
   _ ← ask 10 (beginsWith header bs)
@@ -132,5 +157,6 @@ binaryObject bs = do
 
 -- opens every definition of this module where an `unfolding` line names it
 unfoldable pub open-Binary : Unit {0}
-unfolding header recordBytes binaryFile countsFit cellsFrom addressesFrom blockFrom labelFrom linesFrom sourceFrom relocationFrom recordAt binaryRecords binaryObject
+unfolding magic version header recordBytes binaryFile countsFit memoriesFrom addressesFrom blockFrom labelFrom linesFrom sourceFrom
+  relocationFrom recordAt binaryRecords binaryObject
 open-Binary = tt
