@@ -13,7 +13,7 @@ use Rattle.format.specs.Utf8.{trim, characters}
 use Rattle.format.specs.ObjectFile.{LineBlock, ObjectFile, lineEnd}
 use Rattle.format.specs.Records.{withLines}
 use Rattle.format.specs.Source.{lineCount, newlines}
-use Rattle.format.specs.TextWriter.{textLine, tableDiv, spaces, toLeft, decimal, widest, Row, addBlocks, lineRows, sourceCell, lineTable as lineText}
+use Rattle.format.specs.TextWriter.{lineRow, lineHeader, lineWidth, textLine, tableDiv, spaces, toLeft, Row, addBlocks, lineRows, sourceCell, lineTable as lineText, lineRow}
 use Rattle.format.specs.TextReader.{splitn, sameCells, rowsUnder, parseLabelTable, parseLineRows, runsFrom, unescape, parseLineTable, isBar, splitAtBar, upToBar, parseDebugGroup}
 use Rattle.format.proofs.ListLaws.{both, all-append, flatMap-map}
 use Rattle.format.proofs.NumeralBack.{Full}
@@ -22,7 +22,7 @@ use Rattle.format.proofs.TrimLaws.{Visible, visible-solid, trim-solid}
 use Rattle.format.proofs.EscapeLaws.{Printable}
 use Rattle.format.proofs.LineLaws.{one-line-append, printable-line}
 use Rattle.format.proofs.CellLaws.{cells-2, undivided-solid}
-use Rattle.format.proofs.RowLaws.{Ordinary, Starts, Numbered, starts-append, row-ordinary, printable-text, spaces-printable, divider-printable, lineLine, line-rows, line-ordinary}
+use Rattle.format.proofs.RowLaws.{Ordinary, Starts, Numbered, starts-append, row-ordinary, printable-text, spaces-printable, divider-printable, line-rows, line-ordinary}
 use Rattle.format.proofs.LabelTrip.{rows-under, same-self, left-cell}
 use Rattle.format.specs.Fair.{FairLineBlock, gapsBetween}
 use Rattle.format.proofs.RunLaws.{rowsFrom, plain-rows, laid, Spaced, add-blocks, runs-back, laid-length, laid-words, rows-addresses, rows-numbered}
@@ -54,9 +54,6 @@ line-table-path :
     → parseLineTable h ls ≡ given (withLines h (runsFrom 0 [] (map (λ r. r .0) parsed)) (some s))
 unfolding parseLineTable
 line-table-path h ls rows parsed s h1 h2 h3 h4 h5 = rw (h1, h2, h3, h4, h5)
-
-abbrev pub lineHeader : ℕ → List ℕ
-lineHeader w = toLeft w (ascii "LINE") ++ tableDiv ++ ascii "ADDR" ++ tableDiv ++ ascii "SOURCE"
 
 LINE-visible : All Visible (ascii "LINE")
 unfolding ascii
@@ -127,15 +124,12 @@ module _ (s : List ℕ) (ls : List LineBlock) where
       let z : lineCount s ≡ lineCount s - 0 = omega arith in
       ap (addBlocks ls) (plain-rows 0 (lineCount s) ∙ ap (λ (n : ℕ). rowsFrom 0 (replicate n none)) z) ∙ add-blocks (lineCount s) [] 0 ls refl small sp
 
-  abbrev pub numberWidth : ℕ
-  numberWidth = widest (λ r. length (decimal (r .number))) 4 (lineRows s ls)
-
   abbrev pub lineLines : List (List ℕ)
-  lineLines = lineHeader numberWidth ∷ map (lineLine numberWidth (sourceCell s)) (lineRows s ls)
+  lineLines = lineHeader (lineWidth (lineRows s ls)) ∷ map (lineRow (lineWidth (lineRows s ls)) (sourceCell s)) (lineRows s ls)
 
   pub line-lines : lineText s ls ≡ flatMap textLine lineLines
   unfolding lineText flatMap
-  line-lines = ap (λ (r : List ℕ). textLine (lineHeader numberWidth) ++ r) (sym (flatMap-map textLine (lineLine numberWidth (sourceCell s)) (lineRows s ls)))
+  line-lines = ap (λ (r : List ℕ). textLine (lineHeader (lineWidth (lineRows s ls))) ++ r) (sym (flatMap-map textLine (lineRow (lineWidth (lineRows s ls)) (sourceCell s)) (lineRows s ls)))
 
   module _ (x : Text s) (small : lineCount s ≤ 2 ^ 64) (sp : Spaced 0 (lineCount s) ls) (words : All (λ l. All (λ a. a < 2 ^ 16) (l .addresses)) ls) where
     laid-size : length laidOut ≡ lineCount s
@@ -170,18 +164,18 @@ module _ (s : List ℕ) (ls : List LineBlock) where
 
     pub lines-back : (h : ObjectFile) → isSome (h .source) ≡ false → parseLineTable h lineLines ≡ given (withLines h ls (some s))
     lines-back h n =
-        line-table-path h lineLines (map (lineLine numberWidth (sourceCell s)) (lineRows s ls)) parsedRows s
-        (rows-under 28 (ascii "LINE" ∷ ascii "ADDR" ∷ ascii "SOURCE" ∷ []) (lineHeader numberWidth) (map (lineLine numberWidth (sourceCell s)) (lineRows s ls)) (line-header numberWidth))
-        (line-rows numberWidth (sourceCell s) 0 (lineRows s ls) (numbered numberWidth)) not-empty n source-column
+        line-table-path h lineLines (map (lineRow (lineWidth (lineRows s ls)) (sourceCell s)) (lineRows s ls)) parsedRows s
+        (rows-under 28 (ascii "LINE" ∷ ascii "ADDR" ∷ ascii "SOURCE" ∷ []) (lineHeader (lineWidth (lineRows s ls))) (map (lineRow (lineWidth (lineRows s ls)) (sourceCell s)) (lineRows s ls)) (line-header (lineWidth (lineRows s ls))))
+        (line-rows (lineWidth (lineRows s ls)) (sourceCell s) 0 (lineRows s ls) (numbered (lineWidth (lineRows s ls)))) not-empty n source-column
         ∙ ap (λ (r : List LineBlock). given (withLines h r (some s))) address-column
 
-    rows-ordinary : (w i : ℕ) (rows : List Row) → Numbered w (sourceCell s) i rows → All Ordinary (map (lineLine w (sourceCell s)) rows)
+    rows-ordinary : (w i : ℕ) (rows : List Row) → Numbered w (sourceCell s) i rows → All Ordinary (map (lineRow w (sourceCell s)) rows)
     rows-ordinary w i [] h = tt
     rows-ordinary w i (r ∷ rows) h =
         (line-ordinary w (sourceCell s) r (omega (arith, h .0, h .1)) (cell-printable s (r .number) x), rows-ordinary w (suc i) rows (h .3))
 
     pub lines-ordinary : All Ordinary lineLines
-    lines-ordinary = (header-ordinary numberWidth, rows-ordinary numberWidth 0 (lineRows s ls) (numbered numberWidth))
+    lines-ordinary = (header-ordinary (lineWidth (lineRows s ls)), rows-ordinary (lineWidth (lineRows s ls)) 0 (lineRows s ls) (numbered (lineWidth (lineRows s ls))))
 
 -- fair line blocks are laid out with gaps
 full-of : (xs : List ℕ) → 1 ≤ length xs → Full xs

@@ -9,20 +9,20 @@ use lib.ListN.{length}
 use lib.Dec.{isEq}
 use Rattle.format.specs.Basics.{given, ascii, if_then_else_, beginsWith, eqs, isEmpty, All}
 use Rattle.format.specs.Tokens.{foldOutcome}
-use Rattle.format.specs.Sorted.{order, upsert, atKey, sorted, upsertAll}
+use Rattle.format.specs.Sorted.{order, upsert, atKey, upsertAll}
 use Rattle.format.proofs.SortedLaws.{order-self, order-eq, atKey-upsert, Rises, ext-atKey}
 use Rattle.format.proofs.GatherLaws.{Distinct, rises-distinct, rises-upsertAll, atKey-upsertAll, reordered-atKey}
 use Rattle.format.specs.Utf8.{trim, characters, open-Utf8}
 use Rattle.format.specs.ObjectFile.{Label, Relocation, ObjectFile, labelKey, relocationKey}
 use Rattle.format.specs.Records.{label, putRecord, withLabels, withRelocations, labelNamed}
-use Rattle.format.specs.TextWriter.{textLine, tableDiv, spaces, toLeft, decimal, widest, symbolTable, linkerTable, labelTable as indexText}
+use Rattle.format.specs.TextWriter.{symbolHeader, linkerHeader, labelHeader, labelWidth, indexWidth, byAddress, byStart, textLine, spaces, toLeft, widest, symbolTable, linkerTable, labelTable as indexText, linkerRow, hex4, labelWidth, indexWidth, labelRow, symbolRow}
 use Rattle.format.specs.TextReader.{splitOnce, splitn, sameCells, rowsUnder, parseSymbolRow, parseSymbolGroup, parseLinkerRow, parseLinkerGroup, parseLabelRow, parseLabelTable}
 use Rattle.format.specs.Calls.{Reordered}
 use Rattle.format.proofs.ListLaws.{all-map, flatMap-map, all-reordered}
 use Rattle.format.proofs.ListFacts.{eqs-self}
 use Rattle.format.proofs.TrimLaws.{Visible, visible-solid, trim-right}
 use Rattle.format.proofs.CellLaws.{Undivided, cells-1, undivided-append, undivided-spaces}
-use Rattle.format.proofs.RowLaws.{GoodName, symbolLine, symbol-row, linkerLine, linker-row, indexLine, index-row}
+use Rattle.format.proofs.RowLaws.{GoodName, symbol-row, linker-row, index-row}
 use Rattle.format.proofs.OrderLaws.{distinct-atKey}
 
 pub rows-under :
@@ -69,26 +69,26 @@ unplaced m = record { name = m .name; address = m .address; external = m .extern
 abbrev pub InLabel : Label → Type 0
 InLabel m = (m .address < 2 ^ 16) × (m .start < 2 ^ 64) × GoodName (m .name)
 
-symbol-new : (h : ObjectFile) (m : Label) → InLabel m → atKey labelKey (m .name) (h .labels) ≡ none → parseSymbolRow h (symbolLine m) ≡ given (putRecord h (label (unplaced m)))
+symbol-new : (h : ObjectFile) (m : Label) → InLabel m → atKey labelKey (m .name) (h .labels) ≡ none → parseSymbolRow h (symbolRow m) ≡ given (putRecord h (label (unplaced m)))
 unfolding labelNamed
 symbol-new h m i f = symbol-row h m (i .0) (i .2) ∙ rw f
 
 pub symbols-through :
     (h : ObjectFile) (ms : List Label) → Distinct labelKey ms → All InLabel ms → All (λ m. atKey labelKey (m .name) (h .labels) ≡ none) ms
-    → foldOutcome parseSymbolRow h (map symbolLine ms) ≡ given (withLabels h (upsertAll labelKey (map unplaced ms) (h .labels)))
+    → foldOutcome parseSymbolRow h (map symbolRow ms) ≡ given (withLabels h (upsertAll labelKey (map unplaced ms) (h .labels)))
 unfolding foldOutcome upsertAll putRecord
 symbols-through h [] d i f = refl
 symbols-through h (m ∷ ms) d i f =
     rw (symbol-new h m (i .0) (f .0))
     (symbols-through (withLabels h (upsert labelKey (unplaced m) (h .labels))) ms (d .1) (i .1) (found-insert labelKey (λ x. none) (unplaced m) ms (h .labels) (others labelKey m ms (d .0)) (f .1)))
 
-index-known : (names indices : ℕ) (h : ObjectFile) (m : Label) → InLabel m → atKey labelKey (m .name) (h .labels) ≡ some (unplaced m) → parseLabelRow h (indexLine names indices m) ≡ given (putRecord h (label m))
+index-known : (names indices : ℕ) (h : ObjectFile) (m : Label) → InLabel m → atKey labelKey (m .name) (h .labels) ≡ some (unplaced m) → parseLabelRow h (labelRow names indices m) ≡ given (putRecord h (label m))
 unfolding labelNamed
 index-known names indices h m i f = index-row names indices h m (i .1) (i .2) ∙ rw f
 
 pub indices-through :
     (names indices : ℕ) (h : ObjectFile) (ms : List Label) → Distinct labelKey ms → All InLabel ms → All (λ m. atKey labelKey (m .name) (h .labels) ≡ some (unplaced m)) ms
-    → foldOutcome parseLabelRow h (map (indexLine names indices) ms) ≡ given (withLabels h (upsertAll labelKey ms (h .labels)))
+    → foldOutcome parseLabelRow h (map (labelRow names indices) ms) ≡ given (withLabels h (upsertAll labelKey ms (h .labels)))
 unfolding foldOutcome upsertAll putRecord
 indices-through names indices h [] d i f = refl
 indices-through names indices h (m ∷ ms) d i f =
@@ -144,24 +144,14 @@ module _ (ls ms ns : List Label) (r : Rises labelKey ls) (p : Reordered ls ms) (
       pick none = refl
       pick (some m) = refl
 
--- the tables as lines
-abbrev pub byAddress : List Label → List Label
-byAddress ls = sorted (λ m. m .address ∷ m .name) ls
-
-abbrev pub byStart : List Label → List Label
-byStart ls = sorted (λ m. m .start ∷ m .name) ls
-
-abbrev pub symbolHeader : List ℕ
-symbolHeader = ascii "ADDR | EXT | LABEL"
-
 abbrev pub symbolLines : List Label → List (List ℕ)
 symbolLines [] = []
-symbolLines (l ∷ ls) = symbolHeader ∷ map symbolLine (byAddress (l ∷ ls))
+symbolLines (l ∷ ls) = symbolHeader ∷ map symbolRow (byAddress (l ∷ ls))
 
 pub symbol-lines : (ls : List Label) → symbolTable ls ≡ flatMap textLine (symbolLines ls)
 unfolding symbolTable flatMap
 symbol-lines [] = refl
-symbol-lines (l ∷ ls) = ap (λ (r : List ℕ). textLine symbolHeader ++ r) (sym (flatMap-map textLine symbolLine (byAddress (l ∷ ls))))
+symbol-lines (l ∷ ls) = ap (λ (r : List ℕ). textLine symbolHeader ++ r) (sym (flatMap-map textLine symbolRow (byAddress (l ∷ ls))))
 
 symbol-header : sameCells (map trim (splitn 2 symbolHeader)) (ascii "ADDR" ∷ ascii "EXT" ∷ ascii "LABEL" ∷ []) ≡ true
 unfolding open-Utf8 isEmpty ascii beginsWith splitOnce splitn sameCells eqs
@@ -173,7 +163,7 @@ pub symbols-back :
 unfolding parseSymbolGroup
 symbols-back h [] d i f = unfold rowsUnder foldOutcome upsertAll in refl
 symbols-back h (l ∷ ls) d i f =
-    rw (rows-under 26 (ascii "ADDR" ∷ ascii "EXT" ∷ ascii "LABEL" ∷ []) symbolHeader (map symbolLine (byAddress (l ∷ ls))) symbol-header)
+    rw (rows-under 26 (ascii "ADDR" ∷ ascii "EXT" ∷ ascii "LABEL" ∷ []) symbolHeader (map symbolRow (byAddress (l ∷ ls))) symbol-header)
     (symbols-through h (byAddress (l ∷ ls)) d i f)
 
 -- the padded header of the second table
@@ -191,30 +181,21 @@ pub INDEX-visible : All Visible (ascii "INDEX")
 unfolding ascii
 INDEX-visible = ((omega arith, omega arith), ((omega arith, omega arith), ((omega arith, omega arith), ((omega arith, omega arith), ((omega arith, omega arith), tt)))))
 
-abbrev pub indexHeader : ℕ → ℕ → List ℕ
-indexHeader names indices = toLeft names (ascii "LABEL") ++ tableDiv ++ toLeft indices (ascii "INDEX")
-
-index-header : (names indices : ℕ) → sameCells (map trim (splitn 1 (indexHeader names indices))) (ascii "LABEL" ∷ ascii "INDEX" ∷ []) ≡ true
+index-header : (names indices : ℕ) → sameCells (map trim (splitn 1 (labelHeader names indices))) (ascii "LABEL" ∷ ascii "INDEX" ∷ []) ≡ true
 index-header names indices =
     let a = left-cell names (ascii "LABEL") LABEL-visible in
     let b = left-cell indices (ascii "INDEX") INDEX-visible in
     rw (cells-1 (toLeft names (ascii "LABEL")) (toLeft indices (ascii "INDEX")) (a .1), a .0, b .0) (same-self (ascii "LABEL" ∷ ascii "INDEX" ∷ []))
 
-abbrev pub nameWidth : List Label → ℕ
-nameWidth ls = widest (λ m. length (m .name)) 5 ls
-
-abbrev pub indexWidth : List Label → ℕ
-indexWidth ls = widest (λ m. length (decimal (m .start))) 5 ls
-
 abbrev pub indexLines : List Label → List (List ℕ)
 indexLines [] = []
-indexLines (l ∷ ls) = indexHeader (nameWidth (l ∷ ls)) (indexWidth (l ∷ ls)) ∷ map (indexLine (nameWidth (l ∷ ls)) (indexWidth (l ∷ ls))) (byStart (l ∷ ls))
+indexLines (l ∷ ls) = labelHeader (labelWidth (l ∷ ls)) (indexWidth (l ∷ ls)) ∷ map (labelRow (labelWidth (l ∷ ls)) (indexWidth (l ∷ ls))) (byStart (l ∷ ls))
 
 pub index-lines : (ls : List Label) → indexText ls ≡ flatMap textLine (indexLines ls)
-unfolding indexText flatMap
+unfolding indexText flatMap widest
 index-lines [] = refl
 index-lines (l ∷ ls) =
-    ap (λ (r : List ℕ). textLine (indexHeader (nameWidth (l ∷ ls)) (indexWidth (l ∷ ls))) ++ r) (sym (flatMap-map textLine (indexLine (nameWidth (l ∷ ls)) (indexWidth (l ∷ ls))) (byStart (l ∷ ls))))
+    ap (λ (r : List ℕ). textLine (labelHeader (labelWidth (l ∷ ls)) (indexWidth (l ∷ ls))) ++ r) (sym (flatMap-map textLine (labelRow (labelWidth (l ∷ ls)) (indexWidth (l ∷ ls))) (byStart (l ∷ ls))))
 
 pub indices-back :
     (h : ObjectFile) (ls : List Label) → Distinct labelKey (byStart ls) → All InLabel (byStart ls) → All (λ m. atKey labelKey (m .name) (h .labels) ≡ some (unplaced m)) (byStart ls)
@@ -222,31 +203,28 @@ pub indices-back :
 unfolding parseLabelTable
 indices-back h [] d i f = unfold rowsUnder foldOutcome upsertAll in refl
 indices-back h (l ∷ ls) d i f =
-    rw (rows-under 26 (ascii "LABEL" ∷ ascii "INDEX" ∷ []) (indexHeader (nameWidth (l ∷ ls)) (indexWidth (l ∷ ls))) (map (indexLine (nameWidth (l ∷ ls)) (indexWidth (l ∷ ls))) (byStart (l ∷ ls))) (index-header (nameWidth (l ∷ ls)) (indexWidth (l ∷ ls))))
-    (indices-through (nameWidth (l ∷ ls)) (indexWidth (l ∷ ls)) h (byStart (l ∷ ls)) d i f)
+    rw (rows-under 26 (ascii "LABEL" ∷ ascii "INDEX" ∷ []) (labelHeader (labelWidth (l ∷ ls)) (indexWidth (l ∷ ls))) (map (labelRow (labelWidth (l ∷ ls)) (indexWidth (l ∷ ls))) (byStart (l ∷ ls))) (index-header (labelWidth (l ∷ ls)) (indexWidth (l ∷ ls))))
+    (indices-through (labelWidth (l ∷ ls)) (indexWidth (l ∷ ls)) h (byStart (l ∷ ls)) d i f)
 
 -- relocations
 abbrev pub InRelocation : Relocation → Type 0
 InRelocation q = (q .address < 2 ^ 16) × GoodName (q .name)
 
 pub linker-through :
-    (h : ObjectFile) (rs : List Relocation) → All InRelocation rs → foldOutcome parseLinkerRow h (map linkerLine rs) ≡ given (withRelocations h (upsertAll relocationKey rs (h .relocations)))
+    (h : ObjectFile) (rs : List Relocation) → All InRelocation rs → foldOutcome parseLinkerRow h (map linkerRow rs) ≡ given (withRelocations h (upsertAll relocationKey rs (h .relocations)))
 unfolding foldOutcome upsertAll putRecord
 linker-through h [] i = refl
 linker-through h (q ∷ rs) i =
     rw (linker-row h q (i .0 .0) (i .0 .1)) (linker-through (withRelocations h (upsert relocationKey q (h .relocations))) rs (i .1))
 
-abbrev pub linkerHeader : List ℕ
-linkerHeader = ascii "ADDR | LABEL"
-
 abbrev pub linkerLines : List Relocation → List (List ℕ)
 linkerLines [] = []
-linkerLines (q ∷ rs) = linkerHeader ∷ map linkerLine (q ∷ rs)
+linkerLines (q ∷ rs) = linkerHeader ∷ map linkerRow (q ∷ rs)
 
 pub linker-lines : (rs : List Relocation) → linkerTable rs ≡ flatMap textLine (linkerLines rs)
-unfolding linkerTable flatMap
+unfolding linkerTable flatMap hex4
 linker-lines [] = refl
-linker-lines (q ∷ rs) = ap (λ (r : List ℕ). textLine linkerHeader ++ r) (sym (flatMap-map textLine linkerLine (q ∷ rs)))
+linker-lines (q ∷ rs) = ap (λ (r : List ℕ). textLine linkerHeader ++ r) (sym (flatMap-map textLine linkerRow (q ∷ rs)))
 
 linker-header : sameCells (map trim (splitn 1 linkerHeader)) (ascii "ADDR" ∷ ascii "LABEL" ∷ []) ≡ true
 unfolding open-Utf8 isEmpty ascii beginsWith splitOnce splitn sameCells eqs
@@ -256,4 +234,4 @@ pub linker-back : (h : ObjectFile) (rs : List Relocation) → All InRelocation r
 unfolding parseLinkerGroup
 linker-back h [] i = unfold rowsUnder foldOutcome upsertAll in refl
 linker-back h (q ∷ rs) i =
-    rw (rows-under 26 (ascii "ADDR" ∷ ascii "LABEL" ∷ []) linkerHeader (map linkerLine (q ∷ rs)) linker-header) (linker-through h (q ∷ rs) i)
+    rw (rows-under 26 (ascii "ADDR" ∷ ascii "LABEL" ∷ []) linkerHeader (map linkerRow (q ∷ rs)) linker-header) (linker-through h (q ∷ rs) i)

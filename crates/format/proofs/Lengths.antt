@@ -12,7 +12,7 @@ use Rattle.format.specs.ObjectFile.{Label, Relocation, ObjectFile}
 use Rattle.format.specs.Records.{Record, block, label, lineBlock, relocation, recordsOf, sourceRecords}
 use Rattle.format.specs.Words.{recordWords, wordsOf}
 use Rattle.format.specs.Binary.{header, recordBytes, binaryFile}
-use Rattle.format.specs.TextWriter.{hex4, textLine, tableDiv, blockLines, linkerTable, blocksOnly, symbolGroups, textFile}
+use Rattle.format.specs.TextWriter.{linkerRow, hex4, textLine, blockLines, linkerTable, blocksOnly, symbolGroups, textFile}
 use Rattle.format.specs.Calls.{Reordered, inOrder}
 use Rattle.format.specs.Trips.{swapRelocations, swapRelocation}
 use Rattle.format.proofs.ListLaws.{flatMap-length, flatMap-map, flatMap-reordered, reordered-map}
@@ -60,19 +60,15 @@ hex4-length : (v : ℕ) → length (hex4 v) ≡ 4
 unfolding hex4 digitsOf
 hex4-length v = refl
 
--- the linker table, by its rows
-abbrev linkerRow : Relocation → List ℕ
-linkerRow q = textLine (hex4 (q .address) ++ tableDiv ++ q .name)
-
-linker-length : (xs ys : List Relocation) → isEmpty xs ≡ isEmpty ys → length (flatMap linkerRow xs) ≡ length (flatMap linkerRow ys) → length (linkerTable xs) ≡ length (linkerTable ys)
+linker-length : (xs ys : List Relocation) → isEmpty xs ≡ isEmpty ys → length (flatMap (λ q. textLine (linkerRow q)) xs) ≡ length (flatMap (λ q. textLine (linkerRow q)) ys) → length (linkerTable xs) ≡ length (linkerTable ys)
 unfolding linkerTable isEmpty
 linker-length [] [] e l = refl
 linker-length [] (y ∷ ys) e l = let z : _≡_ {A = ℕ} 0 1 = cc in absurd (omega arith)
 linker-length (x ∷ xs) [] e l = let z : _≡_ {A = ℕ} 0 1 = cc in absurd (omega arith)
 linker-length (x ∷ xs) (y ∷ ys) e l =
-    omega (arith, length-append (textLine (ascii "ADDR | LABEL")) (flatMap linkerRow (x ∷ xs)), length-append (textLine (ascii "ADDR | LABEL")) (flatMap linkerRow (y ∷ ys)))
+    omega (arith, length-append (textLine (ascii "ADDR | LABEL")) (flatMap (λ q. textLine (linkerRow q)) (x ∷ xs)), length-append (textLine (ascii "ADDR | LABEL")) (flatMap (λ q. textLine (linkerRow q)) (y ∷ ys)))
 
-linker-row : (q : Relocation) → length (linkerRow (swapRelocation q)) ≡ length (linkerRow q)
+linker-row : (q : Relocation) → length (textLine (linkerRow (swapRelocation q))) ≡ length (textLine (linkerRow q))
 linker-row q = simp (length-append, hex4-length)
 
 module _ (h : ObjectFile) (t : List Relocation) where
@@ -96,4 +92,4 @@ module _ (h : ObjectFile) (w : WellFormed h) (r : InRange h) where
   pub swapped-text : length (textFile (swapRelocations h)) ≡ length (textFile h)
   unfolding swapRelocations
   swapped-text =
-      file-length h (anew h) (empty-same h w r) (linker-length (anew h) (h .relocations) (empty-same h w r) (swapped-length h w r linkerRow linker-row))
+      file-length h (anew h) (empty-same h w r) (linker-length (anew h) (h .relocations) (empty-same h w r) (swapped-length h w r (λ q. textLine (linkerRow q)) linker-row))

@@ -15,7 +15,7 @@ use Rattle.format.specs.ObjectFile.{Label, Relocation, ObjectFile}
 use Rattle.format.specs.Fair.{FairName}
 use Rattle.format.specs.Records.{label, relocation, putRecord, labelNamed}
 use Rattle.format.specs.Words.{flagBit}
-use Rattle.format.specs.TextWriter.{spaces, toRight, toLeft, tableDiv, memoryText, hex4, decimal, Row}
+use Rattle.format.specs.TextWriter.{lineRow, symbolRow, linkerRow, labelRow, spaces, toRight, toLeft, tableDiv, memoryText, hex4, decimal, Row}
 use Rattle.format.specs.TextReader.{hex2u16, parseDecimal, maybeHex2u16, splitn, parseSymbolRow, parseLinkerRow, parseLabelRow, parseLineRows}
 use Rattle.format.proofs.TextLaws.{OneLine}
 use Rattle.format.proofs.ListLaws.{all-map}
@@ -143,10 +143,6 @@ bit-back : (e : Bool) → not (eqb (flagBit e) 0) ≡ e
 bit-back true = refl
 bit-back false = refl
 
--- .SYMBOL
-abbrev pub symbolLine : Label → List ℕ
-symbolLine m = hex4 (m .address) ++ tableDiv ++ toRight 3 (decimal (flagBit (m .external))) ++ tableDiv ++ m .name
-
 symbol-path :
     (h : ObjectFile) (l c0 c1 c2 : List ℕ) (a e : ℕ) (name : List ℕ) → splitn 2 l ≡ c0 ∷ c1 ∷ c2 ∷ [] → hex2u16 (trim c0) ≡ some a → parseDecimal (2 ^ 8) (trim c1) ≡ some e → trim c2 ≡ name
     → parseSymbolRow h l ≡ given (putRecord h (label (record { name = name; address = a; external = not (eqb e 0); start = labelNamed name (h .labels) .start })))
@@ -155,13 +151,13 @@ symbol-path h l c0 c1 c2 a e name h1 h2 h3 h4 = rw (h1, h2, h3, h4)
 
 pub symbol-row :
     (h : ObjectFile) (m : Label) → m .address < 2 ^ 16 → GoodName (m .name)
-    → parseSymbolRow h (symbolLine m)
+    → parseSymbolRow h (symbolRow m)
     ≡ given (putRecord h (label (record { name = m .name; address = m .address; external = m .external; start = labelNamed (m .name) (h .labels) .start })))
 symbol-row h m ha hn =
     let s = numeric-solid (hex4 (m .address)) (hex-numeric (m .address)) in
     let b = bit-small (m .external) in
     let r = right-cell 3 (flagBit (m .external)) (2 ^ 8) (b .0) (b .1) in
-    symbol-path h (symbolLine m) (hex4 (m .address)) (toRight 3 (decimal (flagBit (m .external)))) (m .name) (m .address) (flagBit (m .external)) (m .name)
+    symbol-path h (symbolRow m) (hex4 (m .address)) (toRight 3 (decimal (flagBit (m .external)))) (m .name) (m .address) (flagBit (m .external)) (m .name)
     (cells-2 (hex4 (m .address)) (toRight 3 (decimal (flagBit (m .external)))) (m .name) (undivided-solid (hex4 (m .address)) s) (r .1))
     (ap hex2u16 (trim-solid (hex4 (m .address)) s) ∙ hex-back (m .address) ha) (r .0) (trim-solid (m .name) (hn .0))
     ∙ rw (bit-back (m .external))
@@ -178,7 +174,7 @@ entry-full (some v) = hex-full v
 pub hex-ordinary : (v : ℕ) → Ordinary (hex4 v)
 hex-ordinary v = numeric-ordinary (hex4 v) (hex-numeric v) (hex-full v)
 
-pub symbol-ordinary : (m : Label) → GoodName (m .name) → Ordinary (symbolLine m)
+pub symbol-ordinary : (m : Label) → GoodName (m .name) → Ordinary (symbolRow m)
 symbol-ordinary m n =
     let a : List ℕ = hex4 (m .address) in
     let x : List ℕ = toRight 3 (decimal (flagBit (m .external))) in
@@ -191,30 +187,22 @@ symbol-ordinary m n =
     (one-line-append (a ++ tableDiv) x (one-line-append a tableDiv (o .0) d) (printable-line x p)) (solid-line (m .name) (n .0))
     (text-append (a ++ tableDiv) x (text-append a tableDiv (o .1) td) (printable-text x p)) (n .1)
 
--- .LINKER_INFO
-abbrev pub linkerLine : Relocation → List ℕ
-linkerLine q = hex4 (q .address) ++ tableDiv ++ q .name
-
 linker-path :
     (h : ObjectFile) (l c0 c1 : List ℕ) (a : ℕ) (name : List ℕ) → splitn 1 l ≡ c0 ∷ c1 ∷ [] → hex2u16 (trim c0) ≡ some a → trim c1 ≡ name
     → parseLinkerRow h l ≡ given (putRecord h (relocation (record { address = a; name = name })))
 unfolding parseLinkerRow
 linker-path h l c0 c1 a name h1 h2 h3 = rw (h1, h2, h3)
 
-pub linker-row : (h : ObjectFile) (q : Relocation) → q .address < 2 ^ 16 → GoodName (q .name) → parseLinkerRow h (linkerLine q) ≡ given (putRecord h (relocation q))
+pub linker-row : (h : ObjectFile) (q : Relocation) → q .address < 2 ^ 16 → GoodName (q .name) → parseLinkerRow h (linkerRow q) ≡ given (putRecord h (relocation q))
 linker-row h q ha hn =
     let s = numeric-solid (hex4 (q .address)) (hex-numeric (q .address)) in
-    linker-path h (linkerLine q) (hex4 (q .address)) (q .name) (q .address) (q .name) (cells-1 (hex4 (q .address)) (q .name) (undivided-solid (hex4 (q .address)) s))
+    linker-path h (linkerRow q) (hex4 (q .address)) (q .name) (q .address) (q .name) (cells-1 (hex4 (q .address)) (q .name) (undivided-solid (hex4 (q .address)) s))
     (ap hex2u16 (trim-solid (hex4 (q .address)) s) ∙ hex-back (q .address) ha) (trim-solid (q .name) (hn .0))
 
-pub linker-ordinary : (q : Relocation) → GoodName (q .name) → Ordinary (linkerLine q)
+pub linker-ordinary : (q : Relocation) → GoodName (q .name) → Ordinary (linkerRow q)
 linker-ordinary q n =
     let o = hex-ordinary (q .address) in
     row-ordinary (hex4 (q .address)) (q .name) (numeric-starts (hex4 (q .address)) (hex-numeric (q .address)) (hex-full (q .address))) (o .0) (solid-line (q .name) (n .0)) (o .1) (n .1)
-
--- .DEBUG, labels
-abbrev pub indexLine : ℕ → ℕ → Label → List ℕ
-indexLine names indices m = toLeft names (m .name) ++ tableDiv ++ toRight indices (decimal (m .start))
 
 index-path :
     (h : ObjectFile) (l c0 c1 : List ℕ) (i : ℕ) (name : List ℕ) → splitn 1 l ≡ c0 ∷ c1 ∷ [] → trim c0 ≡ name → parseDecimal (2 ^ 64) (trim c1) ≡ some i
@@ -224,16 +212,16 @@ index-path h l c0 c1 i name h1 h2 h3 = rw (h1, h2, h3)
 
 pub index-row :
     (names indices : ℕ) (h : ObjectFile) (m : Label) → m .start < 2 ^ 64 → GoodName (m .name)
-    → parseLabelRow h (indexLine names indices m)
+    → parseLabelRow h (labelRow names indices m)
     ≡ given (putRecord h (label (record { name = m .name; address = labelNamed (m .name) (h .labels) .address; external = labelNamed (m .name) (h .labels) .external; start = m .start })))
 index-row names indices h m hs hn =
     let r = right-cell indices (m .start) (2 ^ 64) hs hs in
     let k : ℕ = names - characters (m .name) in
-    index-path h (indexLine names indices m) (toLeft names (m .name)) (toRight indices (decimal (m .start))) (m .start) (m .name)
+    index-path h (labelRow names indices m) (toLeft names (m .name)) (toRight indices (decimal (m .start))) (m .start) (m .name)
     (cells-1 (toLeft names (m .name)) (toRight indices (decimal (m .start))) (undivided-append (m .name) (spaces k) (hn .0) (undivided-spaces k)))
     (trim-right k (m .name) (hn .0)) (r .0)
 
-pub index-ordinary : (names indices : ℕ) (m : Label) → m .start < 2 ^ 64 → GoodName (m .name) → Ordinary (indexLine names indices m)
+pub index-ordinary : (names indices : ℕ) (m : Label) → m .start < 2 ^ 64 → GoodName (m .name) → Ordinary (labelRow names indices m)
 index-ordinary names indices m hs n =
     let k : ℕ = names - characters (m .name) in
     let p = right-printable indices (m .start) hs in
@@ -243,7 +231,7 @@ index-ordinary names indices m hs n =
     (text-append (m .name) (spaces k) (n .1) (printable-text (spaces k) s)) (printable-text (toRight indices (decimal (m .start))) p)
 
 -- an index row begins with a name, and no bar
-pub index-no-bar : (names indices : ℕ) (m : Label) → GoodName (m .name) → beginsWith (ascii "=") (indexLine names indices m) ≡ false
+pub index-no-bar : (names indices : ℕ) (m : Label) → GoodName (m .name) → beginsWith (ascii "=") (labelRow names indices m) ≡ false
 unfolding ascii beginsWith
 index-no-bar names indices m n = go (m .name) (n .2) (n .3)
   where
@@ -253,9 +241,6 @@ index-no-bar names indices m n = go (m .name) (n .2) (n .3)
 
 -- .DEBUG, lines
 module _ (width : ℕ) (cellOf : ℕ → List ℕ) where
-  abbrev pub lineLine : Row → List ℕ
-  lineLine r = toRight width (decimal (r .number)) ++ tableDiv ++ memoryText (r .address) ++ tableDiv ++ cellOf (r .number)
-
   -- the rows' numbers from i on
   abbrev pub Numbered : ℕ → List Row → Type 0
   Numbered i [] = Unit {0}
@@ -267,18 +252,18 @@ module _ (width : ℕ) (cellOf : ℕ → List ℕ) where
   unfolding parseLineRows
   line-path i l ls c0 c1 c2 n a rows h1 h2 h3 h4 h5 = rw (h1, h2, h3, h4, h5)
 
-  pub line-rows : (i : ℕ) (rows : List Row) → Numbered i rows → parseLineRows i (map lineLine rows) ≡ given (map (λ r. (r .address, cellOf (r .number))) rows)
+  pub line-rows : (i : ℕ) (rows : List Row) → Numbered i rows → parseLineRows i (map (lineRow width cellOf) rows) ≡ given (map (λ r. (r .address, cellOf (r .number))) rows)
   unfolding parseLineRows
   line-rows i [] h = refl
   line-rows i (r ∷ rs) h =
       let n : r .number < 2 ^ 64 = omega (arith, h .0, h .1) in
       let x = right-cell width (r .number) (2 ^ 64) n n in
       let s = numeric-solid (memoryText (r .address)) (entry-numeric (r .address)) in
-      line-path i (lineLine r) (map lineLine rs) (toRight width (decimal (r .number))) (memoryText (r .address)) (cellOf (r .number)) (r .number) (r .address) (map (λ r. (r .address, cellOf (r .number))) rs)
+      line-path i (lineRow width cellOf r) (map (lineRow width cellOf) rs) (toRight width (decimal (r .number))) (memoryText (r .address)) (cellOf (r .number)) (r .number) (r .address) (map (λ r. (r .address, cellOf (r .number))) rs)
       (cells-2 (toRight width (decimal (r .number))) (memoryText (r .address)) (cellOf (r .number)) (x .1) (undivided-solid (memoryText (r .address)) s)) (x .0) (eq-eqb (r .number) i (h .0))
       (ap maybeHex2u16 (trim-solid (memoryText (r .address)) s) ∙ entry-back (r .address) (h .2)) (line-rows (suc i) rs (h .3))
 
-  pub line-ordinary : (r : Row) → r .number < 2 ^ 64 → All Printable (cellOf (r .number)) → Ordinary (lineLine r)
+  pub line-ordinary : (r : Row) → r .number < 2 ^ 64 → All Printable (cellOf (r .number)) → Ordinary (lineRow width cellOf r)
   line-ordinary r n c =
       let a : List ℕ = toRight width (decimal (r .number)) in
       let x : List ℕ = memoryText (r .address) in

@@ -8,15 +8,15 @@ use lib.ListN.{length}
 use Rattle.format.specs.Basics.{ascii, beginsWith, isEmpty, every, All}
 use Rattle.format.specs.Utf8.{open-Utf8}
 use Rattle.format.specs.ObjectFile.{Block, Label, Relocation}
-use Rattle.format.specs.TextWriter.{toLeft, decimal, hex4, memoryText}
+use Rattle.format.specs.TextWriter.{toLeft, decimal, hex4, memoryText, symbolRow, linkerRow, labelRow, byAddress, byStart, symbolHeader, linkerHeader, labelWidth, indexWidth, labelHeader}
 use Rattle.format.specs.TextReader.{isBar}
 use Rattle.format.proofs.ListLaws.{all-map, all-images}
 use Rattle.format.proofs.ListFacts.{all-of, all-flatMap}
 use Rattle.format.proofs.NumeralBack.{Numeric, Full, hex-numeric, decimal-numeric, entry-numeric}
 use Rattle.format.proofs.LineLaws.{printable-line}
-use Rattle.format.proofs.RowLaws.{Ordinary, Starts, row-ordinary, printable-text, symbolLine, symbol-ordinary, linkerLine, linker-ordinary, indexLine, index-ordinary, index-no-bar, entry-full, hex-full}
+use Rattle.format.proofs.RowLaws.{Ordinary, Starts, row-ordinary, printable-text, symbol-ordinary, linker-ordinary, index-ordinary, index-no-bar, entry-full, hex-full}
 use Rattle.format.proofs.BlockTrip.{InBlock, blockRows}
-use Rattle.format.proofs.LabelTrip.{InLabel, InRelocation, byAddress, byStart, symbolHeader, symbolLines, linkerHeader, linkerLines, nameWidth, indexWidth, indexHeader, indexLines, LABEL-visible, INDEX-visible}
+use Rattle.format.proofs.LabelTrip.{InLabel, InRelocation, symbolLines, linkerLines, indexLines, LABEL-visible, INDEX-visible}
 use Rattle.format.proofs.DebugTrip.{left-printable}
 use Rattle.format.proofs.FileLaws.{printable-by, EndsVisible}
 
@@ -32,7 +32,7 @@ LABEL-starts : (w : ℕ) → Starts (toLeft w (ascii "LABEL"))
 unfolding ascii
 LABEL-starts w = (λ e. omega arith, λ e. omega arith)
 
-index-header : (names indices : ℕ) → Ordinary (indexHeader names indices)
+index-header : (names indices : ℕ) → Ordinary (labelHeader names indices)
 index-header names indices =
     let a : List ℕ = toLeft names (ascii "LABEL") in
     let b : List ℕ = toLeft indices (ascii "INDEX") in
@@ -40,31 +40,31 @@ index-header names indices =
     let q = left-printable indices (ascii "INDEX") INDEX-visible in
     row-ordinary a b (LABEL-starts names) (printable-line a p) (printable-line b q) (printable-text a p) (printable-text b q)
 
-header-no-bar : (names indices : ℕ) → isBar (indexHeader names indices) ≡ false
+header-no-bar : (names indices : ℕ) → isBar (labelHeader names indices) ≡ false
 unfolding ascii beginsWith
 header-no-bar names indices = refl
 
 pub symbols-ordinary : (ls : List Label) → All InLabel (byAddress ls) → All Ordinary (symbolLines ls)
 symbols-ordinary [] h = tt
-symbols-ordinary (l ∷ ls) h = (symbol-header, all-images Ordinary symbolLine (byAddress (l ∷ ls)) (all-map (λ m i. symbol-ordinary m (i .2)) (byAddress (l ∷ ls)) h))
+symbols-ordinary (l ∷ ls) h = (symbol-header, all-images Ordinary symbolRow (byAddress (l ∷ ls)) (all-map (λ m i. symbol-ordinary m (i .2)) (byAddress (l ∷ ls)) h))
 
 pub linkers-ordinary : (rs : List Relocation) → All InRelocation rs → All Ordinary (linkerLines rs)
 linkers-ordinary [] h = tt
-linkers-ordinary (q ∷ rs) h = (linker-header, all-images Ordinary linkerLine (q ∷ rs) (all-map (λ m i. linker-ordinary m (i .1)) (q ∷ rs) h))
+linkers-ordinary (q ∷ rs) h = (linker-header, all-images Ordinary linkerRow (q ∷ rs) (all-map (λ m i. linker-ordinary m (i .1)) (q ∷ rs) h))
 
 pub indices-ordinary : (ls : List Label) → All InLabel (byStart ls) → All Ordinary (indexLines ls)
 indices-ordinary [] h = tt
 indices-ordinary (l ∷ ls) h =
-    let n : ℕ = nameWidth (l ∷ ls) in
+    let n : ℕ = labelWidth (l ∷ ls) in
     let w : ℕ = indexWidth (l ∷ ls) in
-    (index-header n w, all-images Ordinary (indexLine n w) (byStart (l ∷ ls)) (all-map (λ m i. index-ordinary n w m (i .1) (i .2)) (byStart (l ∷ ls)) h))
+    (index-header n w, all-images Ordinary (labelRow n w) (byStart (l ∷ ls)) (all-map (λ m i. index-ordinary n w m (i .1) (i .2)) (byStart (l ∷ ls)) h))
 
 pub indices-no-bars : (ls : List Label) → All InLabel (byStart ls) → All (λ l. isBar l ≡ false) (indexLines ls)
 indices-no-bars [] h = tt
 indices-no-bars (l ∷ ls) h =
-    let n : ℕ = nameWidth (l ∷ ls) in
+    let n : ℕ = labelWidth (l ∷ ls) in
     let w : ℕ = indexWidth (l ∷ ls) in
-    (header-no-bar n w, all-images (λ r. isBar r ≡ false) (indexLine n w) (byStart (l ∷ ls)) (all-map (λ m i. index-no-bar n w m (i .2)) (byStart (l ∷ ls)) h))
+    (header-no-bar n w, all-images (λ r. isBar r ≡ false) (labelRow n w) (byStart (l ∷ ls)) (all-map (λ m i. index-no-bar n w m (i .2)) (byStart (l ∷ ls)) h))
 
 -- the last byte of a block's row is visible
 numeric-ends : (t : List ℕ) → All Numeric t → Full t → EndsVisible t

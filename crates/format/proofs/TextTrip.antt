@@ -15,7 +15,7 @@ use Rattle.format.proofs.GatherLaws.{Distinct, rises-distinct, sorted-b
 use Rattle.format.specs.Utf8.{isUtf8}
 use Rattle.format.specs.ObjectFile.{Block, Label, LineBlock, Relocation, ObjectFile, blockKey, labelKey, relocationKey, neverFall, sourceText, consistent}
 use Rattle.format.specs.Records.{source, emptyObject, dropStrayRelocations, concluded, askAll}
-use Rattle.format.specs.TextWriter.{textLine, blocksOnly, symbolGroups, textFile}
+use Rattle.format.specs.TextWriter.{textLine, blocksOnly, symbolGroups, textFile, byAddress, byStart}
 use Rattle.format.specs.TextReader.{keptLines, afterMagic, parseGroup, parseTextGroup, parseSymbolGroup, parseLinkerGroup, parseDebugGroup, isBar, textObject}
 use Rattle.format.specs.Calls.{Reordered}
 use Rattle.format.proofs.ListLaws.{every-all, all-map, all-both, flatMap-append, all-reordered, unchanged}
@@ -25,7 +25,7 @@ use Rattle.format.proofs.RowLaws.{good-name}
 use Rattle.format.proofs.RisesLaws.{reordered-sorted}
 use Rattle.format.proofs.OrderLaws.{distinct-front}
 use Rattle.format.proofs.BlockTrip.{InBlock, blockRows, blocks-back, blocks-ordinary, blocks-lines}
-use Rattle.format.proofs.LabelTrip.{InLabel, InRelocation, unplaced, byAddress, byStart, symbolLines, symbol-lines, symbols-back, indexLines, index-lines, indices-back, linkerLines, linker-lines, linker-back, placing-known, labels-back}
+use Rattle.format.proofs.LabelTrip.{InLabel, InRelocation, unplaced, symbolLines, symbol-lines, symbols-back, indexLines, index-lines, indices-back, linkerLines, linker-lines, linker-back, placing-known, labels-back}
 use Rattle.format.specs.Fair.{FairName, FairParts}
 use Rattle.format.proofs.Ranges.{WellFormed, InRange}
 use Rattle.format.proofs.FairLaws.{of-names, consistent-parts, fair-source, fair-blocks}

@@ -1,24 +1,26 @@
--- Reading the text form (document 01, "Text form" and the questions 20 to 31; source document 000). Texts, lines and cells are lists of
--- bytes. Assumes nothing.
+-- Reading the text form (document 01, "Text form (000)" and the questions 20 to 31). Texts, lines and cells are lists of bytes.
+-- Assumes nothing.
 use mathlib.Core.Bool.{Bool, true, false, _&&_, not}
 use mathlib.Core.List.{List, [], _∷_, _++_, map, flatMap}
 use mathlib.Core.Option.{Option, none, some}
 use Prim.Native.Nat.{ℕ, zero, suc, _+_, _-_, _*_, _^_}
 use lib.ListN.{length, take, drop, getD}
 use lib.Dec.{leb, ltb, eqb}
-use Rattle.format.specs.Basics.{Outcome, refused, given, _>>=_, ask, need, andThen, if_then_else_, ascii, isEmpty, every, keep, allSome, eqs, beginsWith, isSome}
+use Rattle.format.specs.Basics.{Outcome, refused, given, _>>=_, ask, need, andThen, isSome, if_then_else_, ascii, isEmpty, keep, allSome, eqs, beginsWith}
 use Rattle.format.specs.Tokens.{tokens, scanTokens, foldOutcome, partsAt}
 use Rattle.format.specs.Sorted.{atKey}
 use Rattle.format.specs.Utf8.{isUtf8, isScalar, encodeScalar, isBetween, isBlank, trim}
 use Rattle.format.specs.ObjectFile.{LineBlock, ObjectFile, blockKey}
 use Rattle.format.specs.Records.{block, label, relocation, putRecord, emptyObject, withLines, labelNamed, textQuestions, concluded}
 
+-- LINES
+
 -- an element in front of the first list
 unfoldable pub onFirst : {A : Type 0} → A → List (List A) → List (List A)
 onFirst a [] = (a ∷ []) ∷ []
 onFirst a (l ∷ ls) = (a ∷ l) ∷ ls
 
--- `str::lines`: a line ends at LF or at CR LF, and the last may go without
+-- "split as `str::lines`": a line ends at LF or at CR LF, and the last may go without
 unfoldable pub lines : List ℕ → List (List ℕ)
 lines [] = []
 lines (b ∷ bs) =
@@ -26,11 +28,13 @@ lines (b ∷ bs) =
     else if eqb b 0x0D && beginsWith (0x0A ∷ []) bs then lines bs
     else onFirst b (lines bs)
 
--- comment lines and blank ones are dropped
+-- "Trim the file by White_Space, split as `str::lines`, drop lines beginning `#` and blank ones."
 unfoldable pub keptLines : List ℕ → List (List ℕ)
 keptLines bs = keep (λ l. not (beginsWith (ascii "#") l) && not (isBlank l)) (lines (trim bs))
 
--- numbers, as `from_str_radix` and `parse` read them
+-- NUMBERS
+
+-- the value of a digit in a base up to 16, of either case
 unfoldable pub digitValue : ℕ → ℕ → Option ℕ
 digitValue base b =
     let d = if isBetween 48 57 b then b - 48 else if isBetween 65 70 b then b - 55 else if isBetween 97 102 b then b - 87 else 16 in
@@ -49,12 +53,15 @@ abbrev pub belowLimit : ℕ → Option ℕ → Option ℕ
 belowLimit limit none = none
 belowLimit limit (some n) = if ltb n limit then some n else none
 
+-- as `from_str_radix` and `parse`: one `+` may come first, then at least one digit; "must fit"
 unfoldable pub parseNumber : ℕ → ℕ → List ℕ → Option ℕ
 parseNumber base limit bs = let ds = withoutPlus bs in if isEmpty ds then none else belowLimit limit (digitsFrom base 0 ds)
 
+-- "Hex is four bytes by `from_str_radix`, so `+0FF` reads as x00FF"
 unfoldable pub hex2u16 : List ℕ → Option ℕ
 hex2u16 bs = if eqb (length bs) 4 then parseNumber 16 (2 ^ 16) bs else none
 
+-- "decimals may carry `+` and leading zeros, and must fit"
 abbrev pub parseDecimal : ℕ → List ℕ → Option ℕ
 parseDecimal limit bs = parseNumber 10 limit bs
 
@@ -62,23 +69,24 @@ parseDecimal limit bs = parseNumber 10 limit bs
 unfoldable pub maybeHex2u16 : List ℕ → Option (Option ℕ)
 maybeHex2u16 bs = if eqs bs (ascii "????") then some none else andThen (hex2u16 bs) λ v. some (some v)
 
--- tables
+-- TABLES
 
 -- what stands before the first divider, and what after it
 unfoldable pub splitOnce : List ℕ → Option (List ℕ × List ℕ)
 splitOnce [] = none
-splitOnce (b ∷ bs) = if beginsWith (ascii " | ") (b ∷ bs) then some ([], drop 3 (b ∷ bs)) else andThen (splitOnce bs) λ p. some (b ∷ p .0, p .1)
+splitOnce (b ∷ bs) =
+    if beginsWith (ascii " | ") (b ∷ bs) then some ([], drop 3 (b ∷ bs)) else andThen (splitOnce bs) λ p. some (b ∷ p .0, p .1)
 
-abbrev pub firstOf : List ℕ → (List ℕ → List (List ℕ)) → Option (List ℕ × List ℕ) → List (List ℕ)
-firstOf bs more none = bs ∷ []
-firstOf bs more (some p) = p .0 ∷ more (p .1)
+abbrev pub firstCell : List ℕ → (List ℕ → List (List ℕ)) → Option (List ℕ × List ℕ) → List (List ℕ)
+firstCell bs more none = bs ∷ []
+firstCell bs more (some p) = p .0 ∷ more (p .1)
 
--- `splitn`, cutting at most k times
+-- "Cells split at ` | ` as `splitn`": cut at most k times, so the last cell keeps later dividers
 unfoldable pub splitn : ℕ → List ℕ → List (List ℕ)
 splitn zero bs = bs ∷ []
-splitn (suc k) bs = firstOf bs (λ rest. splitn k rest) (splitOnce bs)
+splitn (suc k) bs = firstCell bs (λ rest. splitn k rest) (splitOnce bs)
 
--- missing cells are empty
+-- "missing cells are empty"
 abbrev pub cellAt : ℕ → List (List ℕ) → List ℕ
 cellAt i cs = getD cs i []
 
@@ -88,12 +96,14 @@ sameCells [] (y ∷ ys) = false
 sameCells (x ∷ xs) [] = false
 sameCells (x ∷ xs) (y ∷ ys) = eqs x y && sameCells xs ys
 
--- a table's rows: its lines after a header with these columns; a table without lines is empty
+-- A table's rows: its lines after a header with these columns, trimmed. "A table without lines is read as empty." A header that does not
+-- read gives the table's number.
 unfoldable pub rowsUnder : ℕ → List (List ℕ) → List (List ℕ) → Outcome (List (List ℕ))
 rowsUnder n columns [] = given []
 rowsUnder n columns (l ∷ ls) = ask n (sameCells (map trim (splitn (length columns - 1) l)) columns) >>= λ _. given ls
 
--- .TEXT: the block that the lines begin with, and how many lines it has after its first
+-- .TEXT: "block by block: address, count and all entries read? 24", "That block's address new in the file? 25". The block that the lines
+-- begin with, and how many lines it has after its first. "`.TEXT` lines aren't trimmed"; "count u16".
 unfoldable pub blockAt : ObjectFile → List (List ℕ) → Outcome (ObjectFile × ℕ)
 blockAt h [] = refused 24
 blockAt h (l ∷ []) = refused 24
@@ -108,7 +118,7 @@ blockAt h (l ∷ c ∷ ls) = do
 unfoldable pub parseTextGroup : ObjectFile → List (List ℕ) → Outcome ObjectFile
 parseTextGroup h ls = scanTokens blockAt h 0 ls
 
--- .SYMBOL
+-- .SYMBOL, 26: "headers and all cells but SOURCE are trimmed"; "EXT u8 (nonzero is external)". "Later rows set their own fields".
 unfoldable pub parseSymbolRow : ObjectFile → List ℕ → Outcome ObjectFile
 parseSymbolRow h l = do
   let cs = splitn 2 l
@@ -120,7 +130,7 @@ parseSymbolRow h l = do
 unfoldable pub parseSymbolGroup : ObjectFile → List (List ℕ) → Outcome ObjectFile
 parseSymbolGroup h ls = rowsUnder 26 (ascii "ADDR" ∷ ascii "EXT" ∷ ascii "LABEL" ∷ []) ls >>= λ rows. foldOutcome parseSymbolRow h rows
 
--- .LINKER_INFO
+-- .LINKER_INFO, 26
 unfoldable pub parseLinkerRow : ObjectFile → List ℕ → Outcome ObjectFile
 parseLinkerRow h l = do
   let cs = splitn 1 l
@@ -130,7 +140,7 @@ parseLinkerRow h l = do
 unfoldable pub parseLinkerGroup : ObjectFile → List (List ℕ) → Outcome ObjectFile
 parseLinkerGroup h ls = rowsUnder 26 (ascii "ADDR" ∷ ascii "LABEL" ∷ []) ls >>= λ rows. foldOutcome parseLinkerRow h rows
 
--- .DEBUG, its label table
+-- .DEBUG, its label table, 26: "INDEX .. u64"
 unfoldable pub parseLabelRow : ObjectFile → List ℕ → Outcome ObjectFile
 parseLabelRow h l = do
   let cs = splitn 1 l
@@ -142,7 +152,8 @@ parseLabelRow h l = do
 unfoldable pub parseLabelTable : ObjectFile → List (List ℕ) → Outcome ObjectFile
 parseLabelTable h ls = rowsUnder 26 (ascii "LABEL" ∷ ascii "INDEX" ∷ []) ls >>= λ rows. foldOutcome parseLabelRow h rows
 
--- .DEBUG, its line table: rows numbered from i on, each an address or none and its source cell, which is not trimmed
+-- .DEBUG, its line table: "header and rows read, line numbers 0, 1, 2 ..? 28". The rows numbered from i on, each an address or none and its
+-- SOURCE cell, which is not trimmed.
 unfoldable pub parseLineRows : ℕ → List (List ℕ) → Outcome (List (Option ℕ × List ℕ))
 parseLineRows i [] = given []
 parseLineRows i (l ∷ ls) = do
@@ -153,15 +164,17 @@ parseLineRows i (l ∷ ls) = do
   rows ← parseLineRows (suc i) ls
   given ((a, cellAt 2 cs) ∷ rows)
 
--- line runs, maximal stretches with an address: the run that stands before row i, and the rows from there on. A run that reaches the
--- last row is dropped
+-- "Line runs are maximal stretches with an address; a run reaching the last row is dropped, unchecked": the run that stands before row i, and
+-- the rows from there on
 unfoldable pub runsFrom : ℕ → List ℕ → List (Option ℕ) → List LineBlock
 runsFrom i run [] = []
 runsFrom i run (some a ∷ rows) = runsFrom (suc i) (run ++ a ∷ []) rows
 runsFrom i [] (none ∷ rows) = runsFrom (suc i) [] rows
 runsFrom i (a ∷ run) (none ∷ rows) = record { first = i - length (a ∷ run); addresses = a ∷ run } ∷ runsFrom (suc i) [] rows
 
--- `\u{1 to 6 hex digits}` of a scalar value, from what follows the u: its bytes, and how many bytes it has after the backslash
+-- "`unescaper::unescape` is replaced .. by this: those six, and `\u{1 to 6 hex digits}` of a scalar value; other backslashes refuse" (30)
+
+-- how many hex digits a text begins with
 unfoldable pub hexDigits : List ℕ → ℕ
 hexDigits [] = 0
 hexDigits (b ∷ bs) = if isSome (digitValue 16 b) then suc (hexDigits bs) else 0
@@ -170,6 +183,7 @@ abbrev pub scalarOf : Option ℕ → Outcome ℕ
 scalarOf none = refused 30
 scalarOf (some c) = if isScalar c then given c else refused 30
 
+-- from what follows the u: the bytes of the scalar value, and how many bytes follow the backslash
 unfoldable pub unicodeEscape : List ℕ → Outcome (List ℕ × ℕ)
 unicodeEscape bs = do
   _ ← ask 30 (beginsWith (ascii "{") bs)
@@ -191,6 +205,7 @@ afterBackslash (b ∷ bs) =
     else if beginsWith (ascii "u") (b ∷ bs) then unicodeEscape bs
     else refused 30
 
+-- asked of a byte that is there
 unfoldable pub unescapeAt : List ℕ → Outcome (List ℕ × ℕ)
 unescapeAt [] = refused 30
 unescapeAt (b ∷ bs) = if eqb b 0x5C then afterBackslash bs else given (b ∷ [], 0)
@@ -198,6 +213,7 @@ unescapeAt (b ∷ bs) = if eqb b 0x5C then afterBackslash bs else given (b ∷ [
 unfoldable pub unescape : List ℕ → Outcome (List ℕ)
 unescape bs = tokens unescapeAt 0 bs >>= λ ts. given (flatMap (λ t. t) ts)
 
+-- "If this line table has rows, had none before it? 29", "Joined source unescapes? 30"
 unfoldable pub parseLineTable : ObjectFile → List (List ℕ) → Outcome ObjectFile
 parseLineTable h ls = do
   rows ← rowsUnder 28 (ascii "LINE" ∷ ascii "ADDR" ∷ ascii "SOURCE" ∷ []) ls
@@ -206,6 +222,8 @@ parseLineTable h ls = do
     _ ← ask 29 (not (isSome (h .source)))
     s ← unescape (flatMap (λ r. r .1) parsed)
     given (withLines h (runsFrom 0 [] (map (λ r. r .0) parsed)) (some s)))
+
+-- GROUPS
 
 -- the lines before the first that begins with =, and those after it
 pub record Split : Type 0 where
@@ -228,6 +246,7 @@ upToBar [] = none
 upToBar (l ∷ []) = if isBar l then some [] else none
 upToBar (l ∷ m ∷ ls) = andThen (upToBar (m ∷ ls)) λ ks. some (l ∷ ks)
 
+-- "`.DEBUG` with lines: does a first line beginning `=` exist, the last line begin `=`, and these differ? 27", then the two tables
 unfoldable pub parseDebugGroup : ObjectFile → List (List ℕ) → Outcome ObjectFile
 parseDebugGroup h [] = given h
 parseDebugGroup h (l ∷ ls) = do
@@ -237,6 +256,7 @@ parseDebugGroup h (l ∷ ls) = do
   h′ ← parseLabelTable h (p .before)
   parseLineTable h′ rows
 
+-- "known header? 23"
 unfoldable pub parseGroup : ObjectFile → List ℕ × List (List ℕ) → Outcome ObjectFile
 parseGroup h g =
     if eqs (g .0) (ascii ".TEXT") then parseTextGroup h (g .1)
@@ -245,11 +265,12 @@ parseGroup h g =
     else if eqs (g .0) (ascii ".DEBUG") then parseDebugGroup h (g .1)
     else refused 23
 
--- the kept lines after `LC-3 OBJ FILE`
+-- "First kept line `LC-3 OBJ FILE`? 21": the kept lines after it
 unfoldable pub afterMagic : List (List ℕ) → Outcome (List (List ℕ))
 afterMagic [] = refused 21
 afterMagic (l ∷ ls) = ask 21 (eqs l (ascii "LC-3 OBJ FILE")) >>= λ _. given ls
 
+-- "UTF-8? 20", 21, "Every later kept line in a group? 22" ("A line beginning `.` opens a group"), "Then per group", and the last questions
 unfoldable pub textObject : List ℕ → Outcome ObjectFile
 textObject bs = do
   _ ← ask 20 (isUtf8 bs)
@@ -261,5 +282,7 @@ textObject bs = do
 
 -- opens every definition of this module where an `unfolding` line names it
 unfoldable pub open-TextReader : Unit {0}
-unfolding onFirst lines keptLines digitValue digitsFrom withoutPlus parseNumber hex2u16 maybeHex2u16 splitOnce splitn sameCells rowsUnder blockAt parseTextGroup parseSymbolRow parseSymbolGroup parseLinkerRow parseLinkerGroup parseLabelRow parseLabelTable parseLineRows runsFrom hexDigits unicodeEscape afterBackslash unescapeAt unescape parseLineTable splitAtBar upToBar parseDebugGroup parseGroup afterMagic textObject
+unfolding onFirst lines keptLines digitValue digitsFrom withoutPlus parseNumber hex2u16 maybeHex2u16 splitOnce splitn sameCells rowsUnder
+  blockAt parseTextGroup parseSymbolRow parseSymbolGroup parseLinkerRow parseLinkerGroup parseLabelRow parseLabelTable parseLineRows runsFrom
+  hexDigits unicodeEscape afterBackslash unescapeAt unescape parseLineTable splitAtBar upToBar parseDebugGroup parseGroup afterMagic textObject
 open-TextReader = tt
