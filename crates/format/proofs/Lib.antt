@@ -37,3 +37,4 @@ pub mod TextTrip
 pub mod Settled
 pub mod TripLaws
 pub mod Demand3
+pub mod Marked

@@ -158,5 +158,5 @@ binaryObject bs = do
 -- opens every definition of this module where an `unfolding` line names it
 unfoldable pub open-Binary : Unit {0}
 unfolding magic version header recordBytes binaryFile countsFit memoriesFrom addressesFrom blockFrom labelFrom linesFrom sourceFrom
-  relocationFrom recordAt binaryRecords binaryObject
+    relocationFrom recordAt binaryRecords binaryObject
 open-Binary = tt

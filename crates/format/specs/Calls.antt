@@ -191,5 +191,5 @@ bin2text bytes words out input =
 -- opens every definition of this module where an `unfolding` line names it
 unfoldable pub open-Calls : Unit {0}
 unfolding writeBinary writeText readBinary readText fill checked measured fairAnswer sourceIn valueAnswer spanAnswer positionAnswer
-  queryCountLines queryRawLineSpan queryLineSpan queryPosPair queryGet queryFind message fitting bin2text
+    queryCountLines queryRawLineSpan queryLineSpan queryPosPair queryGet queryFind message fitting bin2text
 open-Calls = tt

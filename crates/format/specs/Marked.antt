@@ -1,106 +1,137 @@
--- The cases that document 01 marks M, in one table. Assumes nothing.
-use mathlib.Core.Path.{_≡_, refl}
+-- The cases that document 01 marks M: one named row each, in one table that one proposition covers. Assumes nothing.
+use mathlib.Core.Path.{_≡_}
 use mathlib.Core.List.{List, [], _∷_, _++_}
 use Prim.Native.Nat.{ℕ}
-use Rattle.format.specs.Basics.{Outcome, refused, given, _>>=_, ascii, open-Basics}
-use Rattle.format.specs.Digits.{open-Digits}
-use Rattle.format.specs.Sorted.{open-Sorted}
-use Rattle.format.specs.Tokens.{open-Tokens}
-use Rattle.format.specs.Utf8.{open-Utf8}
-use Rattle.format.specs.ObjectFile.{open-ObjectFile}
-use Rattle.format.specs.Records.{open-Records}
-use Rattle.format.specs.Words.{objectOf, open-Words}
-use Rattle.format.specs.Binary.{binaryObject, open-Binary}
-use Rattle.format.specs.Source.{open-Source}
-use Rattle.format.specs.TextWriter.{textFile, open-TextWriter}
-use Rattle.format.specs.TextReader.{open-TextReader}
-use Rattle.format.specs.Calls.{writeBinary, writeText, readBinary, readText, open-Calls}
+use Rattle.format.specs.Basics.{Outcome, refused, given, _>>=_, ascii, All}
+use Rattle.format.specs.Words.{objectOf}
+use Rattle.format.specs.Calls.{writeBinary, readBinary, readText, bin2text}
 
--- an input and the outcome of a call on it
+-- a call on an input, and its answer
 pub data Case : Type 0 where
-  binary-write : List ℕ → Outcome (List ℕ) → Case
-  text-write : List ℕ → Outcome (List ℕ) → Case
-  binary-read : List ℕ → Outcome (List ℕ) → Case
-  text-read : List ℕ → Outcome (List ℕ) → Case
-  bin2text : List ℕ → Outcome (List ℕ) → Case
+  writes-binary : List ℕ → Outcome (List ℕ) → Case
+  reads-binary : List ℕ → Outcome (List ℕ) → Case
+  reads-text : List ℕ → Outcome (List ℕ) → Case
+  prints : List ℕ → List ℕ → Case
 
-unfoldable pub printed : List ℕ → Outcome (List ℕ)
-printed bs = binaryObject bs >>= λ h. given (textFile h)
+-- binary write with labels and relocations in the object's own order: the only one where there is one of each
+unfoldable pub writeInOrder : List ℕ → Outcome (List ℕ)
+writeInOrder ws = objectOf ws >>= λ h. writeBinary ws (h .labels) (h .relocations)
 
--- binary write with labels and relocations in the object's order
-unfoldable pub writtenInOrder : List ℕ → Outcome (List ℕ)
-writtenInOrder ws = objectOf ws >>= λ h. writeBinary ws (h .labels) (h .relocations)
-
+-- "Programs keep buffers within 64 KiB": `bin2text` with 65,536 bytes of input, 16,384 words and 65,536 bytes of text
 abbrev pub Holds : Case → Type 0
-Holds (binary-write ws o) = writtenInOrder ws ≡ o
-Holds (text-write ws o) = writeText ws ≡ o
-Holds (binary-read bs o) = readBinary bs ≡ o
-Holds (text-read bs o) = readText bs ≡ o
-Holds (bin2text bs o) = printed bs ≡ o
+Holds (writes-binary ws o) = writeInOrder ws ≡ o
+Holds (reads-binary bs o) = readBinary bs ≡ o
+Holds (reads-text bs o) = readText bs ≡ o
+Holds (prints bs out) = bin2text 65536 16384 65536 bs ≡ out
 
-abbrev pub AllHold : List Case → Type 0
-AllHold [] = Unit {0}
-AllHold (c ∷ cs) = Holds c × AllHold cs
+-- the 18 words of "A holding in three dresses", with their relocation word
+abbrev pub words18 : ℕ → List ℕ
+words18 r =
+    0x00003000 ∷ 0x20011234 ∷ 0x20000000 ∷ 0x40003001 ∷ 0xC0000005 ∷ 0xC0000000 ∷ 0xC0000000 ∷ 0xE1000041 ∷ 0x60000000 ∷ 0xC0000001
+    ∷ 0xC0000000 ∷ 0xC0000000 ∷ 0x20013000 ∷ 0x80000000 ∷ 0xE3620A61 ∷ 0xE100000A ∷ r ∷ 0xE1000041 ∷ []
 
-abbrev pub wordsWith : ℕ → List ℕ
-wordsWith r =
-    0x00003000 ∷ 0x20011234 ∷ 0x20000000 ∷ 0x40003001 ∷ 0xC0000005 ∷ 0xC0000000 ∷ 0xC0000000 ∷ 0xE1000041 ∷ 0x60000000 ∷ 0xC0000001 ∷ 0xC0000000 ∷ 0xC0000000 ∷ 0x20013000 ∷ 0x80000000 ∷ 0xE3620A61 ∷ 0xE100000A ∷ r ∷ 0xE1000041 ∷ []
+-- the seven header bytes, written out
+abbrev pub header7 : List ℕ
+header7 = 0x6F ∷ 0x62 ∷ 0x6A ∷ 0x21 ∷ 0x10 ∷ 0x00 ∷ 0x01 ∷ []
 
-abbrev pub headerBytes : List ℕ
-headerBytes = 0x6F ∷ 0x62 ∷ 0x6A ∷ 0x21 ∷ 0x10 ∷ 0x00 ∷ 0x01 ∷ []
+-- "00*7 is seven zeros"
+abbrev pub zeros7 : List ℕ
+zeros7 = 0 ∷ 0 ∷ 0 ∷ 0 ∷ 0 ∷ 0 ∷ 0 ∷ []
 
--- 00*7
-abbrev pub z : List ℕ
-z = 0 ∷ 0 ∷ 0 ∷ 0 ∷ 0 ∷ 0 ∷ 0 ∷ []
-
+-- the 77 bytes
 abbrev pub bytes77 : List ℕ
 bytes77 =
-    headerBytes
+    header7
     ++ (0x00 ∷ 0x00 ∷ 0x30 ∷ 0x02 ∷ 0x00 ∷ 0xFF ∷ 0x34 ∷ 0x12 ∷ 0x00 ∷ 0x00 ∷ 0x00 ∷ [])
-    ++ (0x01 ∷ 0x01 ∷ 0x30 ∷ 0x00 ∷ 0x05 ∷ [] ++ z ++ (0x01 ∷ []) ++ z ++ (0x41 ∷ []))
-    ++ (0x02 ∷ 0x01 ∷ [] ++ z ++ (0x01 ∷ 0x00 ∷ 0x00 ∷ 0x30 ∷ []))
-    ++ (0x03 ∷ 0x04 ∷ [] ++ z ++ (0x61 ∷ 0x0A ∷ 0x62 ∷ 0x0A ∷ []))
-    ++ (0x04 ∷ 0x01 ∷ 0x30 ∷ 0x01 ∷ [] ++ z ++ (0x41 ∷ []))
+    ++ (0x01 ∷ 0x01 ∷ 0x30 ∷ 0x00 ∷ 0x05 ∷ [] ++ zeros7 ++ (0x01 ∷ []) ++ zeros7 ++ (0x41 ∷ []))
+    ++ (0x02 ∷ 0x01 ∷ [] ++ zeros7 ++ (0x01 ∷ 0x00 ∷ 0x00 ∷ 0x30 ∷ []))
+    ++ (0x03 ∷ 0x04 ∷ [] ++ zeros7 ++ (0x61 ∷ 0x0A ∷ 0x62 ∷ 0x0A ∷ []))
+    ++ (0x04 ∷ 0x01 ∷ 0x30 ∷ 0x01 ∷ [] ++ zeros7 ++ (0x41 ∷ []))
 
+-- the printing, 297 bytes; "the row of line 2 ends in a space"
 abbrev pub text297 : List ℕ
-text297 = ascii "LC-3 OBJ FILE\n\n.TEXT\n3000\n2\n1234\n????\n\n.SYMBOL\nADDR | EXT | LABEL\n3001 |   0 | A\n\n.LINKER_INFO\nADDR | LABEL\n3001 | A\n\n.DEBUG\n# DEBUG SYMBOLS FOR LC3TOOLS\n\nLABEL | INDEX\nA     |     5\n====================\nLINE | ADDR | SOURCE\n   0 | ???? | a\\n\n   1 | 3000 | b\\n\n   2 | ???? | \n====================\n"
+text297 =
+    ascii "LC-3 OBJ FILE\n\n.TEXT\n3000\n2\n1234\n????\n\n"
+    ++ ascii ".SYMBOL\nADDR | EXT | LABEL\n3001 |   0 | A\n\n"
+    ++ ascii ".LINKER_INFO\nADDR | LABEL\n3001 | A\n\n"
+    ++ ascii ".DEBUG\n# DEBUG SYMBOLS FOR LC3TOOLS\n\nLABEL | INDEX\nA     |     5\n====================\n"
+    ++ ascii "LINE | ADDR | SOURCE\n   0 | ???? | a\\n\n   1 | 3000 | b\\n\n   2 | ???? | \n====================\n"
 
--- line blocks: first line n, addresses x3000 and x3001
+-- "these 18 words and 77 bytes": relocation x0130 is written high byte first, and read back as x3001
+abbrev pub words-to-bytes : Case
+words-to-bytes = writes-binary (words18 0xA0000130) (given bytes77)
+
+abbrev pub bytes-to-words : Case
+bytes-to-words = reads-binary bytes77 (given (words18 0xA0003001))
+
+-- "the printing"
+abbrev pub printing : Case
+printing = prints bytes77 text297
+
+-- "header alone (empty holding)"
+abbrev pub header-alone : Case
+header-alone = reads-binary header7 (given [])
+
+-- "six header bytes (10)"
+abbrev pub six-header-bytes : Case
+six-header-bytes = reads-binary (0x6F ∷ 0x62 ∷ 0x6A ∷ 0x21 ∷ 0x10 ∷ 0x00 ∷ []) (refused 10)
+
+-- "equal line addresses (14 in binary, read in text)"
+abbrev pub equal-addresses-binary : Case
+equal-addresses-binary =
+    reads-binary (header7 ++ (0x02 ∷ 0x00 ∷ [] ++ zeros7 ++ (0x02 ∷ 0x00 ∷ 0x00 ∷ 0x30 ∷ 0x00 ∷ 0x30 ∷ []))) (refused 14)
+
+abbrev pub equal-addresses-text : Case
+equal-addresses-text =
+    reads-text (ascii "LC-3 OBJ FILE\n.DEBUG\n=\nLINE | ADDR | SOURCE\n0 | 3000 | \n1 | 3000 | \n2 | ???? | \n=")
+    (given (0x60000000 ∷ 0xC0000000 ∷ 0xC0000000 ∷ 0xC0000000 ∷ 0x20013000 ∷ 0x20013000 ∷ 0x80000000 ∷ []))
+
+-- "a block twice (last wins; 25)"
+abbrev pub block-twice-binary : Case
+block-twice-binary =
+    reads-binary
+    (header7
+    ++ (0x00 ∷ 0x00 ∷ 0x30 ∷ 0x01 ∷ 0x00 ∷ 0xFF ∷ 0x34 ∷ 0x12 ∷ [])
+    ++ (0x00 ∷ 0x00 ∷ 0x30 ∷ 0x01 ∷ 0x00 ∷ 0xFF ∷ 0x78 ∷ 0x56 ∷ []))
+    (given (0x00003000 ∷ 0x20015678 ∷ []))
+
+abbrev pub block-twice-text : Case
+block-twice-text = reads-text (ascii "LC-3 OBJ FILE\n.TEXT\n3000\n1\n1234\n3000\n1\n5678") (refused 25)
+
+-- "flag 01"
+abbrev pub flag-01 : Case
+flag-01 =
+    reads-binary (header7 ++ (0x00 ∷ 0x00 ∷ 0x30 ∷ 0x01 ∷ 0x00 ∷ 0x01 ∷ 0x34 ∷ 0x12 ∷ [])) (given (0x00003000 ∷ 0x20000000 ∷ []))
+
+-- "`+0FF`"
+abbrev pub plus-0FF : Case
+plus-0FF = reads-text (ascii "LC-3 OBJ FILE\n.TEXT\n+0FF\n0") (given (0x000000FF ∷ []))
+
+-- "one `=` line (27)"
+abbrev pub one-bar : Case
+one-bar = reads-text (ascii "LC-3 OBJ FILE\n.DEBUG\n====================") (refused 27)
+
+-- a line block with two addresses, by its first line
 abbrev pub twoLines : ℕ → List ℕ
-twoLines n = 0x02 ∷ n ∷ [] ++ z ++ (0x02 ∷ 0x00 ∷ 0x00 ∷ 0x30 ∷ 0x01 ∷ 0x30 ∷ [])
+twoLines n = 0x02 ∷ n ∷ [] ++ zeros7 ++ (0x02 ∷ 0x00 ∷ 0x00 ∷ 0x30 ∷ 0x01 ∷ 0x30 ∷ [])
 
+-- "first line 1 count 2 before first line 3 (read)"
+abbrev pub lines-1-and-3 : Case
+lines-1-and-3 =
+    reads-binary (header7 ++ twoLines 1 ++ twoLines 3)
+    (given
+    (0x60000000 ∷ 0xC0000001 ∷ 0xC0000000 ∷ 0xC0000000 ∷ 0x20013000 ∷ 0x20013001 ∷ 0x60000000 ∷ 0xC0000003 ∷ 0xC0000000 ∷ 0xC0000000
+    ∷ 0x20013000 ∷ 0x20013001 ∷ 0x80000000 ∷ []))
+
+-- "and 2 (15)"
+abbrev pub lines-1-and-2 : Case
+lines-1-and-2 = reads-binary (header7 ++ twoLines 1 ++ twoLines 2) (refused 15)
+
+-- THE TABLE
 abbrev pub marked : List Case
 marked =
-    -- the 18 words and 77 bytes; a relocation address comes back byte-swapped
-    binary-write (wordsWith 0xA0000130) (given bytes77)
-    ∷ binary-read bytes77 (given (wordsWith 0xA0003001))
-    -- the printing
-    ∷ bin2text bytes77 (given text297)
-    ∷ text-read text297 (given (wordsWith 0xA0003001))
-    -- the header alone; six header bytes
-    ∷ binary-read headerBytes (given [])
-    ∷ binary-read (0x6F ∷ 0x62 ∷ 0x6A ∷ 0x21 ∷ 0x10 ∷ 0x00 ∷ []) (refused 10)
-    -- equal line addresses
-    ∷ binary-read (headerBytes ++ (0x02 ∷ 0x00 ∷ [] ++ z ++ (0x02 ∷ 0x00 ∷ 0x00 ∷ 0x30 ∷ 0x00 ∷ 0x30 ∷ []))) (refused 14)
-    ∷ text-read (ascii "LC-3 OBJ FILE\n.DEBUG\n=\nLINE | ADDR | SOURCE\n0 | 3000 | \n1 | 3000 | \n2 | ???? | \n=")
-    (given (0x60000000 ∷ 0xC0000000 ∷ 0xC0000000 ∷ 0xC0000000 ∷ 0x20013000 ∷ 0x20013000 ∷ 0x80000000 ∷ []))
-    -- a block twice
-    ∷ binary-read (headerBytes ++ (0x00 ∷ 0x00 ∷ 0x30 ∷ 0x01 ∷ 0x00 ∷ 0xFF ∷ 0x34 ∷ 0x12 ∷ 0x00 ∷ 0x00 ∷ 0x30 ∷ 0x01 ∷ 0x00 ∷ 0xFF ∷ 0x78 ∷ 0x56 ∷ []))
-    (given (0x00003000 ∷ 0x20015678 ∷ []))
-    ∷ text-read (ascii "LC-3 OBJ FILE\n.TEXT\n3000\n1\n1234\n3000\n1\n5678") (refused 25)
-    -- flag 01
-    ∷ binary-read (headerBytes ++ (0x00 ∷ 0x00 ∷ 0x30 ∷ 0x01 ∷ 0x00 ∷ 0x01 ∷ 0x34 ∷ 0x12 ∷ [])) (given (0x00003000 ∷ 0x20000000 ∷ []))
-    -- +0FF
-    ∷ text-read (ascii "LC-3 OBJ FILE\n.TEXT\n+0FF\n0") (given (0x000000FF ∷ []))
-    -- one = line
-    ∷ text-read (ascii "LC-3 OBJ FILE\n.DEBUG\n====================") (refused 27)
-    -- first line 1 count 2, before first line 3 and before first line 2
-    ∷ binary-read (headerBytes ++ twoLines 1 ++ twoLines 3)
-    (given
-    (0x60000000 ∷ 0xC0000001 ∷ 0xC0000000 ∷ 0xC0000000 ∷ 0x20013000 ∷ 0x20013001 ∷ 0x60000000 ∷ 0xC0000003 ∷ 0xC0000000 ∷ 0xC0000000 ∷ 0x20013000 ∷ 0x20013001 ∷ 0x80000000 ∷ []))
-    ∷ binary-read (headerBytes ++ twoLines 1 ++ twoLines 2) (refused 15)
-    ∷ []
+    words-to-bytes ∷ bytes-to-words ∷ printing ∷ header-alone ∷ six-header-bytes ∷ equal-addresses-binary ∷ equal-addresses-text
+    ∷ block-twice-binary ∷ block-twice-text ∷ flag-01 ∷ plus-0FF ∷ one-bar ∷ lines-1-and-3 ∷ lines-1-and-2 ∷ []
 
-pub marked-hold : AllHold marked
-unfolding printed writtenInOrder open-Basics open-Digits open-Sorted open-Tokens open-Utf8 open-ObjectFile open-Records open-Words open-Binary open-Source open-TextWriter open-TextReader open-Calls
-marked-hold = (refl, (refl, (refl, (refl, (refl, (refl, (refl, (refl, (refl, (refl, (refl, (refl, (refl, (refl, (refl, tt)))))))))))))))
+abbrev pub MarkedHold : Type 0
+MarkedHold = All Holds marked

@@ -283,6 +283,6 @@ textObject bs = do
 -- opens every definition of this module where an `unfolding` line names it
 unfoldable pub open-TextReader : Unit {0}
 unfolding onFirst lines keptLines digitValue digitsFrom withoutPlus parseNumber hex2u16 maybeHex2u16 splitOnce splitn sameCells rowsUnder
-  blockAt parseTextGroup parseSymbolRow parseSymbolGroup parseLinkerRow parseLinkerGroup parseLabelRow parseLabelTable parseLineRows runsFrom
-  hexDigits unicodeEscape afterBackslash unescapeAt unescape parseLineTable splitAtBar upToBar parseDebugGroup parseGroup afterMagic textObject
+    blockAt parseTextGroup parseSymbolRow parseSymbolGroup parseLinkerRow parseLinkerGroup parseLabelRow parseLabelTable parseLineRows runsFrom
+    hexDigits unicodeEscape afterBackslash unescapeAt unescape parseLineTable splitAtBar upToBar parseDebugGroup parseGroup afterMagic textObject
 open-TextReader = tt

@@ -212,5 +212,5 @@ textFile h =
 -- opens every definition of this module where an `unfolding` line names it
 unfoldable pub open-TextWriter : Unit {0}
 unfolding hex4 numeral decimal widest blockLines symbolTable linkerTable labelTable escapeChar escape plainRows addRows addBlocks
-  lineRows sourceCell lineTable blocksOnly symbolGroups textFile
+    lineRows sourceCell lineTable blocksOnly symbolGroups textFile
 open-TextWriter = tt

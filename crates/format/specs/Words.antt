@@ -134,5 +134,5 @@ objectOf ws = do
 -- opens every definition of this module where an `unfolding` line names it
 unfoldable pub open-Words : Unit {0}
 unfolding memoryWord numberWords textWords recordWords wordsOf bitsOf memoryOf memoriesOf addressesOf numberFrom textPart textFrom isHead
-  recordFrom recordsFrom objectOf
+    recordFrom recordsFrom objectOf
 open-Words = tt
