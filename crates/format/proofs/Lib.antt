@@ -38,3 +38,6 @@ pub mod Settled
 pub mod TripLaws
 pub mod Demand3
 pub mod Marked
+pub mod Outcomes
+pub mod Invariants
+pub mod BinaryFormed

@@ -1,0 +1,189 @@
+-- What the readers keep of the object read so far: its parts rise, each record is as its bytes were asked to be, and line blocks have a
+-- source. With the questions after the last record that is a well formed object in range. Assumes nothing.
+use mathlib.Core.Path.{_≡_, refl}
+use mathlib.Core.Bool.{Bool, true, false, _&&_, _||_, not}
+use mathlib.Core.List.{List, [], _∷_, _++_, map, flatMap}
+use mathlib.Core.Option.{Option, none, some}
+use Prim.Native.Nat.{ℕ, _+_, _/_, _%_, _^_, _≤_, _<_, Ordering, Ordering·lt, Ordering·eq, Ordering·gt}
+use native.Mathlib.Omega.{arith}
+use lib.ListN.{length}
+use lib.Dec.{leb, ltb}
+use borrow.Author.Tests.{le-leb, ltb-true}
+use Rattle.format.specs.Basics.{if_then_else_, every, isEmpty, isSome, All}
+use Rattle.format.specs.Utf8.{isUtf8, encodeScalar}
+use Rattle.format.specs.Sorted.{order, byOrdering, upsert}
+use Rattle.format.specs.ObjectFile.{Block, Label, LineBlock, Relocation, ObjectFile, blockKey, labelKey, lineKey, relocationKey, neverFall, apart, namesOf, sourceText, consistent}
+use Rattle.format.specs.Records.{Record, block, label, lineBlock, source, relocation, emptyObject, putRecord, gatherRecords, dropStrayRelocations, withRelocations, Question, askAll, concluded}
+use Rattle.format.proofs.SortedLaws.{Rises, rises-upsert}
+use Rattle.format.proofs.ListLaws.{all-map, all-append, all-images, every-all}
+use Rattle.format.proofs.ListFacts.{all-flatMap}
+use Rattle.format.proofs.Utf8Laws.{Scalar, Text, scalar-bound, text-append, text-ascii, text-utf8}
+use Rattle.format.proofs.Outcomes.{Gives, gives-bind}
+use Rattle.format.proofs.Ranges.{WellFormed, InRange, InBlock, InLine, In16, In64, Bytes}
+
+-- a part of an object: its keys rise, and each element is as its reader left it
+abbrev pub Kept : {A : Type 0} → (A → List ℕ) → (A → Type 0) → List A → Type 0
+Kept key P xs = Rises key xs × All P xs
+
+all-upsert : {A : Type 0} (key : A → List ℕ) (P : A → Type 0) (a : A) (xs : List A) → P a → All P xs → All P (upsert key a xs)
+unfolding upsert
+all-upsert key P a [] p h = (p, tt)
+all-upsert key P a (b ∷ bs) p h = go (order (key a) (key b)) (all-upsert key P a bs p (h .1))
+  where
+    go : (o : Ordering) → All P (upsert key a bs) → All P (byOrdering o (a ∷ b ∷ bs) (a ∷ bs) (b ∷ upsert key a bs))
+    go Ordering·lt ih = (p, h)
+    go Ordering·eq ih = (p, h .1)
+    go Ordering·gt ih = (h .0, ih)
+
+kept-upsert : {A : Type 0} (key : A → List ℕ) (P : A → Type 0) (a : A) (xs : List A) → P a → Kept key P xs → Kept key P (upsert key a xs)
+kept-upsert key P a xs p h = (rises-upsert key a xs (h .0), all-upsert key P a xs p (h .1))
+
+char-bytes : (c : ℕ) → Scalar c → Bytes (encodeScalar c)
+unfolding encodeScalar
+char-bytes c s = go (ltb c 0x80) refl (ltb c 0x800) refl (ltb c 0x10000) refl
+  where
+    go : (t : Bool) → ltb c 0x80 ≡ t → (u : Bool) → ltb c 0x800 ≡ u → (v : Bool) → ltb c 0x10000 ≡ v
+        → Bytes (if t then c ∷ []
+        else if u then (0xC0 + c / 64) ∷ (0x80 + c % 64) ∷ []
+        else if v then (0xE0 + c / 4096) ∷ (0x80 + c / 64 % 64) ∷ (0x80 + c % 64) ∷ []
+        else (0xF0 + c / 262144) ∷ (0x80 + c / 4096 % 64) ∷ (0x80 + c / 64 % 64) ∷ (0x80 + c % 64) ∷ [])
+    go true e u f v g = let l = ltb-true c 0x80 e in (omega arith, tt)
+    go false e true f v g = let l = ltb-true c 0x800 f in (omega arith, (omega arith, tt))
+    go false e false f true g = let l = ltb-true c 0x10000 g in (omega arith, (omega arith, (omega arith, tt)))
+    go false e false f false g = let l = scalar-bound c s in (omega arith, (omega arith, (omega arith, (omega arith, tt))))
+
+-- the bytes of a text
+pub text-bytes : (t : List ℕ) → Text t → Bytes t
+text-bytes t x = rw (← x .2) (all-flatMap (λ b. b < 2 ^ 8) encodeScalar (x .0) (all-map char-bytes (x .0) (x .1)))
+
+-- A record as its reader's questions leave it; what they leave of a line block differs between the forms.
+module _ (Line : LineBlock → Type 0) where
+  abbrev pub Sound : Record → Type 0
+  Sound (block b) = InBlock b × (length (b .words) ≤ 65535)
+  Sound (label l) = In16 (l .address) × In64 (l .start) × Text (l .name)
+  Sound (lineBlock l) = InLine l × Line l
+  Sound (source s) = Text s
+  Sound (relocation r) = In16 (r .address) × Text (r .name)
+
+  pub record Formed (h : ObjectFile) : Type 0 where
+    pub blocks : Kept blockKey (λ b. Sound (block b)) (h .blocks)
+    pub labels : Kept labelKey (λ l. Sound (label l)) (h .labels)
+    pub lineBlocks : Kept lineKey (λ l. Sound (lineBlock l)) (h .lineBlocks)
+    pub source : Text (sourceText (h .source))
+    pub relocations : Kept relocationKey (λ r. Sound (relocation r)) (h .relocations)
+    pub sourced : (isEmpty (h .lineBlocks) || isSome (h .source)) ≡ true
+
+  pub empty-formed : Formed emptyObject
+  unfolding emptyObject isEmpty sourceText
+  empty-formed = record {
+    blocks = (tt, tt);
+    labels = (tt, tt);
+    lineBlocks = (tt, tt);
+    source = text-ascii [] tt;
+    relocations = (tt, tt);
+    sourced = refl;
+  }
+
+  or-true : (t : Bool) → (t || true) ≡ true
+  or-true true = refl
+  or-true false = refl
+
+  -- a record put to the object keeps it formed
+  pub put-formed : (h : ObjectFile) (r : Record) → Formed h → Sound r → Formed (putRecord h r)
+  unfolding putRecord sourceText isSome
+  put-formed h (block b) f s = record {
+    blocks = kept-upsert blockKey (λ b. Sound (block b)) b (h .blocks) s (f .blocks);
+    labels = f .labels;
+    lineBlocks = f .lineBlocks;
+    source = f .source;
+    relocations = f .relocations;
+    sourced = f .sourced;
+  }
+  put-formed h (label l) f s = record {
+    labels = kept-upsert labelKey (λ l. Sound (label l)) l (h .labels) s (f .labels);
+    blocks = f .blocks;
+    lineBlocks = f .lineBlocks;
+    source = f .source;
+    relocations = f .relocations;
+    sourced = f .sourced;
+  }
+  put-formed h (lineBlock l) f s = record {
+    lineBlocks = kept-upsert lineKey (λ l. Sound (lineBlock l)) l (h .lineBlocks) s (f .lineBlocks);
+    blocks = f .blocks;
+    labels = f .labels;
+    source = f .source;
+    relocations = f .relocations;
+    sourced = or-true (isEmpty (upsert lineKey l (h .lineBlocks)));
+  }
+  put-formed h (source t) f s = record {
+    source = text-append (sourceText (h .source)) t (f .source) s;
+    blocks = f .blocks;
+    labels = f .labels;
+    lineBlocks = f .lineBlocks;
+    relocations = f .relocations;
+    sourced = or-true (isEmpty (h .lineBlocks));
+  }
+  put-formed h (relocation r) f s = record {
+    relocations = kept-upsert relocationKey (λ r. Sound (relocation r)) r (h .relocations) s (f .relocations);
+    blocks = f .blocks;
+    labels = f .labels;
+    lineBlocks = f .lineBlocks;
+    source = f .source;
+    sourced = f .sourced;
+  }
+
+  pub gather-formed : (h : ObjectFile) (rs : List Record) → Formed h → All Sound rs → Formed (gatherRecords h rs)
+  unfolding gatherRecords
+  gather-formed h [] f s = f
+  gather-formed h (r ∷ rs) f s = gather-formed (putRecord h r) rs (put-formed h r f (s .0)) (s .1)
+
+  -- and with the line blocks apart and their addresses never falling it is well formed and in range
+  formed-whole :
+      (h : ObjectFile) → Formed h → apart (h .lineBlocks) ≡ true → every (λ l. neverFall (l .addresses)) (h .lineBlocks) ≡ true → WellFormed h × InRange h
+  unfolding consistent namesOf
+  formed-whole h f a n =
+      let counts = every-all (λ b. leb (length (b .words)) 65535) (h .blocks) (all-map (λ b s. le-leb (length (b .words)) 65535 (s .1)) (h .blocks) (f .blocks .1)) in
+      let named = all-map (λ l s. text-utf8 (l .name) (s .2)) (h .labels) (f .labels .1) in
+      let moved = all-map (λ r s. text-utf8 (r .name) (s .1)) (h .relocations) (f .relocations .1) in
+      let names =
+      every-all isUtf8 (map (λ l. l .name) (h .labels) ++ map (λ r. r .name) (h .relocations))
+      (all-append (λ t. isUtf8 t ≡ true) (map (λ l. l .name) (h .labels)) (map (λ r. r .name) (h .relocations))
+      (all-images (λ t. isUtf8 t ≡ true) (λ l. l .name) (h .labels) named) (all-images (λ t. isUtf8 t ≡ true) (λ r. r .name) (h .relocations) moved)) in (
+        record {
+          blocks = f .blocks .0;
+          labels = f .labels .0;
+          lineBlocks = f .lineBlocks .0;
+          relocations = f .relocations .0;
+          consistent = rw (counts, a, n, f .sourced, names, text-utf8 (sourceText (h .source)) (f .source));
+        },
+        record {
+          blocks = all-map (λ b s. s .0) (h .blocks) (f .blocks .1);
+          labels = all-map (λ l s. (s .0, s .1, text-bytes (l .name) (s .2))) (h .labels) (f .labels .1);
+          lineBlocks = all-map (λ l s. s .0) (h .lineBlocks) (f .lineBlocks .1);
+          source = text-bytes (sourceText (h .source)) (f .source);
+          relocations = all-map (λ r s. (s .0, text-bytes (r .name) (s .1))) (h .relocations) (f .relocations .1);
+        },
+      )
+
+  -- what a reader hands on, where its last questions and what it kept of the line blocks settle these two
+  pub concluded-formed :
+      (qs : List Question) (h : ObjectFile) → Formed h
+      → Gives (λ _. (apart (h .lineBlocks) ≡ true) × (every (λ l. neverFall (l .addresses)) (h .lineBlocks) ≡ true)) (askAll qs h)
+      → Gives (λ g. WellFormed g × InRange g) (concluded qs h)
+  unfolding concluded dropStrayRelocations
+  concluded-formed qs h f q =
+      gives-bind (λ g. WellFormed g × InRange g) (λ _. (apart (h .lineBlocks) ≡ true) × (every (λ l. neverFall (l .addresses)) (h .lineBlocks) ≡ true)) (askAll qs h) _ q
+      λ _ k. go k (isEmpty (h .labels) && not (isSome (h .source)))
+    where
+      go : (apart (h .lineBlocks) ≡ true) × (every (λ l. neverFall (l .addresses)) (h .lineBlocks) ≡ true) → (t : Bool)
+          → WellFormed (if t then withRelocations h [] else h) × InRange (if t then withRelocations h [] else h)
+      go k false = formed-whole h f (k .0) (k .1)
+      go k true =
+          formed-whole (withRelocations h []) (record {
+            blocks = f .blocks;
+            labels = f .labels;
+            lineBlocks = f .lineBlocks;
+            source = f .source;
+            relocations = (tt, tt);
+            sourced = f .sourced;
+          }) (k .0) (k .1)
