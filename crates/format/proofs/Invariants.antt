@@ -2,22 +2,21 @@
 -- source. With the questions after the last record that is a well formed object in range. Assumes nothing.
 use mathlib.Core.Path.{_≡_, refl}
 use mathlib.Core.Bool.{Bool, true, false, _&&_, _||_, not}
-use mathlib.Core.List.{List, [], _∷_, _++_, map, flatMap}
+use mathlib.Core.List.{List, [], _∷_, _++_, map}
 use mathlib.Core.Option.{Option, none, some}
-use Prim.Native.Nat.{ℕ, _+_, _/_, _%_, _^_, _≤_, _<_, Ordering, Ordering·lt, Ordering·eq, Ordering·gt}
-use native.Mathlib.Omega.{arith}
+use Prim.Native.Nat.{ℕ, _≤_, Ordering, Ordering·lt, Ordering·eq, Ordering·gt}
 use lib.ListN.{length}
-use lib.Dec.{leb, ltb}
-use borrow.Author.Tests.{le-leb, ltb-true}
+use lib.Dec.{leb}
+use borrow.Author.Tests.{le-leb}
 use Rattle.format.specs.Basics.{if_then_else_, every, isEmpty, isSome, All}
-use Rattle.format.specs.Utf8.{isUtf8, encodeScalar}
+use Rattle.format.specs.Utf8.{isUtf8}
 use Rattle.format.specs.Sorted.{order, byOrdering, upsert}
 use Rattle.format.specs.ObjectFile.{Block, Label, LineBlock, Relocation, ObjectFile, blockKey, labelKey, lineKey, relocationKey, neverFall, apart, namesOf, sourceText, consistent}
 use Rattle.format.specs.Records.{Record, block, label, lineBlock, source, relocation, emptyObject, putRecord, gatherRecords, dropStrayRelocations, withRelocations, Question, askAll, concluded}
 use Rattle.format.proofs.SortedLaws.{Rises, rises-upsert}
 use Rattle.format.proofs.ListLaws.{all-map, all-append, all-images, every-all}
-use Rattle.format.proofs.ListFacts.{all-flatMap}
-use Rattle.format.proofs.Utf8Laws.{Scalar, Text, scalar-bound, text-append, text-ascii, text-utf8}
+use Rattle.format.proofs.Utf8Laws.{Text, text-append, text-ascii, text-utf8}
+use Rattle.format.proofs.TextPieces.{text-bytes}
 use Rattle.format.proofs.Outcomes.{Gives, gives-bind}
 use Rattle.format.proofs.Ranges.{WellFormed, InRange, InBlock, InLine, In16, In64, Bytes}
 
@@ -37,24 +36,6 @@ all-upsert key P a (b ∷ bs) p h = go (order (key a) (key b)) (all-upsert key P
 
 kept-upsert : {A : Type 0} (key : A → List ℕ) (P : A → Type 0) (a : A) (xs : List A) → P a → Kept key P xs → Kept key P (upsert key a xs)
 kept-upsert key P a xs p h = (rises-upsert key a xs (h .0), all-upsert key P a xs p (h .1))
-
-char-bytes : (c : ℕ) → Scalar c → Bytes (encodeScalar c)
-unfolding encodeScalar
-char-bytes c s = go (ltb c 0x80) refl (ltb c 0x800) refl (ltb c 0x10000) refl
-  where
-    go : (t : Bool) → ltb c 0x80 ≡ t → (u : Bool) → ltb c 0x800 ≡ u → (v : Bool) → ltb c 0x10000 ≡ v
-        → Bytes (if t then c ∷ []
-        else if u then (0xC0 + c / 64) ∷ (0x80 + c % 64) ∷ []
-        else if v then (0xE0 + c / 4096) ∷ (0x80 + c / 64 % 64) ∷ (0x80 + c % 64) ∷ []
-        else (0xF0 + c / 262144) ∷ (0x80 + c / 4096 % 64) ∷ (0x80 + c / 64 % 64) ∷ (0x80 + c % 64) ∷ [])
-    go true e u f v g = let l = ltb-true c 0x80 e in (omega arith, tt)
-    go false e true f v g = let l = ltb-true c 0x800 f in (omega arith, (omega arith, tt))
-    go false e false f true g = let l = ltb-true c 0x10000 g in (omega arith, (omega arith, (omega arith, tt)))
-    go false e false f false g = let l = scalar-bound c s in (omega arith, (omega arith, (omega arith, (omega arith, tt))))
-
--- the bytes of a text
-pub text-bytes : (t : List ℕ) → Text t → Bytes t
-text-bytes t x = rw (← x .2) (all-flatMap (λ b. b < 2 ^ 8) encodeScalar (x .0) (all-map char-bytes (x .0) (x .1)))
 
 -- A record as its reader's questions leave it; what they leave of a line block differs between the forms.
 module _ (Line : LineBlock → Type 0) where

@@ -39,5 +39,6 @@ pub mod TripLaws
 pub mod Demand3
 pub mod Marked
 pub mod Outcomes
+pub mod TextPieces
 pub mod Invariants
 pub mod BinaryFormed
