@@ -139,8 +139,8 @@ module _ (bs : List ℕ) (h : Bytes bs) where
   record-sound : (k : ℕ) → Gives SoundRecord (recordAt (k ∷ bs))
   unfolding recordAt
   record-sound k =
-      gives-if SoundRecord (eqb k 0) _ _ block-sound (gives-if SoundRecord (eqb k 1) _ _ label-sound (gives-if SoundRecord (eqb k 2) _ _ lines-sound
-      (gives-if SoundRecord (eqb k 3) _ _ source-sound (gives-if SoundRecord (eqb k 4) _ _ relocation-sound tt))))
+      gives-if SoundRecord (eqb k 0) _ _ (λ _. block-sound) (gives-if SoundRecord (eqb k 1) _ _ (λ _. label-sound) (gives-if SoundRecord (eqb k 2) _ _ (λ _. lines-sound)
+      (gives-if SoundRecord (eqb k 3) _ _ (λ _. source-sound) (gives-if SoundRecord (eqb k 4) _ _ (λ _. relocation-sound) tt))))
 
 records-sound : (bs : List ℕ) → Bytes bs → Gives (All (Sound NeverFalls)) (binaryRecords bs)
 unfolding binaryRecords

@@ -12,7 +12,7 @@ use Rattle.format.specs.Basics.{if_then_else_, every, isEmpty, isSome, A
 use Rattle.format.specs.Utf8.{isUtf8}
 use Rattle.format.specs.Sorted.{order, byOrdering, upsert}
 use Rattle.format.specs.ObjectFile.{Block, Label, LineBlock, Relocation, ObjectFile, blockKey, labelKey, lineKey, relocationKey, neverFall, apart, namesOf, sourceText, consistent}
-use Rattle.format.specs.Records.{Record, block, label, lineBlock, source, relocation, emptyObject, putRecord, gatherRecords, dropStrayRelocations, withRelocations, Question, askAll, concluded}
+use Rattle.format.specs.Records.{Record, block, label, lineBlock, source, relocation, emptyObject, putRecord, gatherRecords, dropStrayRelocations, withLines, withRelocations, Question, askAll, concluded}
 use Rattle.format.proofs.SortedLaws.{Rises, rises-upsert}
 use Rattle.format.proofs.ListLaws.{all-map, all-append, all-images, every-all}
 use Rattle.format.proofs.Utf8Laws.{Text, text-append, text-ascii, text-utf8}
@@ -69,6 +69,19 @@ module _ (Line : LineBlock → Type 0) where
   or-true true = refl
   or-true false = refl
 
+  -- other line blocks, with a source
+  pub lines-formed :
+      (h : ObjectFile) (ls : List LineBlock) (s : List ℕ) → Formed h → Kept lineKey (λ l. Sound (lineBlock l)) ls → Text s → Formed (withLines h ls (some s))
+  unfolding sourceText isSome
+  lines-formed h ls s f k x = record {
+    blocks = f .blocks;
+    labels = f .labels;
+    lineBlocks = k;
+    source = x;
+    relocations = f .relocations;
+    sourced = or-true (isEmpty ls);
+  }
+
   -- a record put to the object keeps it formed
   pub put-formed : (h : ObjectFile) (r : Record) → Formed h → Sound r → Formed (putRecord h r)
   unfolding putRecord sourceText isSome
@@ -88,22 +101,11 @@ module _ (Line : LineBlock → Type 0) where
     relocations = f .relocations;
     sourced = f .sourced;
   }
-  put-formed h (lineBlock l) f s = record {
-    lineBlocks = kept-upsert lineKey (λ l. Sound (lineBlock l)) l (h .lineBlocks) s (f .lineBlocks);
-    blocks = f .blocks;
-    labels = f .labels;
-    source = f .source;
-    relocations = f .relocations;
-    sourced = or-true (isEmpty (upsert lineKey l (h .lineBlocks)));
-  }
-  put-formed h (source t) f s = record {
-    source = text-append (sourceText (h .source)) t (f .source) s;
-    blocks = f .blocks;
-    labels = f .labels;
-    lineBlocks = f .lineBlocks;
-    relocations = f .relocations;
-    sourced = or-true (isEmpty (h .lineBlocks));
-  }
+  put-formed h (lineBlock l) f s =
+      lines-formed h (upsert lineKey l (h .lineBlocks)) (sourceText (h .source)) f
+      (kept-upsert lineKey (λ l. Sound (lineBlock l)) l (h .lineBlocks) s (f .lineBlocks)) (f .source)
+  put-formed h (source t) f s =
+      lines-formed h (h .lineBlocks) (sourceText (h .source) ++ t) f (f .lineBlocks) (text-append (sourceText (h .source)) t (f .source) s)
   put-formed h (relocation r) f s = record {
     relocations = kept-upsert relocationKey (λ r. Sound (relocation r)) r (h .relocations) s (f .relocations);
     blocks = f .blocks;

@@ -42,3 +42,4 @@ pub mod Outcomes
 pub mod TextPieces
 pub mod Invariants
 pub mod BinaryFormed
+pub mod UnescapedText

@@ -5,13 +5,18 @@ use mathlib.Core.Bool.{Bool, true, false}
 use mathlib.Core.List.{List, [], _∷_}
 use mathlib.Core.Option.{Option, none, some}
 use Prim.Native.Nat.{ℕ, zero, suc}
-use Rattle.format.specs.Basics.{Outcome, refused, given, _>>=_, ask, need, if_then_else_, All}
+use Rattle.format.specs.Basics.{Outcome, refused, given, _>>=_, ask, need, andThen, if_then_else_, All}
 use Rattle.format.specs.Tokens.{tokens, scanTokens, foldOutcome}
 
 -- if something is given, it is so
 abbrev pub Gives : {A : Type 0} → (A → Type 0) → Outcome A → Type 0
 Gives P (refused n) = Unit {0}
 Gives P (given a) = P a
+
+-- the same of what may be missing
+abbrev pub Holds : {A : Type 0} → (A → Type 0) → Option A → Type 0
+Holds P none = Unit {0}
+Holds P (some a) = P a
 
 pub gives : {A : Type 0} (P : A → Type 0) (o : Outcome A) (a : A) → Gives P o → o ≡ given a → P a
 gives P o a h e = rw e at h
@@ -25,18 +30,27 @@ module _ {A B : Type 0} (Q : B → Type 0) where
   gives-bind P (refused n) f h k = tt
   gives-bind P (given a) f h k = k a h
 
-  pub gives-need : (n : ℕ) (o : Option A) (f : A → Outcome B) → ((a : A) → o ≡ some a → Gives Q (f a)) → Gives Q (need n o >>= f)
-  gives-need n none f k = tt
-  gives-need n (some a) f k = k a refl
+  pub gives-need :
+      (P : A → Type 0) (n : ℕ) (o : Option A) (f : A → Outcome B) → Holds P o → ((a : A) → P a → Gives Q (f a)) → Gives Q (need n o >>= f)
+  gives-need P n none f h k = tt
+  gives-need P n (some a) f h k = k a h
+
+  pub holds-then : (P : A → Type 0) (o : Option A) (f : A → Option B) → Holds P o → ((a : A) → P a → Holds Q (f a)) → Holds Q (andThen o f)
+  holds-then P none f h k = tt
+  holds-then P (some a) f h k = k a h
 
 module _ {B : Type 0} (Q : B → Type 0) where
   pub gives-ask : (n : ℕ) (t : Bool) (o : Outcome B) → (t ≡ true → Gives Q o) → Gives Q (ask n t >>= λ _. o)
   gives-ask n true o k = k refl
   gives-ask n false o k = tt
 
-  pub gives-if : (t : Bool) (o p : Outcome B) → Gives Q o → Gives Q p → Gives Q (if t then o else p)
-  gives-if true o p h k = h
+  pub gives-if : (t : Bool) (o p : Outcome B) → (t ≡ true → Gives Q o) → Gives Q p → Gives Q (if t then o else p)
+  gives-if true o p h k = h refl
   gives-if false o p h k = k
+
+  pub holds-if : (t : Bool) (o p : Option B) → (t ≡ true → Holds Q o) → Holds Q p → Holds Q (if t then o else p)
+  holds-if true o p h k = h refl
+  holds-if false o p h k = k
 
 -- What a walk keeps. The number counts the elements that are still to be passed over: what holds of the rest may speak of it.
 module _ {A B : Type 0} (one : List A → Outcome (B × ℕ)) (P : B → Type 0) (Rest : ℕ → List A → Type 0)

@@ -14,6 +14,7 @@ use Rattle.format.specs.Utf8.{isScalar, encodeScalar, charAt, scalars, i
 use Rattle.format.specs.TextReader.{onFirst, lines, keptLines, splitOnce, firstCell, splitn, cellAt}
 use Rattle.format.proofs.ListLaws.{both, by-test, all-map}
 use Rattle.format.proofs.ListFacts.{all-flatMap}
+use Rattle.format.proofs.Outcomes.{Holds, holds-if, holds-then}
 use Rattle.format.proofs.Ranges.{Bytes}
 use Rattle.format.proofs.Utf8Laws.{Scalar, Text, scalar-bound, char-middle, char-one, char-reads, scalars-char, text-of, text-utf8, text-append, text-ascii}
 
@@ -131,10 +132,10 @@ ascii-past (a ∷ xs) (y ∷ ys) h e x =
     ascii-past xs ys (h .1) (p .1) (ascii-rest y ys (omega (arith, h .0)) x)
 
 -- one byte more in front
-front : (p : List ℕ) (b : ℕ) (bs : List ℕ) → Text (p ++ b ∷ bs) → Text (p ++ b ∷ [] ++ bs)
+pub front : (p : List ℕ) (b : ℕ) (bs : List ℕ) → Text (p ++ b ∷ bs) → Text (p ++ b ∷ [] ++ bs)
 front p b bs x = rw (append-snoc p b bs) x
 
-back : (p : List ℕ) (b : ℕ) (bs : List ℕ) → Text (p ++ b ∷ [] ++ bs) → Text (p ++ b ∷ bs)
+pub back : (p : List ℕ) (b : ℕ) (bs : List ℕ) → Text (p ++ b ∷ [] ++ bs) → Text (p ++ b ∷ bs)
 back p b bs x = rw (append-snoc p b bs) at x
 
 -- TRIMMED
@@ -230,33 +231,28 @@ kept-text bs x = all-keep Text _ (lines (trim bs)) (all-first Text [] (lines (tr
 
 -- CELLS
 
-abbrev CutTexts : List ℕ → Option (List ℕ × List ℕ) → Type 0
-CutTexts p none = Unit {0}
-CutTexts p (some c) = Text (p ++ c .0) × Text (c .1)
+abbrev Cells : List ℕ → List ℕ × List ℕ → Type 0
+Cells p c = Text (p ++ c .0) × Text (c .1)
 
-split-text : (p bs : List ℕ) → Text (p ++ bs) → CutTexts p (splitOnce bs)
+split-text : (p bs : List ℕ) → Text (p ++ bs) → Holds (Cells p) (splitOnce bs)
 unfolding splitOnce beginsWith ascii
 split-text p [] x = tt
-split-text p (b ∷ bs) x = go (beginsWith (ascii " | ") (b ∷ bs)) refl (split-text (p ++ b ∷ []) bs (front p b bs x))
+split-text p (b ∷ bs) x =
+    holds-if (Cells p) (beginsWith (ascii " | ") (b ∷ bs)) _ _ cut
+    (holds-then (Cells p) (Cells (p ++ b ∷ [])) (splitOnce bs) _ (split-text (p ++ b ∷ []) bs (front p b bs x)) λ c i. (back p b (c .0) (i .0), i .1))
   where
-    more : (o : Option (List ℕ × List ℕ)) → CutTexts (p ++ b ∷ []) o → CutTexts p (andThen o λ q. some (b ∷ q .0, q .1))
-    more none i = tt
-    more (some c) i = (back p b (c .0) (i .0), i .1)
-
-    go : (t : Bool) → beginsWith (ascii " | ") (b ∷ bs) ≡ t → CutTexts (p ++ b ∷ []) (splitOnce bs)
-        → CutTexts p (if t then some ([], drop 3 (b ∷ bs)) else andThen (splitOnce bs) λ q. some (b ∷ q .0, q .1))
-    go true e i =
+    cut : beginsWith (ascii " | ") (b ∷ bs) ≡ true → Text (p ++ []) × Text (drop 3 (b ∷ bs))
+    cut e =
         let q = eqb-true 0x20 b (both (eqb 0x20 b) (beginsWith (ascii "| ") bs) e .0) in
         let r = text-cut p b bs (λ f. omega (arith, f .0)) x in
         (rw append-nil (r .0), ascii-past (ascii " | ") (b ∷ bs) (omega arith, (omega arith, (omega arith, tt))) e (r .1))
-    go false e i = more (splitOnce bs) i
 
 cells-text : (k : ℕ) (bs : List ℕ) → Text bs → All Text (splitn k bs)
 unfolding splitn
 cells-text zero bs x = (x, tt)
 cells-text (suc k) bs x = go (splitOnce bs) (split-text [] bs x) (λ t. cells-text k t)
   where
-    go : (o : Option (List ℕ × List ℕ)) → CutTexts [] o → ((t : List ℕ) → Text t → All Text (splitn k t)) → All Text (firstCell bs (λ rest. splitn k rest) o)
+    go : (o : Option (List ℕ × List ℕ)) → Holds (Cells []) o → ((t : List ℕ) → Text t → All Text (splitn k t)) → All Text (firstCell bs (λ rest. splitn k rest) o)
     go none r ih = (x, tt)
     go (some c) r ih = (r .0, ih (c .1) (r .1))
 
