@@ -1,5 +1,5 @@
 -- What the binary reader gives, for every input of bytes, is well formed and in range. Assumes nothing.
-use mathlib.Core.Path.{_≡_, refl, sym, _∙_, ap}
+use mathlib.Core.Path.{_≡_, refl}
 use mathlib.Core.Bool.{Bool, true, false, not}
 use mathlib.Core.List.{List, [], _∷_}
 use mathlib.Core.Option.{Option, none, some}
@@ -18,16 +18,14 @@ use Rattle.format.specs.Utf8.{isUtf8}
 use Rattle.format.specs.ObjectFile.{LineBlock, ObjectFile, neverFall, strictlyRise, apart}
 use Rattle.format.specs.Records.{Record, block, label, lineBlock, source, relocation, gatherRecords, emptyObject, binaryQuestions, askAll, concluded}
 use Rattle.format.specs.Binary.{header, numberAt, bytesAt, memoriesFrom, addressesFrom, blockFrom, labelFrom, linesFrom, sourceFrom, relocationFrom, recordAt, binaryRecords, binaryObject}
-use Rattle.format.specs.Words.{wordsOf, objectOf}
+use Rattle.format.specs.Words.{objectOf}
 use Rattle.format.specs.Calls.{readBinary}
 use Rattle.format.proofs.Laws.{AllBelow}
 use Rattle.format.proofs.ListLaws.{both, every-all, all-map}
 use Rattle.format.proofs.Utf8Laws.{text-of}
 use Rattle.format.proofs.Ranges.{WellFormed, InRange, In16, In64, Word16, Bytes}
-use Rattle.format.proofs.WordsOnly.{bind-given, given-same}
-use Rattle.format.proofs.WordsTrip.{words-back}
 use Rattle.format.proofs.Outcomes.{Gives, gives, gives-bind, gives-ask, gives-if, gives-map, tokens-gives}
-use Rattle.format.proofs.Invariants.{Sound, empty-formed, gather-formed, concluded-formed}
+use Rattle.format.proofs.Invariants.{Whole, words-formed, Sound, empty-formed, gather-formed, concluded-formed}
 
 -- the value of at most n digits is below the base to the n
 digit-below : (d v b p : ℕ) → d < b → v < p → d + b * v < p * b
@@ -150,20 +148,19 @@ records-sound bs h =
     (λ a xs i. gives-map (SoundRecord xs (i .1)) (λ t. Sound NeverFalls (t .0) × Bytes xs) (λ t s. (s, i .1)) (recordAt (a ∷ xs)) (record-sound xs (i .1) a))
     0 (drop 7 bs) (all-drop (λ b. b < 2 ^ 8) 7 bs h)
 
-pub binary-formed : (bs : List ℕ) (h : ObjectFile) → Bytes bs → binaryObject bs ≡ given h → WellFormed h × InRange h
+binary-whole : (bs : List ℕ) → Bytes bs → Gives Whole (binaryObject bs)
 unfolding binaryObject askAll
-binary-formed bs h b e =
-    gives (λ g. WellFormed g × InRange g) (binaryObject bs) h
-    (gives-bind (λ g. WellFormed g × InRange g) (All (Sound NeverFalls)) (binaryRecords bs) _ (records-sound bs b) λ rs s.
+binary-whole bs b =
+    gives-bind Whole (All (Sound NeverFalls)) (binaryRecords bs) _ (records-sound bs b) λ rs s.
     let g : ObjectFile = gatherRecords emptyObject rs in
     let f = gather-formed NeverFalls emptyObject rs (empty-formed NeverFalls) s in
-    concluded-formed NeverFalls binaryQuestions g f
-    (gives-ask _ 15 (apart (g .lineBlocks)) _ λ a. (a, every-all (λ l. neverFall (l .addresses)) (g .lineBlocks) (all-map (λ l u. u .1) (g .lineBlocks) (f .lineBlocks .1))))) e
+    let n = every-all (λ l. neverFall (l .addresses)) (g .lineBlocks) (all-map (λ l u. u .1) (g .lineBlocks) (f .lineBlocks .1)) in
+    concluded-formed NeverFalls binaryQuestions g f (gives-ask _ 15 (apart (g .lineBlocks)) _ λ a. (a, n))
+
+pub binary-formed : (bs : List ℕ) (h : ObjectFile) → AllBelow (2 ^ 8) bs → binaryObject bs ≡ given h → WellFormed h × InRange h
+binary-formed bs h b e = gives Whole (binaryObject bs) h (binary-whole bs b) e
 
 -- so the words read are well formed
-pub binary-words-formed : (bs ws : List ℕ) → Bytes bs → readBinary bs ≡ given ws → (h : ObjectFile) × (objectOf ws ≡ given h)
+pub binary-words-formed : (bs ws : List ℕ) → AllBelow (2 ^ 8) bs → readBinary bs ≡ given ws → (h : ObjectFile) × (objectOf ws ≡ given h)
 unfolding readBinary
-binary-words-formed bs ws b e =
-    let p = bind-given (binaryObject bs) (λ h. given (wordsOf h)) ws e in
-    let f = binary-formed bs (p .0) b (p .1) in
-    (p .0, ap objectOf (sym (given-same (p .2))) ∙ words-back (p .0) (f .0) (f .1))
+binary-words-formed bs ws b e = words-formed (binaryObject bs) ws (binary-whole bs b) e

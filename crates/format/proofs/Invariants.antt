@@ -1,6 +1,6 @@
 -- What the readers keep of the object read so far: its parts rise, each record is as its bytes were asked to be, and line blocks have a
 -- source. With the questions after the last record that is a well formed object in range. Assumes nothing.
-use mathlib.Core.Path.{_≡_, refl}
+use mathlib.Core.Path.{_≡_, refl, sym, _∙_, ap}
 use mathlib.Core.Bool.{Bool, true, false, _&&_, _||_, not}
 use mathlib.Core.List.{List, [], _∷_, _++_, map}
 use mathlib.Core.Option.{Option, none, some}
@@ -8,16 +8,19 @@ use Prim.Native.Nat.{ℕ, _≤_, Ordering, Ordering·lt, Ordering·eq, Ordering�
 use lib.ListN.{length}
 use lib.Dec.{leb}
 use borrow.Author.Tests.{le-leb}
-use Rattle.format.specs.Basics.{if_then_else_, every, isEmpty, isSome, All}
+use Rattle.format.specs.Basics.{Outcome, given, _>>=_, if_then_else_, every, isEmpty, isSome, All}
 use Rattle.format.specs.Utf8.{isUtf8}
 use Rattle.format.specs.Sorted.{order, byOrdering, upsert}
 use Rattle.format.specs.ObjectFile.{Block, Label, LineBlock, Relocation, ObjectFile, blockKey, labelKey, lineKey, relocationKey, neverFall, apart, namesOf, sourceText, consistent}
 use Rattle.format.specs.Records.{Record, block, label, lineBlock, source, relocation, emptyObject, putRecord, gatherRecords, dropStrayRelocations, withLines, withRelocations, Question, askAll, concluded}
+use Rattle.format.specs.Words.{wordsOf, objectOf}
+use Rattle.format.proofs.WordsOnly.{bind-given, given-same}
+use Rattle.format.proofs.WordsTrip.{words-back}
 use Rattle.format.proofs.SortedLaws.{Rises, rises-upsert}
 use Rattle.format.proofs.ListLaws.{all-map, all-append, all-images, every-all}
 use Rattle.format.proofs.Utf8Laws.{Text, text-append, text-ascii, text-utf8}
 use Rattle.format.proofs.TextPieces.{text-bytes}
-use Rattle.format.proofs.Outcomes.{Gives, gives-bind}
+use Rattle.format.proofs.Outcomes.{Gives, gives, gives-bind}
 use Rattle.format.proofs.Ranges.{WellFormed, InRange, InBlock, InLine, In16, In64, Bytes}
 
 -- a part of an object: its keys rise, and each element is as its reader left it
@@ -36,6 +39,20 @@ all-upsert key P a (b ∷ bs) p h = go (order (key a) (key b)) (all-upsert key P
 
 kept-upsert : {A : Type 0} (key : A → List ℕ) (P : A → Type 0) (a : A) (xs : List A) → P a → Kept key P xs → Kept key P (upsert key a xs)
 kept-upsert key P a xs p h = (rises-upsert key a xs (h .0), all-upsert key P a xs p (h .1))
+
+abbrev pub Whole : ObjectFile → Type 0
+Whole h = WellFormed h × InRange h
+
+-- the words of what is well formed and in range are well formed
+pub words-formed : (o : Outcome ObjectFile) (ws : List ℕ) → Gives Whole o → (o >>= λ h. given (wordsOf h)) ≡ given ws → (h : ObjectFile) × (objectOf ws ≡ given h)
+words-formed o ws g e =
+    let p = bind-given o (λ h. given (wordsOf h)) ws e in
+    let w = gives Whole o (p .0) g (p .1) in
+    (p .0, ap objectOf (sym (given-same (p .2))) ∙ words-back (p .0) (w .0) (w .1))
+
+-- of the line blocks, what only all of them together settle
+abbrev LinesStand : List LineBlock → Type 0
+LinesStand ls = (apart ls ≡ true) × (every (λ l. neverFall (l .addresses)) ls ≡ true)
 
 -- A record as its reader's questions leave it; what they leave of a line block differs between the forms.
 module _ (Line : LineBlock → Type 0) where
@@ -121,11 +138,11 @@ module _ (Line : LineBlock → Type 0) where
   gather-formed h (r ∷ rs) f s = gather-formed (putRecord h r) rs (put-formed h r f (s .0)) (s .1)
 
   -- and with the line blocks apart and their addresses never falling it is well formed and in range
-  formed-whole :
-      (h : ObjectFile) → Formed h → apart (h .lineBlocks) ≡ true → every (λ l. neverFall (l .addresses)) (h .lineBlocks) ≡ true → WellFormed h × InRange h
+  formed-whole : (h : ObjectFile) → Formed h → LinesStand (h .lineBlocks) → Whole h
   unfolding consistent namesOf
-  formed-whole h f a n =
-      let counts = every-all (λ b. leb (length (b .words)) 65535) (h .blocks) (all-map (λ b s. le-leb (length (b .words)) 65535 (s .1)) (h .blocks) (f .blocks .1)) in
+  formed-whole h f k =
+      let counts =
+      every-all (λ b. leb (length (b .words)) 65535) (h .blocks) (all-map (λ b s. le-leb (length (b .words)) 65535 (s .1)) (h .blocks) (f .blocks .1)) in
       let named = all-map (λ l s. text-utf8 (l .name) (s .2)) (h .labels) (f .labels .1) in
       let moved = all-map (λ r s. text-utf8 (r .name) (s .1)) (h .relocations) (f .relocations .1) in
       let names =
@@ -137,7 +154,7 @@ module _ (Line : LineBlock → Type 0) where
           labels = f .labels .0;
           lineBlocks = f .lineBlocks .0;
           relocations = f .relocations .0;
-          consistent = rw (counts, a, n, f .sourced, names, text-utf8 (sourceText (h .source)) (f .source));
+          consistent = rw (counts, k .0, k .1, f .sourced, names, text-utf8 (sourceText (h .source)) (f .source));
         },
         record {
           blocks = all-map (λ b s. s .0) (h .blocks) (f .blocks .1);
@@ -150,17 +167,13 @@ module _ (Line : LineBlock → Type 0) where
 
   -- what a reader hands on, where its last questions and what it kept of the line blocks settle these two
   pub concluded-formed :
-      (qs : List Question) (h : ObjectFile) → Formed h
-      → Gives (λ _. (apart (h .lineBlocks) ≡ true) × (every (λ l. neverFall (l .addresses)) (h .lineBlocks) ≡ true)) (askAll qs h)
-      → Gives (λ g. WellFormed g × InRange g) (concluded qs h)
+      (qs : List Question) (h : ObjectFile) → Formed h → Gives (λ _. LinesStand (h .lineBlocks)) (askAll qs h) → Gives Whole (concluded qs h)
   unfolding concluded dropStrayRelocations
   concluded-formed qs h f q =
-      gives-bind (λ g. WellFormed g × InRange g) (λ _. (apart (h .lineBlocks) ≡ true) × (every (λ l. neverFall (l .addresses)) (h .lineBlocks) ≡ true)) (askAll qs h) _ q
-      λ _ k. go k (isEmpty (h .labels) && not (isSome (h .source)))
+      gives-bind Whole (λ _. LinesStand (h .lineBlocks)) (askAll qs h) _ q λ _ k. go k (isEmpty (h .labels) && not (isSome (h .source)))
     where
-      go : (apart (h .lineBlocks) ≡ true) × (every (λ l. neverFall (l .addresses)) (h .lineBlocks) ≡ true) → (t : Bool)
-          → WellFormed (if t then withRelocations h [] else h) × InRange (if t then withRelocations h [] else h)
-      go k false = formed-whole h f (k .0) (k .1)
+      go : LinesStand (h .lineBlocks) → (t : Bool) → Whole (if t then withRelocations h [] else h)
+      go k false = formed-whole h f k
       go k true =
           formed-whole (withRelocations h []) (record {
             blocks = f .blocks;
@@ -169,4 +182,4 @@ module _ (Line : LineBlock → Type 0) where
             source = f .source;
             relocations = (tt, tt);
             sourced = f .sourced;
-          }) (k .0) (k .1)
+          }) k

@@ -43,3 +43,5 @@ pub mod TextPieces
 pub mod Invariants
 pub mod BinaryFormed
 pub mod UnescapedText
+pub mod RunsFormed
+pub mod TextFormed
