@@ -62,7 +62,7 @@ pairs-back [] h = refl
 pairs-back (x ∷ xs) h = rw (value-digits 8 2 x (h .0), pairs-back xs (h .1))
 
 module _ (bs name : List ℕ) (n : ℕ) where
-  label-from :
+  pub label-from :
       (a s : ℕ) (e : Bool) → leb 19 (length bs) ≡ true → numberAt 11 8 bs ≡ n → leb (19 + n) (length bs) ≡ true → bytesAt 19 n bs ≡ name → isUtf8 name ≡ true
       → numberAt 0 2 bs ≡ a → not (eqb (numberAt 2 1 bs) 0) ≡ e → numberAt 3 8 bs ≡ s
       → labelFrom bs ≡ given (label (record { name = name; address = a; external = e; start = s }), 19 + n)
@@ -75,19 +75,19 @@ bit-back true = refl
 bit-back false = refl
 
 module _ (bs : List ℕ) (n : ℕ) where
-  block-from :
+  pub block-from :
       (a : ℕ) (ws : List (Option ℕ)) → leb 4 (length bs) ≡ true → numberAt 2 2 bs ≡ n → leb (4 + 3 * n) (length bs) ≡ true → numberAt 0 2 bs ≡ a
       → memoriesFrom (bytesAt 4 (3 * n) bs) ≡ ws → blockFrom bs ≡ given (block (record { address = a; words = ws }), 4 + 3 * n)
   unfolding blockFrom
   block-from a ws h1 h2 h3 h4 h5 = rw (h1, h2, h3, h4, h5)
 
-  lines-from :
+  pub lines-from :
       (f : ℕ) (xs : List ℕ) → leb 10 (length bs) ≡ true → numberAt 8 2 bs ≡ n → leb (10 + 2 * n) (length bs) ≡ true → numberAt 0 8 bs ≡ f
       → addressesFrom (bytesAt 10 (2 * n) bs) ≡ xs → strictlyRise xs ≡ true → linesFrom bs ≡ given (lineBlock (record { first = f; addresses = xs }), 10 + 2 * n)
   unfolding linesFrom
   lines-from f xs h1 h2 h3 h4 h5 h6 = rw (h1, h2, h3, h4, h5, h6)
 
-  relocation-from :
+  pub relocation-from :
       (a : ℕ) (name : List ℕ) → leb 10 (length bs) ≡ true → numberAt 2 8 bs ≡ n → leb (10 + n) (length bs) ≡ true → numberAt 0 2 bs ≡ a → bytesAt 10 n bs ≡ name
       → isUtf8 name ≡ true → relocationFrom bs ≡ given (relocation (record { address = a; name = name }), 10 + n)
   unfolding relocationFrom

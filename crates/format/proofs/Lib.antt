@@ -45,3 +45,4 @@ pub mod BinaryFormed
 pub mod UnescapedText
 pub mod RunsFormed
 pub mod TextFormed
+pub mod Concatenation
