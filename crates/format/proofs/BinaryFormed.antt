@@ -24,7 +24,7 @@ use Rattle.format.proofs.Laws.{AllBelow}
 use Rattle.format.proofs.ListLaws.{both, every-all, all-map}
 use Rattle.format.proofs.Utf8Laws.{text-of}
 use Rattle.format.proofs.Ranges.{WellFormed, InRange, In16, In64, Word16, Bytes}
-use Rattle.format.proofs.Outcomes.{Gives, gives, gives-bind, gives-ask, gives-if, gives-map, tokens-gives}
+use Rattle.format.proofs.Outcomes.{by-if, Gives, gives, gives-bind, gives-ask, gives-map, tokens-gives}
 use Rattle.format.proofs.Invariants.{Whole, words-formed, Sound, empty-formed, gather-formed, concluded-formed}
 
 -- the value of at most n digits is below the base to the n
@@ -55,11 +55,8 @@ unfolding memoriesFrom
 memories-below [] h = tt
 memories-below (f ∷ []) h = tt
 memories-below (f ∷ a ∷ []) h = tt
-memories-below (f ∷ a ∷ b ∷ bs) h = (go (eqb f 0xFF), memories-below bs (h .1 .1 .1))
-  where
-    go : (t : Bool) → Word16 (if t then some (valueOf 8 (a ∷ b ∷ [])) else none)
-    go true = value-below 8 2 (a ∷ b ∷ []) (h .1 .0, (h .1 .1 .0, tt))
-    go false = tt
+memories-below (f ∷ a ∷ b ∷ bs) h =
+    (by-if Word16 (eqb f 0xFF) _ _ (λ _. value-below 8 2 (a ∷ b ∷ []) (h .1 .0, (h .1 .1 .0, tt))) (λ _. tt), memories-below bs (h .1 .1 .1))
 
 memories-length : (bs : List ℕ) → 3 * length (memoriesFrom bs) ≤ length bs
 unfolding memoriesFrom
@@ -102,43 +99,43 @@ module _ (bs : List ℕ) (h : Bytes bs) where
   unfolding blockFrom
   block-sound =
       let n : ℕ = numberAt 2 2 bs in
-      gives-ask SoundRecord 12 (leb 4 (length bs)) _ λ _. gives-ask SoundRecord 12 (leb (4 + 3 * n) (length bs)) _ λ _.
+      gives-ask _ 12 (leb 4 (length bs)) _ λ _. gives-ask _ 12 (leb (4 + 3 * n) (length bs)) _ λ _.
       ((number-below 0 2, memories-below (bytesAt 4 (3 * n) bs) (bytes-below 4 (3 * n))), omega (arith, memories-length (bytesAt 4 (3 * n) bs), length-take (3 * n) (drop 4 bs), number-below 2 2))
 
   label-sound : Gives SoundRecord (labelFrom bs)
   unfolding labelFrom
   label-sound =
       let n : ℕ = numberAt 11 8 bs in
-      gives-ask SoundRecord 12 (leb 19 (length bs)) _ λ _. gives-ask SoundRecord 12 (leb (19 + n) (length bs)) _ λ _.
-      gives-ask SoundRecord 13 (isUtf8 (bytesAt 19 n bs)) _ λ u. (number-below 0 2, number-below 3 8, text-of (bytesAt 19 n bs) u)
+      gives-ask _ 12 (leb 19 (length bs)) _ λ _. gives-ask _ 12 (leb (19 + n) (length bs)) _ λ _.
+      gives-ask _ 13 (isUtf8 (bytesAt 19 n bs)) _ λ u. (number-below 0 2, number-below 3 8, text-of (bytesAt 19 n bs) u)
 
   lines-sound : Gives SoundRecord (linesFrom bs)
   unfolding linesFrom
   lines-sound =
       let n : ℕ = numberAt 8 2 bs in
-      gives-ask SoundRecord 12 (leb 10 (length bs)) _ λ _. gives-ask SoundRecord 12 (leb (10 + 2 * n) (length bs)) _ λ _.
-      gives-ask SoundRecord 14 (strictlyRise (addressesFrom (bytesAt 10 (2 * n) bs))) _ λ u.
+      gives-ask _ 12 (leb 10 (length bs)) _ λ _. gives-ask _ 12 (leb (10 + 2 * n) (length bs)) _ λ _.
+      gives-ask _ 14 (strictlyRise (addressesFrom (bytesAt 10 (2 * n) bs))) _ λ u.
       ((number-below 0 8, addresses-below (bytesAt 10 (2 * n) bs) (bytes-below 10 (2 * n))), rise-never-fall (addressesFrom (bytesAt 10 (2 * n) bs)) u)
 
   source-sound : Gives SoundRecord (sourceFrom bs)
   unfolding sourceFrom
   source-sound =
       let n : ℕ = numberAt 0 8 bs in
-      gives-ask SoundRecord 12 (leb 8 (length bs)) _ λ _. gives-ask SoundRecord 12 (leb (8 + n) (length bs)) _ λ _.
-      gives-ask SoundRecord 13 (isUtf8 (bytesAt 8 n bs)) _ λ u. text-of (bytesAt 8 n bs) u
+      gives-ask _ 12 (leb 8 (length bs)) _ λ _. gives-ask _ 12 (leb (8 + n) (length bs)) _ λ _.
+      gives-ask _ 13 (isUtf8 (bytesAt 8 n bs)) _ λ u. text-of (bytesAt 8 n bs) u
 
   relocation-sound : Gives SoundRecord (relocationFrom bs)
   unfolding relocationFrom
   relocation-sound =
       let n : ℕ = numberAt 2 8 bs in
-      gives-ask SoundRecord 12 (leb 10 (length bs)) _ λ _. gives-ask SoundRecord 12 (leb (10 + n) (length bs)) _ λ _.
-      gives-ask SoundRecord 13 (isUtf8 (bytesAt 10 n bs)) _ λ u. (number-below 0 2, text-of (bytesAt 10 n bs) u)
+      gives-ask _ 12 (leb 10 (length bs)) _ λ _. gives-ask _ 12 (leb (10 + n) (length bs)) _ λ _.
+      gives-ask _ 13 (isUtf8 (bytesAt 10 n bs)) _ λ u. (number-below 0 2, text-of (bytesAt 10 n bs) u)
 
   record-sound : (k : ℕ) → Gives SoundRecord (recordAt (k ∷ bs))
   unfolding recordAt
   record-sound k =
-      gives-if SoundRecord (eqb k 0) _ _ (λ _. block-sound) (gives-if SoundRecord (eqb k 1) _ _ (λ _. label-sound) (gives-if SoundRecord (eqb k 2) _ _ (λ _. lines-sound)
-      (gives-if SoundRecord (eqb k 3) _ _ (λ _. source-sound) (gives-if SoundRecord (eqb k 4) _ _ (λ _. relocation-sound) tt))))
+      by-if (Gives SoundRecord) (eqb k 0) _ _ (λ _. block-sound) (λ _. by-if (Gives SoundRecord) (eqb k 1) _ _ (λ _. label-sound) (λ _. by-if (Gives SoundRecord) (eqb k 2) _ _ (λ _. lines-sound)
+      (λ _. by-if (Gives SoundRecord) (eqb k 3) _ _ (λ _. source-sound) (λ _. by-if (Gives SoundRecord) (eqb k 4) _ _ (λ _. relocation-sound) (λ _. tt)))))
 
 records-sound : (bs : List ℕ) → Bytes bs → Gives (All (Sound NeverFalls)) (binaryRecords bs)
 unfolding binaryRecords

@@ -42,7 +42,5 @@ pub mod Outcomes
 pub mod TextPieces
 pub mod Invariants
 pub mod BinaryFormed
-pub mod UnescapedText
-pub mod RunsFormed
 pub mod TextFormed
 pub mod Concatenation

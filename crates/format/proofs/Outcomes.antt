@@ -8,6 +8,15 @@ use Prim.Native.Nat.{ℕ, zero, suc}
 use Rattle.format.specs.Basics.{Outcome, refused, given, _>>=_, ask, need, andThen, if_then_else_, All}
 use Rattle.format.specs.Tokens.{tokens, scanTokens, foldOutcome}
 
+-- both ways of a test
+pub by-if : {A : Type 0} (P : A → Type 0) (t : Bool) (a b : A) → (t ≡ true → P a) → (t ≡ false → P b) → P (if t then a else b)
+by-if P true a b h k = h refl
+by-if P false a b h k = k refl
+
+pub by-option : {A : Type 0} (P : Option A → Type 0) (o : Option A) → P none → ((a : A) → o ≡ some a → P (some a)) → P o
+by-option P none h k = h
+by-option P (some a) h k = k a refl
+
 -- if something is given, it is so
 abbrev pub Gives : {A : Type 0} → (A → Type 0) → Outcome A → Type 0
 Gives P (refused n) = Unit {0}
@@ -43,14 +52,6 @@ module _ {B : Type 0} (Q : B → Type 0) where
   pub gives-ask : (n : ℕ) (t : Bool) (o : Outcome B) → (t ≡ true → Gives Q o) → Gives Q (ask n t >>= λ _. o)
   gives-ask n true o k = k refl
   gives-ask n false o k = tt
-
-  pub gives-if : (t : Bool) (o p : Outcome B) → (t ≡ true → Gives Q o) → Gives Q p → Gives Q (if t then o else p)
-  gives-if true o p h k = h refl
-  gives-if false o p h k = k
-
-  pub holds-if : (t : Bool) (o p : Option B) → (t ≡ true → Holds Q o) → Holds Q p → Holds Q (if t then o else p)
-  holds-if true o p h k = h refl
-  holds-if false o p h k = k
 
 -- What a walk keeps. The number counts the elements that are still to be passed over: what holds of the rest may speak of it.
 module _ {A B : Type 0} (one : List A → Outcome (B × ℕ)) (P : B → Type 0) (Rest : ℕ → List A → Type 0)

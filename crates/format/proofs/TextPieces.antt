@@ -1,20 +1,22 @@
--- The pieces of a UTF-8 text are UTF-8: cut where a character begins, past ASCII bytes, trimmed, its lines and its cells. Assumes nothing.
+-- The pieces of a UTF-8 text are UTF-8: cut where a character begins, past ASCII bytes, trimmed, its lines, its cells, and what it
+-- unescapes to. Assumes nothing.
 use mathlib.Core.Path.{_≡_, refl, sym, _∙_, ap, subst}
 use mathlib.Core.Bool.{Bool, true, false, _&&_}
 use mathlib.Core.List.{List, [], _∷_, _++_, append-assoc, append-nil, flatMap}
 use mathlib.Core.Option.{Option, none, some}
-use Prim.Native.Nat.{ℕ, zero, suc, _+_, _/_, _%_, _^_, _≤_, _<_}
+use Prim.Native.Nat.{ℕ, zero, suc, _+_, _-_, _/_, _%_, _^_, _≤_, _<_}
 use native.Mathlib.Omega.{arith}
-use lib.ListN.{length, drop, getD, length-append}
-use lib.Seq.{append-snoc}
+use lib.ListN.{length, take, drop, getD, length-append}
+use lib.Seq.{append-snoc, drop-drop}
 use lib.Dec.{ltb, leb, eqb}
-use borrow.Author.Tests.{ltb-true, lt-ltb, eqb-true, eq-eqb}
-use Rattle.format.specs.Basics.{if_then_else_, andThen, isSome, isEmpty, ascii, keep, beginsWith, All}
-use Rattle.format.specs.Utf8.{isScalar, encodeScalar, charAt, scalars, isUtf8, isWhiteSpace, whiteSpaceLength, passOver, trimFrom, trimStart, isBlank, trimEnd, trim}
-use Rattle.format.specs.TextReader.{onFirst, lines, keptLines, splitOnce, firstCell, splitn, cellAt}
+use borrow.Author.Tests.{ltb-true, lt-ltb, leb-true, eqb-true}
+use Rattle.format.specs.Basics.{Outcome, given, _>>=_, ask, if_then_else_, andThen, isSome, isEmpty, ascii, keep, beginsWith, All}
+use Rattle.format.specs.Tokens.{tokens}
+use Rattle.format.specs.Utf8.{isBetween, isScalar, encodeScalar, charAt, scalars, isUtf8, isWhiteSpace, whiteSpaceLength, passOver, trimFrom, trimStart, isBlank, trimEnd, trim}
+use Rattle.format.specs.TextReader.{onFirst, lines, keptLines, splitOnce, firstCell, splitn, cellAt, digitValue, digitsFrom, hexDigits, scalarOf, unicodeEscape, afterBackslash, unescapeAt, unescape}
 use Rattle.format.proofs.ListLaws.{both, by-test, all-map}
 use Rattle.format.proofs.ListFacts.{all-flatMap}
-use Rattle.format.proofs.Outcomes.{Holds, holds-if, holds-then}
+use Rattle.format.proofs.Outcomes.{by-if, by-option, Gives, Holds, gives-bind, gives-ask, holds-then}
 use Rattle.format.proofs.Ranges.{Bytes}
 use Rattle.format.proofs.Utf8Laws.{Scalar, Text, scalar-bound, char-middle, char-one, char-reads, scalars-char, text-of, text-utf8, text-append, text-ascii}
 
@@ -28,24 +30,16 @@ Shape e = (x : ℕ) × (ys : List ℕ) × (e ≡ x ∷ ys) × (x < 2 ^ 8) × All
 
 char-shape : (c : ℕ) → Scalar c → Shape (encodeScalar c)
 unfolding encodeScalar
-char-shape c s = go (ltb c 0x80) refl (ltb c 0x800) refl (ltb c 0x10000) refl
+char-shape c s =
+    by-if Shape (ltb c 0x80) _ _ (λ e. let l = ltb-true c 0x80 e in (c, [], refl, omega arith, tt))
+    (λ _. by-if Shape (ltb c 0x800) _ _ (λ e. let l = ltb-true c 0x800 e in (0xC0 + c / 64, (0x80 + c % 64) ∷ [], refl, omega arith, (low c, tt)))
+    (λ _. by-if Shape (ltb c 0x10000) _ _
+    (λ e. let l = ltb-true c 0x10000 e in (0xE0 + c / 4096, (0x80 + c / 64 % 64) ∷ (0x80 + c % 64) ∷ [], refl, omega arith, (low (c / 64), (low c, tt))))
+    (λ _. let l = scalar-bound c s in
+    (0xF0 + c / 262144, (0x80 + c / 4096 % 64) ∷ (0x80 + c / 64 % 64) ∷ (0x80 + c % 64) ∷ [], refl, omega arith, (low (c / 4096), (low (c / 64), (low c, tt)))))))
   where
     low : (d : ℕ) → Follower (0x80 + d % 64)
     low d = (omega arith, omega arith)
-
-    go : (t : Bool) → ltb c 0x80 ≡ t → (u : Bool) → ltb c 0x800 ≡ u → (v : Bool) → ltb c 0x10000 ≡ v
-        → Shape (if t then c ∷ []
-        else if u then (0xC0 + c / 64) ∷ (0x80 + c % 64) ∷ []
-        else if v then (0xE0 + c / 4096) ∷ (0x80 + c / 64 % 64) ∷ (0x80 + c % 64) ∷ []
-        else (0xF0 + c / 262144) ∷ (0x80 + c / 4096 % 64) ∷ (0x80 + c / 64 % 64) ∷ (0x80 + c % 64) ∷ [])
-    go true e u f v g = let l = ltb-true c 0x80 e in (c, [], refl, omega arith, tt)
-    go false e true f v g = let l = ltb-true c 0x800 f in (0xC0 + c / 64, (0x80 + c % 64) ∷ [], refl, omega arith, (low c, tt))
-    go false e false f true g =
-        let l = ltb-true c 0x10000 g in
-        (0xE0 + c / 4096, (0x80 + c / 64 % 64) ∷ (0x80 + c % 64) ∷ [], refl, omega arith, (low (c / 64), (low c, tt)))
-    go false e false f false g =
-        let l = scalar-bound c s in
-        (0xF0 + c / 262144, (0x80 + c / 4096 % 64) ∷ (0x80 + c / 64 % 64) ∷ (0x80 + c % 64) ∷ [], refl, omega arith, (low (c / 4096), (low (c / 64), (low c, tt))))
 
 char-bytes : (c : ℕ) → Scalar c → Bytes (encodeScalar c)
 char-bytes c s =
@@ -62,20 +56,16 @@ text-char c s = (c ∷ [], (s, tt), append-nil (encodeScalar c))
 -- a text less its first character
 pub text-rest : (c : ℕ) (rest : List ℕ) → Scalar c → Text (encodeScalar c ++ rest) → Text rest
 unfolding isUtf8 isSome
-text-rest c rest s x = text-of rest (go (scalars rest) (ap isSome (sym (scalars-char c rest s)) ∙ text-utf8 (encodeScalar c ++ rest) x))
-  where
-    go : (o : Option (List ℕ)) → isSome (andThen o λ ds. some (c ∷ ds)) ≡ true → isSome o ≡ true
-    go none e = e
-    go (some ds) e = refl
+text-rest c rest s x =
+    text-of rest (by-option (λ o. isSome (andThen o λ ds. some (c ∷ ds)) ≡ true → isSome o ≡ true) (scalars rest) (λ e. e) (λ _ _ _. refl)
+    (ap isSome (sym (scalars-char c rest s)) ∙ text-utf8 (encodeScalar c ++ rest) x))
 
 -- followers stand before a byte that is none
 past-followers :
     (ys rest p : List ℕ) (b : ℕ) (bs : List ℕ) → All Follower ys → (Follower b → ⊥) → ys ++ rest ≡ p ++ b ∷ bs
     → (q : List ℕ) × (p ≡ ys ++ q) × (rest ≡ q ++ b ∷ bs)
 past-followers [] rest p b bs f n e = (p, refl, e)
-past-followers (y ∷ ys) rest [] b bs f n e =
-    let q : y ≡ b = cc in
-    absurd (n (rw (← q) (f .0)))
+past-followers (y ∷ ys) rest [] b bs f n e = let q : y ≡ b = cc in absurd (n (rw (← q) (f .0)))
 past-followers (y ∷ ys) rest (x ∷ p) b bs f n e =
     let r = past-followers ys rest p b bs (f .1) n (cc) in
     let t : p ≡ ys ++ r .0 = r .1 in
@@ -105,12 +95,6 @@ cut-scalars (c ∷ cs) p b bs s n e = go p e (λ q. cut-scalars cs q b bs (s .1)
 pub text-cut : (p : List ℕ) (b : ℕ) (bs : List ℕ) → (Follower b → ⊥) → Text (p ++ b ∷ bs) → Text p × Text (b ∷ bs)
 text-cut p b bs n x = cut-scalars (x .0) p b bs (x .1) n (x .2)
 
--- a character that can be read, and an ASCII byte, begin where a text may be cut
-char-begins : (b : ℕ) (bs : List ℕ) (c : ℕ × ℕ) → charAt (b ∷ bs) ≡ some c → Follower b → ⊥
-char-begins b bs c e f =
-    let m = char-middle b bs (f .0) (f .1) in
-    let z : _≡_ {A = ℕ} 0 1 = cc in omega arith
-
 pub ascii-rest : (b : ℕ) (bs : List ℕ) → b < 0x80 → Text (b ∷ bs) → Text bs
 unfolding encodeScalar isScalar
 ascii-rest b bs l x =
@@ -132,10 +116,10 @@ ascii-past (a ∷ xs) (y ∷ ys) h e x =
     ascii-past xs ys (h .1) (p .1) (ascii-rest y ys (omega (arith, h .0)) x)
 
 -- one byte more in front
-pub front : (p : List ℕ) (b : ℕ) (bs : List ℕ) → Text (p ++ b ∷ bs) → Text (p ++ b ∷ [] ++ bs)
+front : (p : List ℕ) (b : ℕ) (bs : List ℕ) → Text (p ++ b ∷ bs) → Text (p ++ b ∷ [] ++ bs)
 front p b bs x = rw (append-snoc p b bs) x
 
-pub back : (p : List ℕ) (b : ℕ) (bs : List ℕ) → Text (p ++ b ∷ [] ++ bs) → Text (p ++ b ∷ bs)
+back : (p : List ℕ) (b : ℕ) (bs : List ℕ) → Text (p ++ b ∷ [] ++ bs) → Text (p ++ b ∷ bs)
 back p b bs x = rw (append-snoc p b bs) at x
 
 -- TRIMMED
@@ -145,36 +129,26 @@ unfolding trimFrom
 start-text zero [] l x = x
 start-text (suc k) [] l x = x
 start-text (suc k) (b ∷ bs) l x = start-text k bs (omega arith) x
-start-text zero (b ∷ bs) l x = go (charAt (b ∷ bs)) refl (λ n. start-text n bs)
-  where
-    go : (o : Option (ℕ × ℕ)) → charAt (b ∷ bs) ≡ o → ((n : ℕ) → n ≤ length bs → Text (drop n bs) → Text (trimFrom n bs))
-        → Text (passOver (whiteSpaceLength o) (b ∷ bs) (λ n. trimFrom n bs))
-    go none e ih = x
-    go (some c) e ih =
-        let r = char-reads b bs (c .0) (c .1) e in
-        pick (isWhiteSpace (c .0)) (ih (c .1) (r .1) (text-rest (c .0) (drop (c .1) bs) (r .2) (rw (r .0) x)))
-      where
-        pick : (t : Bool) → Text (trimFrom (c .1) bs) → Text (passOver (if t then suc (c .1) else 0) (b ∷ bs) (λ n. trimFrom n bs))
-        pick true i = i
-        pick false i = x
+start-text zero (b ∷ bs) l x =
+    by-option (λ o. Text (passOver (whiteSpaceLength o) (b ∷ bs) (λ n. trimFrom n bs))) (charAt (b ∷ bs)) x λ c e.
+    let r = char-reads b bs (c .0) (c .1) e in
+    let i = start-text (c .1) bs (r .1) (text-rest (c .0) (drop (c .1) bs) (r .2) (rw (r .0) x)) in
+    by-if (λ k. Text (passOver k (b ∷ bs) (λ n. trimFrom n bs))) (isWhiteSpace (c .0)) _ _ (λ _. i) (λ _. x)
 
 -- White_Space alone begins with a character
 blank-begins : (b : ℕ) (bs : List ℕ) → isBlank (b ∷ bs) ≡ true → Follower b → ⊥
 unfolding isBlank trimStart trimFrom isEmpty
-blank-begins b bs e = go (charAt (b ∷ bs)) refl e
-  where
-    go : (o : Option (ℕ × ℕ)) → charAt (b ∷ bs) ≡ o → isEmpty (passOver (whiteSpaceLength o) (b ∷ bs) (λ n. trimFrom n bs)) ≡ true → Follower b → ⊥
-    go none f h g = let z : _≡_ {A = ℕ} 0 1 = cc in omega arith
-    go (some c) f h g = char-begins b bs c f g
+blank-begins b bs e f =
+    let m = char-middle b bs (f .0) (f .1) in
+    let t : isEmpty (b ∷ bs) ≡ true = rw m at e in
+    let z : _≡_ {A = ℕ} 0 1 = cc in omega arith
 
 end-text : (p bs : List ℕ) → Text (p ++ bs) → Text (p ++ trimEnd bs)
 unfolding trimEnd
 end-text p [] x = x
-end-text p (b ∷ bs) x = go (isBlank (b ∷ bs)) refl (end-text (p ++ b ∷ []) bs (front p b bs x))
-  where
-    go : (t : Bool) → isBlank (b ∷ bs) ≡ t → Text (p ++ b ∷ [] ++ trimEnd bs) → Text (p ++ (if t then [] else b ∷ trimEnd bs))
-    go true e ih = rw append-nil (text-cut p b bs (blank-begins b bs e) x .0)
-    go false e ih = back p b (trimEnd bs) ih
+end-text p (b ∷ bs) x =
+    by-if (λ t. Text (p ++ t)) (isBlank (b ∷ bs)) _ _ (λ e. rw append-nil (text-cut p b bs (blank-begins b bs e) x .0))
+    (λ _. back p b (trimEnd bs) (end-text (p ++ b ∷ []) bs (front p b bs x)))
 
 pub trim-text : (t : List ℕ) → Text t → Text (trim t)
 unfolding trim trimStart
@@ -190,40 +164,32 @@ module _ {A : Type 0} (P : A → Type 0) where
   pub all-keep : (p : A → Bool) (xs : List A) → All P xs → All P (keep p xs)
   unfolding keep
   all-keep p [] h = tt
-  all-keep p (x ∷ xs) h = go (p x) (all-keep p xs (h .1))
-    where
-      go : (t : Bool) → All P (keep p xs) → All P (if t then x ∷ keep p xs else keep p xs)
-      go true i = (h .0, i)
-      go false i = i
+  all-keep p (x ∷ xs) h = let i = all-keep p xs (h .1) in by-if (All P) (p x) _ _ (λ _. (h .0, i)) (λ _. i)
 
   pub all-getD : (d : A) (xs : List A) (i : ℕ) → P d → All P xs → P (getD xs i d)
   all-getD d [] i p h = p
   all-getD d (x ∷ xs) zero p h = h .0
   all-getD d (x ∷ xs) (suc i) p h = all-getD d xs i p (h .1)
 
-lines-text : (p bs : List ℕ) → Text (p ++ bs) → Text (p ++ getD (lines bs) 0 []) × All Text (drop 1 (lines bs))
-unfolding lines onFirst beginsWith
-lines-text p [] x = (x, tt)
-lines-text p (b ∷ bs) x = go (eqb b 0x0A) refl (eqb b 0x0D && beginsWith (0x0A ∷ []) bs) refl (λ q. lines-text q bs)
-  where
-    one : (ls : List (List ℕ)) → Text (p ++ b ∷ [] ++ getD ls 0 []) × All Text (drop 1 ls)
-        → Text (p ++ getD (onFirst b ls) 0 []) × All Text (drop 1 (onFirst b ls))
-    one [] h = (back p b [] (h .0), tt)
-    one (l ∷ ls) h = (back p b l (h .0), h .1)
+-- lines of what p is in front of
+abbrev Lines : List ℕ → List (List ℕ) → Type 0
+Lines p ls = Text (p ++ getD ls 0 []) × All Text (drop 1 ls)
 
-    go : (t : Bool) → eqb b 0x0A ≡ t → (u : Bool) → (eqb b 0x0D && beginsWith (0x0A ∷ []) bs) ≡ u
-        → ((q : List ℕ) → Text (q ++ bs) → Text (q ++ getD (lines bs) 0 []) × All Text (drop 1 (lines bs)))
-        → Text (p ++ getD (if t then [] ∷ lines bs else if u then lines bs else onFirst b (lines bs)) 0 [])
-        × All Text (drop 1 (if t then [] ∷ lines bs else if u then lines bs else onFirst b (lines bs)))
-    go true e u f ih =
-        let q = eqb-true b 0x0A e in
-        let r = ascii-cut p b bs (omega arith) x in
-        (rw append-nil (r .0), all-first Text [] (lines bs) (ih [] (r .1)))
-    go false e true f ih =
-        let q = eqb-true b 0x0D (both (eqb b 0x0D) (beginsWith (0x0A ∷ []) bs) f .0) in
-        let r = ascii-cut p b bs (omega arith) x in
-        ih p (text-append p bs (r .0) (r .1))
-    go false e false f ih = one (lines bs) (ih (p ++ b ∷ []) (front p b bs x))
+on-first : (p : List ℕ) (b : ℕ) (ls : List (List ℕ)) → Lines (p ++ b ∷ []) ls → Lines p (onFirst b ls)
+unfolding onFirst
+on-first p b [] h = (back p b [] (h .0), tt)
+on-first p b (l ∷ ls) h = (back p b l (h .0), h .1)
+
+lines-text : (p bs : List ℕ) → Text (p ++ bs) → Lines p (lines bs)
+unfolding lines
+lines-text p [] x = (x, tt)
+lines-text p (b ∷ bs) x =
+    by-if (Lines p) (eqb b 0x0A) _ _
+    (λ e. let q = eqb-true b 0x0A e in let r = ascii-cut p b bs (omega arith) x in (rw append-nil (r .0), all-first Text [] (lines bs) (lines-text [] bs (r .1))))
+    (λ _. by-if (Lines p) (eqb b 0x0D && beginsWith (0x0A ∷ []) bs) _ _
+    (λ e. let q = eqb-true b 0x0D (both (eqb b 0x0D) (beginsWith (0x0A ∷ []) bs) e .0) in
+    let r = ascii-cut p b bs (omega arith) x in lines-text p bs (text-append p bs (r .0) (r .1)))
+    (λ _. on-first p b (lines bs) (lines-text (p ++ b ∷ []) bs (front p b bs x))))
 
 pub kept-text : (bs : List ℕ) → Text bs → All Text (keptLines bs)
 unfolding keptLines
@@ -238,8 +204,8 @@ split-text : (p bs : List ℕ) → Text (p ++ bs) → Holds (Cells p) (splitOnce
 unfolding splitOnce beginsWith ascii
 split-text p [] x = tt
 split-text p (b ∷ bs) x =
-    holds-if (Cells p) (beginsWith (ascii " | ") (b ∷ bs)) _ _ cut
-    (holds-then (Cells p) (Cells (p ++ b ∷ [])) (splitOnce bs) _ (split-text (p ++ b ∷ []) bs (front p b bs x)) λ c i. (back p b (c .0) (i .0), i .1))
+    by-if (Holds (Cells p)) (beginsWith (ascii " | ") (b ∷ bs)) _ _ cut
+    (λ _. holds-then _ (Cells (p ++ b ∷ [])) (splitOnce bs) _ (split-text (p ++ b ∷ []) bs (front p b bs x)) λ c i. (back p b (c .0) (i .0), i .1))
   where
     cut : beginsWith (ascii " | ") (b ∷ bs) ≡ true → Text (p ++ []) × Text (drop 3 (b ∷ bs))
     cut e =
@@ -250,11 +216,98 @@ split-text p (b ∷ bs) x =
 cells-text : (k : ℕ) (bs : List ℕ) → Text bs → All Text (splitn k bs)
 unfolding splitn
 cells-text zero bs x = (x, tt)
-cells-text (suc k) bs x = go (splitOnce bs) (split-text [] bs x) (λ t. cells-text k t)
-  where
-    go : (o : Option (List ℕ × List ℕ)) → Holds (Cells []) o → ((t : List ℕ) → Text t → All Text (splitn k t)) → All Text (firstCell bs (λ rest. splitn k rest) o)
-    go none r ih = (x, tt)
-    go (some c) r ih = (r .0, ih (c .1) (r .1))
+cells-text (suc k) bs x =
+    by-option (λ o. Holds (Cells []) o → All Text (firstCell bs (λ rest. splitn k rest) o)) (splitOnce bs) (λ _. (x, tt))
+    (λ c _ r. (r .0, cells-text k (c .1) (r .1))) (split-text [] bs x)
 
 pub cell-text : (k i : ℕ) (l : List ℕ) → Text l → Text (cellAt i (splitn k l))
 cell-text k i l x = all-getD Text [] (splitn k l) i (text-ascii [] tt) (cells-text k l x)
+
+-- UNESCAPED
+
+digit-ascii : (b : ℕ) → isSome (digitValue 16 b) ≡ true → b < 0x80
+unfolding digitValue isSome
+digit-ascii b =
+    by-if Ascii (isBetween 48 57 b) _ _ (λ e _. below 48 57 (omega arith) e)
+    (λ _. by-if Ascii (isBetween 65 70 b) _ _ (λ e _. below 65 70 (omega arith) e)
+    (λ _. by-if Ascii (isBetween 97 102 b) _ _ (λ e _. below 97 102 (omega arith) e)
+    (λ _ h. let z : _≡_ {A = ℕ} 0 1 = cc in absurd (omega arith))))
+  where
+    Ascii : ℕ → Type 0
+    Ascii d = isSome (if ltb d 16 then some d else none) ≡ true → b < 0x80
+
+    below : (low high : ℕ) → high < 0x80 → isBetween low high b ≡ true → b < 0x80
+    below low high l e = omega (arith, leb-true b high (both (leb low b) (leb b high) e .1))
+
+hex-past : (xs : List ℕ) → Text xs → Text (drop (hexDigits xs) xs)
+unfolding hexDigits
+hex-past [] x = x
+hex-past (b ∷ bs) x =
+    by-if (λ n. Text (drop n (b ∷ bs))) (isSome (digitValue 16 b)) _ _ (λ e. hex-past bs (ascii-rest b bs (digit-ascii b e) x)) (λ _. x)
+
+-- an escape gives a text and leaves one
+abbrev Escaped : List ℕ → List ℕ × ℕ → Type 0
+Escaped bs t = Text (t .0) × Text (drop (t .1) bs)
+
+unicode-text : (u : ℕ) (bs : List ℕ) → Text bs → Gives (Escaped (u ∷ bs)) (unicodeEscape bs)
+unfolding unicodeEscape ascii
+unicode-text u bs x =
+    let n : ℕ = hexDigits (drop 1 bs) in
+    gives-ask _ 30 (beginsWith (ascii "{") bs) _ λ e.
+    gives-ask _ 30 (isBetween 1 6 n && beginsWith (ascii "}") (drop (1 + n) bs)) _ λ f.
+    gives-bind _ Scalar (scalarOf (digitsFrom 16 0 (take n (drop 1 bs)))) _ (scalar (digitsFrom 16 0 (take n (drop 1 bs)))) λ c s.
+    (text-char c s, past e (both (isBetween 1 6 n) (beginsWith (ascii "}") (drop (1 + n) bs)) f .1))
+  where
+    past : beginsWith (ascii "{") bs ≡ true → beginsWith (ascii "}") (drop (1 + hexDigits (drop 1 bs)) bs) ≡ true
+        → Text (drop (1 + (1 + hexDigits (drop 1 bs) + 1)) (u ∷ bs))
+    past e f =
+        let n : ℕ = hexDigits (drop 1 bs) in
+        let digits : Text (drop n (drop 1 bs)) = hex-past (drop 1 bs) (ascii-past (ascii "{") bs (omega arith, tt) e x) in
+        let close : Text (drop (1 + n) bs) = subst (λ (y : List ℕ). Text y) (drop-drop n 1 bs) digits in
+        subst (λ (y : List ℕ). Text y) (drop-drop 1 (1 + n) bs ∙ drop-drop (1 + n + 1) 1 (u ∷ bs)) (ascii-past (ascii "}") (drop (1 + n) bs) (omega arith, tt) f close)
+
+    scalar : (o : Option ℕ) → Gives Scalar (scalarOf o)
+    scalar none = tt
+    scalar (some c) = by-if (Gives Scalar) (isScalar c) _ _ (λ e. e) (λ _. tt)
+
+after-text : (bs : List ℕ) → Text bs → Gives (Escaped bs) (afterBackslash bs)
+unfolding afterBackslash ascii
+after-text [] x = tt
+after-text (b ∷ bs) x =
+    short 0x74 0x09 _ (omega arith) (omega arith)
+    (short 0x72 0x0D _ (omega arith) (omega arith)
+    (short 0x6E 0x0A _ (omega arith) (omega arith)
+    (short 0x27 0x27 _ (omega arith) (omega arith)
+    (short 0x22 0x22 _ (omega arith) (omega arith)
+    (short 0x5C 0x5C _ (omega arith) (omega arith)
+    (by-if (Gives (Escaped (b ∷ bs))) (beginsWith (ascii "u") (b ∷ bs)) _ _
+    (λ e. unicode-text b bs (ascii-past (ascii "u") (b ∷ bs) (omega arith, tt) e x)) (λ _. tt)))))))
+  where
+    -- a letter that stands for a byte
+    short : (a v : ℕ) (o : Outcome (List ℕ × ℕ)) → a < 0x80 → v < 0x80 → Gives (Escaped (b ∷ bs)) o
+        → Gives (Escaped (b ∷ bs)) (if beginsWith (a ∷ []) (b ∷ bs) then given (v ∷ [], 1) else o)
+    short a v o l m k =
+        by-if (Gives (Escaped (b ∷ bs))) (beginsWith (a ∷ []) (b ∷ bs)) (given (v ∷ [], 1)) o
+        (λ e. (text-ascii (v ∷ []) (m, tt), ascii-past (a ∷ []) (b ∷ bs) (l, tt) e x)) (λ _. k)
+
+-- what is unescaped, after p, of the bytes that are not passed over
+abbrev After : List ℕ → List (List ℕ) → Type 0
+After p ts = Text (p ++ flatMap (λ t. t) ts)
+
+tokens-text : (k : ℕ) (xs p : List ℕ) → Text (p ++ drop k xs) → Gives (After p) (tokens unescapeAt k xs)
+unfolding tokens unescapeAt flatMap
+tokens-text zero [] p x = x
+tokens-text (suc k) [] p x = x
+tokens-text (suc k) (b ∷ bs) p x = tokens-text k bs p x
+tokens-text zero (b ∷ bs) p x =
+    by-if (λ (o : Outcome (List ℕ × ℕ)). Gives (After p) (o >>= λ t. tokens unescapeAt (t .1) bs >>= λ ts. given (t .0 ∷ ts))) (eqb b 0x5C) _ _
+    (λ e. let c = eqb-true b 0x5C e in let r = ascii-cut p b bs (omega arith) x in
+    gives-bind _ (Escaped bs) (afterBackslash bs) _ (after-text bs (r .1)) λ t q.
+    gives-bind _ (After []) (tokens unescapeAt (t .1) bs) _ (tokens-text (t .1) bs [] (q .1)) λ ts y.
+    text-append p (t .0 ++ flatMap (λ t. t) ts) (r .0) (text-append (t .0) (flatMap (λ t. t) ts) (q .0) y))
+    (λ _. gives-bind _ (After (p ++ b ∷ [])) (tokens unescapeAt 0 bs) _ (tokens-text 0 bs (p ++ b ∷ []) (front p b bs x)) λ ts y.
+    back p b (flatMap (λ t. t) ts) y)
+
+pub unescape-text : (bs : List ℕ) → Text bs → Gives Text (unescape bs)
+unfolding unescape
+unescape-text bs x = gives-bind _ (After []) (tokens unescapeAt 0 bs) _ (tokens-text 0 bs [] x) λ ts y. y
