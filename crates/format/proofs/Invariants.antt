@@ -12,7 +12,7 @@ use Rattle.format.specs.Basics.{Outcome, given, _>>=_, if_then_else_, ev
 use Rattle.format.specs.Utf8.{isUtf8}
 use Rattle.format.specs.Sorted.{order, byOrdering, upsert}
 use Rattle.format.specs.ObjectFile.{Block, Label, LineBlock, Relocation, ObjectFile, blockKey, labelKey, lineKey, relocationKey, neverFall, apart, namesOf, sourceText, consistent}
-use Rattle.format.specs.Records.{Record, block, label, lineBlock, source, relocation, emptyObject, putRecord, gatherRecords, dropStrayRelocations, withLines, withRelocations, Question, askAll, concluded}
+use Rattle.format.specs.Records.{Record, block, label, lineBlock, source, relocation, emptyObject, putRecord, gatherRecords, dropStrayRelocations, withBlocks, withLabels, withLines, withRelocations, Question, askAll, concluded}
 use Rattle.format.specs.Words.{wordsOf, objectOf}
 use Rattle.format.proofs.WordsOnly.{bind-given, given-same}
 use Rattle.format.proofs.WordsTrip.{words-back}
@@ -20,7 +20,7 @@ use Rattle.format.proofs.SortedLaws.{Rises, rises-upsert}
 use Rattle.format.proofs.ListLaws.{all-map, all-append, all-images, every-all}
 use Rattle.format.proofs.Utf8Laws.{Text, text-append, text-ascii, text-utf8}
 use Rattle.format.proofs.TextPieces.{text-bytes}
-use Rattle.format.proofs.Outcomes.{Gives, gives, gives-bind}
+use Rattle.format.proofs.Outcomes.{by-if, Gives, gives, gives-bind}
 use Rattle.format.proofs.Ranges.{WellFormed, InRange, InBlock, InLine, In16, In64, Bytes}
 
 -- a part of an object: its keys rise, and each element is as its reader left it
@@ -71,16 +71,15 @@ module _ (Line : LineBlock → Type 0) where
     pub relocations : Kept relocationKey (λ r. Sound (relocation r)) (h .relocations)
     pub sourced : (isEmpty (h .lineBlocks) || isSome (h .source)) ≡ true
 
+  formed :
+      (h : ObjectFile) → Kept blockKey (λ b. Sound (block b)) (h .blocks) → Kept labelKey (λ l. Sound (label l)) (h .labels)
+      → Kept lineKey (λ l. Sound (lineBlock l)) (h .lineBlocks) → Text (sourceText (h .source))
+      → Kept relocationKey (λ r. Sound (relocation r)) (h .relocations) → (isEmpty (h .lineBlocks) || isSome (h .source)) ≡ true → Formed h
+  formed h b l m s r e = record { blocks = b; labels = l; lineBlocks = m; source = s; relocations = r; sourced = e }
+
   pub empty-formed : Formed emptyObject
   unfolding emptyObject isEmpty sourceText
-  empty-formed = record {
-    blocks = (tt, tt);
-    labels = (tt, tt);
-    lineBlocks = (tt, tt);
-    source = text-ascii [] tt;
-    relocations = (tt, tt);
-    sourced = refl;
-  }
+  empty-formed = formed emptyObject (tt, tt) (tt, tt) (tt, tt) (text-ascii [] tt) (tt, tt) refl
 
   or-true : (t : Bool) → (t || true) ≡ true
   or-true true = refl
@@ -90,47 +89,25 @@ module _ (Line : LineBlock → Type 0) where
   pub lines-formed :
       (h : ObjectFile) (ls : List LineBlock) (s : List ℕ) → Formed h → Kept lineKey (λ l. Sound (lineBlock l)) ls → Text s → Formed (withLines h ls (some s))
   unfolding sourceText isSome
-  lines-formed h ls s f k x = record {
-    blocks = f .blocks;
-    labels = f .labels;
-    lineBlocks = k;
-    source = x;
-    relocations = f .relocations;
-    sourced = or-true (isEmpty ls);
-  }
+  lines-formed h ls s f k x = formed (withLines h ls (some s)) (f .blocks) (f .labels) k x (f .relocations) (or-true (isEmpty ls))
 
   -- a record put to the object keeps it formed
   pub put-formed : (h : ObjectFile) (r : Record) → Formed h → Sound r → Formed (putRecord h r)
   unfolding putRecord sourceText isSome
-  put-formed h (block b) f s = record {
-    blocks = kept-upsert blockKey (λ b. Sound (block b)) b (h .blocks) s (f .blocks);
-    labels = f .labels;
-    lineBlocks = f .lineBlocks;
-    source = f .source;
-    relocations = f .relocations;
-    sourced = f .sourced;
-  }
-  put-formed h (label l) f s = record {
-    labels = kept-upsert labelKey (λ l. Sound (label l)) l (h .labels) s (f .labels);
-    blocks = f .blocks;
-    lineBlocks = f .lineBlocks;
-    source = f .source;
-    relocations = f .relocations;
-    sourced = f .sourced;
-  }
+  put-formed h (block b) f s =
+      formed (withBlocks h (upsert blockKey b (h .blocks))) (kept-upsert blockKey (λ b. Sound (block b)) b (h .blocks) s (f .blocks))
+      (f .labels) (f .lineBlocks) (f .source) (f .relocations) (f .sourced)
+  put-formed h (label l) f s =
+      formed (withLabels h (upsert labelKey l (h .labels))) (f .blocks)
+      (kept-upsert labelKey (λ l. Sound (label l)) l (h .labels) s (f .labels)) (f .lineBlocks) (f .source) (f .relocations) (f .sourced)
   put-formed h (lineBlock l) f s =
       lines-formed h (upsert lineKey l (h .lineBlocks)) (sourceText (h .source)) f
       (kept-upsert lineKey (λ l. Sound (lineBlock l)) l (h .lineBlocks) s (f .lineBlocks)) (f .source)
   put-formed h (source t) f s =
       lines-formed h (h .lineBlocks) (sourceText (h .source) ++ t) f (f .lineBlocks) (text-append (sourceText (h .source)) t (f .source) s)
-  put-formed h (relocation r) f s = record {
-    relocations = kept-upsert relocationKey (λ r. Sound (relocation r)) r (h .relocations) s (f .relocations);
-    blocks = f .blocks;
-    labels = f .labels;
-    lineBlocks = f .lineBlocks;
-    source = f .source;
-    sourced = f .sourced;
-  }
+  put-formed h (relocation r) f s =
+      formed (withRelocations h (upsert relocationKey r (h .relocations))) (f .blocks) (f .labels) (f .lineBlocks) (f .source)
+      (kept-upsert relocationKey (λ r. Sound (relocation r)) r (h .relocations) s (f .relocations)) (f .sourced)
 
   pub gather-formed : (h : ObjectFile) (rs : List Record) → Formed h → All Sound rs → Formed (gatherRecords h rs)
   unfolding gatherRecords
@@ -170,16 +147,7 @@ module _ (Line : LineBlock → Type 0) where
       (qs : List Question) (h : ObjectFile) → Formed h → Gives (λ _. LinesStand (h .lineBlocks)) (askAll qs h) → Gives Whole (concluded qs h)
   unfolding concluded dropStrayRelocations
   concluded-formed qs h f q =
-      gives-bind Whole (λ _. LinesStand (h .lineBlocks)) (askAll qs h) _ q λ _ k. go k (isEmpty (h .labels) && not (isSome (h .source)))
-    where
-      go : LinesStand (h .lineBlocks) → (t : Bool) → Whole (if t then withRelocations h [] else h)
-      go k false = formed-whole h f k
-      go k true =
-          formed-whole (withRelocations h []) (record {
-            blocks = f .blocks;
-            labels = f .labels;
-            lineBlocks = f .lineBlocks;
-            source = f .source;
-            relocations = (tt, tt);
-            sourced = f .sourced;
-          }) k
+      gives-bind _ (λ _. LinesStand (h .lineBlocks)) (askAll qs h) _ q λ _ k.
+      by-if Whole (isEmpty (h .labels) && not (isSome (h .source))) _ _
+      (λ _. formed-whole (withRelocations h []) (formed (withRelocations h []) (f .blocks) (f .labels) (f .lineBlocks) (f .source) (tt, tt) (f .sourced)) k)
+      (λ _. formed-whole h f k)

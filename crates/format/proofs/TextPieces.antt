@@ -6,7 +6,7 @@ use mathlib.Core.List.{List, [], _∷_, _++_, append-assoc, append-nil, flatMap}
 use mathlib.Core.Option.{Option, none, some}
 use Prim.Native.Nat.{ℕ, zero, suc, _+_, _-_, _/_, _%_, _^_, _≤_, _<_}
 use native.Mathlib.Omega.{arith}
-use lib.ListN.{length, take, drop, getD, length-append}
+use lib.ListN.{length, take, drop, getD, length-append, take-append-drop}
 use lib.Seq.{append-snoc, drop-drop}
 use lib.Dec.{ltb, leb, eqb}
 use borrow.Author.Tests.{ltb-true, lt-ltb, leb-true, eqb-true}
@@ -115,6 +115,18 @@ ascii-past (a ∷ xs) (y ∷ ys) h e x =
     let q = eqb-true a y (p .0) in
     ascii-past xs ys (h .1) (p .1) (ascii-rest y ys (omega (arith, h .0)) x)
 
+-- and so do ASCII bytes
+ascii-parts :
+    (p : List ℕ) (a : ℕ) (xs ys : List ℕ) → All (λ b. b < 0x80) (a ∷ xs) → beginsWith (a ∷ xs) ys ≡ true → Text (p ++ ys)
+    → Text p × Text (drop (length (a ∷ xs)) ys)
+unfolding beginsWith
+ascii-parts p a xs [] h e x = let z : _≡_ {A = ℕ} 0 1 = cc in absurd (omega arith)
+ascii-parts p a xs (y ∷ ys) h e x =
+    let t = both (eqb a y) (beginsWith xs ys) e in
+    let q = eqb-true a y (t .0) in
+    let r = ascii-cut p y ys (omega (arith, h .0)) x in
+    (r .0, ascii-past xs ys (h .1) (t .1) (r .1))
+
 -- one byte more in front
 front : (p : List ℕ) (b : ℕ) (bs : List ℕ) → Text (p ++ b ∷ bs) → Text (p ++ b ∷ [] ++ bs)
 front p b bs x = rw (append-snoc p b bs) x
@@ -204,14 +216,9 @@ split-text : (p bs : List ℕ) → Text (p ++ bs) → Holds (Cells p) (splitOnce
 unfolding splitOnce beginsWith ascii
 split-text p [] x = tt
 split-text p (b ∷ bs) x =
-    by-if (Holds (Cells p)) (beginsWith (ascii " | ") (b ∷ bs)) _ _ cut
+    by-if (Holds (Cells p)) (beginsWith (ascii " | ") (b ∷ bs)) _ _
+    (λ e. rw append-nil (ascii-parts p 0x20 (ascii "| ") (b ∷ bs) (omega arith, (omega arith, (omega arith, tt))) e x))
     (λ _. holds-then _ (Cells (p ++ b ∷ [])) (splitOnce bs) _ (split-text (p ++ b ∷ []) bs (front p b bs x)) λ c i. (back p b (c .0) (i .0), i .1))
-  where
-    cut : beginsWith (ascii " | ") (b ∷ bs) ≡ true → Text (p ++ []) × Text (drop 3 (b ∷ bs))
-    cut e =
-        let q = eqb-true 0x20 b (both (eqb 0x20 b) (beginsWith (ascii "| ") bs) e .0) in
-        let r = text-cut p b bs (λ f. omega (arith, f .0)) x in
-        (rw append-nil (r .0), ascii-past (ascii " | ") (b ∷ bs) (omega arith, (omega arith, (omega arith, tt))) e (r .1))
 
 cells-text : (k : ℕ) (bs : List ℕ) → Text bs → All Text (splitn k bs)
 unfolding splitn
@@ -225,26 +232,6 @@ cell-text k i l x = all-getD Text [] (splitn k l) i (text-ascii [] tt) (cells-te
 
 -- UNESCAPED
 
-digit-ascii : (b : ℕ) → isSome (digitValue 16 b) ≡ true → b < 0x80
-unfolding digitValue isSome
-digit-ascii b =
-    by-if Ascii (isBetween 48 57 b) _ _ (λ e _. below 48 57 (omega arith) e)
-    (λ _. by-if Ascii (isBetween 65 70 b) _ _ (λ e _. below 65 70 (omega arith) e)
-    (λ _. by-if Ascii (isBetween 97 102 b) _ _ (λ e _. below 97 102 (omega arith) e)
-    (λ _ h. let z : _≡_ {A = ℕ} 0 1 = cc in absurd (omega arith))))
-  where
-    Ascii : ℕ → Type 0
-    Ascii d = isSome (if ltb d 16 then some d else none) ≡ true → b < 0x80
-
-    below : (low high : ℕ) → high < 0x80 → isBetween low high b ≡ true → b < 0x80
-    below low high l e = omega (arith, leb-true b high (both (leb low b) (leb b high) e .1))
-
-hex-past : (xs : List ℕ) → Text xs → Text (drop (hexDigits xs) xs)
-unfolding hexDigits
-hex-past [] x = x
-hex-past (b ∷ bs) x =
-    by-if (λ n. Text (drop n (b ∷ bs))) (isSome (digitValue 16 b)) _ _ (λ e. hex-past bs (ascii-rest b bs (digit-ascii b e) x)) (λ _. x)
-
 -- an escape gives a text and leaves one
 abbrev Escaped : List ℕ → List ℕ × ℕ → Type 0
 Escaped bs t = Text (t .0) × Text (drop (t .1) bs)
@@ -256,16 +243,10 @@ unicode-text u bs x =
     gives-ask _ 30 (beginsWith (ascii "{") bs) _ λ e.
     gives-ask _ 30 (isBetween 1 6 n && beginsWith (ascii "}") (drop (1 + n) bs)) _ λ f.
     gives-bind _ Scalar (scalarOf (digitsFrom 16 0 (take n (drop 1 bs)))) _ (scalar (digitsFrom 16 0 (take n (drop 1 bs)))) λ c s.
-    (text-char c s, past e (both (isBetween 1 6 n) (beginsWith (ascii "}") (drop (1 + n) bs)) f .1))
+    let close = both (isBetween 1 6 n) (beginsWith (ascii "}") (drop (1 + n) bs)) f .1 in
+    let rest = ascii-parts (take (1 + n) bs) 0x7D [] (drop (1 + n) bs) (omega arith, tt) close (rw (take-append-drop (1 + n) bs) x) in
+    (text-char c s, rw (← drop-drop (1 + n + 1) 1 (u ∷ bs), ← drop-drop 1 (1 + n) bs) (rest .1))
   where
-    past : beginsWith (ascii "{") bs ≡ true → beginsWith (ascii "}") (drop (1 + hexDigits (drop 1 bs)) bs) ≡ true
-        → Text (drop (1 + (1 + hexDigits (drop 1 bs) + 1)) (u ∷ bs))
-    past e f =
-        let n : ℕ = hexDigits (drop 1 bs) in
-        let digits : Text (drop n (drop 1 bs)) = hex-past (drop 1 bs) (ascii-past (ascii "{") bs (omega arith, tt) e x) in
-        let close : Text (drop (1 + n) bs) = subst (λ (y : List ℕ). Text y) (drop-drop n 1 bs) digits in
-        subst (λ (y : List ℕ). Text y) (drop-drop 1 (1 + n) bs ∙ drop-drop (1 + n + 1) 1 (u ∷ bs)) (ascii-past (ascii "}") (drop (1 + n) bs) (omega arith, tt) f close)
-
     scalar : (o : Option ℕ) → Gives Scalar (scalarOf o)
     scalar none = tt
     scalar (some c) = by-if (Gives Scalar) (isScalar c) _ _ (λ e. e) (λ _. tt)
