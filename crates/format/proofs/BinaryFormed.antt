@@ -1,31 +1,31 @@
--- What the binary reader gives, for every input of bytes, is well formed and in range. Assumes nothing.
-use mathlib.Core.Path.{_≡_, refl}
+-- What the binary reader gives, for every input of bytes, is well formed and in range. What the reading of one record settles: it is no
+-- longer than what is there, it is the same whatever follows, and of bytes it is sound. Assumes nothing.
+use mathlib.Core.Path.{_≡_, refl, _∙_, ap}
 use mathlib.Core.Bool.{Bool, true, false, not}
-use mathlib.Core.List.{List, [], _∷_}
-use mathlib.Core.Option.{Option, none, some}
+use mathlib.Core.List.{List, [], _∷_, _++_}
 use Prim.Native.Nat.{ℕ, zero, suc, _+_, _*_, _^_, _≤_, _<_}
 use native.Mathlib.Nat.{pow-zero, pow-suc, mul-suc, mul-comm, mul-le-mul-left}
 use native.Mathlib.Omega.{arith}
-use lib.ListN.{length, take, drop, length-take}
-use lib.Seq.{length-take-le}
+use lib.ListN.{length, take, drop, length-append, length-take, length-drop, take-append-drop}
+use lib.Seq.{take-append-le, drop-append-le}
 use lib.Pow.{pow-pos}
 use lib.Dec.{leb, ltb, eqb}
 use borrow.Author.Tests.{ltb-true, leb-true, le-leb}
-use Rattle.format.specs.Basics.{Outcome, given, refused, _>>=_, ask, if_then_else_, chain, every, beginsWith, All}
+use Rattle.format.specs.Basics.{Outcome, refused, given, if_then_else_, chain, All, beginsWith}
 use Rattle.format.specs.Digits.{valueOf}
-use Rattle.format.specs.Tokens.{tokens}
 use Rattle.format.specs.Utf8.{isUtf8}
-use Rattle.format.specs.ObjectFile.{LineBlock, ObjectFile, neverFall, strictlyRise, apart}
-use Rattle.format.specs.Records.{Record, block, label, lineBlock, source, relocation, gatherRecords, emptyObject, binaryQuestions, askAll, concluded}
-use Rattle.format.specs.Binary.{header, numberAt, bytesAt, memoriesFrom, addressesFrom, blockFrom, labelFrom, linesFrom, sourceFrom, relocationFrom, recordAt, binaryRecords, binaryObject}
+use Rattle.format.specs.ObjectFile.{LineBlock, neverFall, strictlyRise, ObjectFile, apart}
+use Rattle.format.specs.Records.{Record, gatherRecords, emptyObject, binaryQuestions, askAll}
+use Rattle.format.specs.Binary.{numberAt, bytesAt, memoriesFrom, addressesFrom, blockFrom, labelFrom, linesFrom, sourceFrom, relocationFrom, recordAt, header, binaryRecords, binaryObject}
 use Rattle.format.specs.Words.{objectOf}
 use Rattle.format.specs.Calls.{readBinary}
-use Rattle.format.proofs.Laws.{AllBelow}
-use Rattle.format.proofs.ListLaws.{both, every-all, all-map}
+use Rattle.format.proofs.Laws.{AllBelow, source-from}
+use Rattle.format.proofs.ListLaws.{both, all-parts, every-all, all-map}
 use Rattle.format.proofs.Utf8Laws.{text-of}
-use Rattle.format.proofs.Ranges.{WellFormed, InRange, In16, In64, Word16, Bytes}
-use Rattle.format.proofs.Outcomes.{by-if, Gives, gives, gives-bind, gives-ask, gives-map, tokens-gives}
-use Rattle.format.proofs.Invariants.{Whole, words-formed, Sound, empty-formed, gather-formed, concluded-formed}
+use Rattle.format.proofs.Ranges.{In16, Word16, Bytes, WellFormed, InRange}
+use Rattle.format.proofs.BinaryBack.{block-from, label-from, lines-from, relocation-from}
+use Rattle.format.proofs.Outcomes.{by-if, Gives, gives-ask, gives, gives-bind, gives-map, tokens-gives}
+use Rattle.format.proofs.Invariants.{Sound, Whole, words-formed, empty-formed, gather-formed, concluded-formed}
 
 -- the value of at most n digits is below the base to the n
 digit-below : (d v b p : ℕ) → d < b → v < p → d + b * v < p * b
@@ -38,17 +38,6 @@ value-below k (suc n) [] h =
     let l = digit-below 0 (valueOf k (take n [])) (2 ^ k) ((2 ^ k) ^ n) (pow-pos k) (value-below k n [] tt) in
     rw pow-suc (omega arith)
 value-below k (suc n) (d ∷ ds) h = rw pow-suc (digit-below d (valueOf k (take n ds)) (2 ^ k) ((2 ^ k) ^ n) (h .0) (value-below k n ds (h .1)))
-
-module _ {A : Type 0} (P : A → Type 0) where
-  pub all-take : (n : ℕ) (xs : List A) → All P xs → All P (take n xs)
-  all-take zero xs h = tt
-  all-take (suc n) [] h = tt
-  all-take (suc n) (x ∷ xs) h = (h .0, all-take n xs (h .1))
-
-  pub all-drop : (n : ℕ) (xs : List A) → All P xs → All P (drop n xs)
-  all-drop zero xs h = h
-  all-drop (suc n) [] h = tt
-  all-drop (suc n) (x ∷ xs) h = all-drop n xs (h .1)
 
 memories-below : (bs : List ℕ) → Bytes bs → All Word16 (memoriesFrom bs)
 unfolding memoriesFrom
@@ -81,69 +70,128 @@ rise-never-fall (m ∷ n ∷ ns) h =
     let l = ltb-true m n (p .0) in
     rw (le-leb m n (omega arith), rise-never-fall (n ∷ ns) (p .1))
 
-abbrev NeverFalls : LineBlock → Type 0
+abbrev pub NeverFalls : LineBlock → Type 0
 NeverFalls l = neverFall (l .addresses) ≡ true
 
--- the records that the bytes after a kind byte give
-module _ (bs : List ℕ) (h : Bytes bs) where
-  abbrev SoundRecord : Record × ℕ → Type 0
-  SoundRecord t = Sound NeverFalls (t .0)
+pub bytes-drop : (n : ℕ) (bs : List ℕ) → Bytes bs → Bytes (drop n bs)
+bytes-drop n bs h = all-parts (λ b. b < 2 ^ 8) (take n bs) (drop n bs) (rw (take-append-drop n bs) h) .1
 
-  number-below : (at n : ℕ) → numberAt at n bs < (2 ^ 8) ^ n
-  number-below at n = value-below 8 n (drop at bs) (all-drop (λ b. b < 2 ^ 8) at bs h)
+bytes-take : (n : ℕ) (bs : List ℕ) → Bytes bs → Bytes (take n bs)
+bytes-take n bs h = all-parts (λ b. b < 2 ^ 8) (take n bs) (drop n bs) (rw (take-append-drop n bs) h) .0
 
-  bytes-below : (at n : ℕ) → Bytes (bytesAt at n bs)
-  bytes-below at n = all-take (λ b. b < 2 ^ 8) n (drop at bs) (all-drop (λ b. b < 2 ^ 8) at bs h)
+-- the bytes of a record after its kind byte, and what comes after them
+module _ (bs ys : List ℕ) where
+  abbrev pub ReadWhole : (List ℕ → Outcome (Record × ℕ)) → Record × ℕ → Type 0
+  ReadWhole from t = (t .1 ≤ length bs) × (from (bs ++ ys) ≡ given t) × (Bytes bs → Sound NeverFalls (t .0))
 
-  block-sound : Gives SoundRecord (blockFrom bs)
+  longer : (n : ℕ) → leb n (length bs) ≡ true → leb n (length (bs ++ ys)) ≡ true
+  longer n h = le-leb n (length (bs ++ ys)) (omega (arith, leb-true n (length bs) h, length-append bs ys))
+
+  bytes-stay : (at n : ℕ) → at + n ≤ length bs → bytesAt at n (bs ++ ys) ≡ bytesAt at n bs
+  bytes-stay at n h =
+      ap (take n) (drop-append-le at bs ys (omega arith)) ∙ take-append-le n (drop at bs) ys (omega (arith, length-drop at bs))
+
+  number-stays : (at n : ℕ) → at + n ≤ length bs → numberAt at n (bs ++ ys) ≡ numberAt at n bs
+  number-stays at n h = ap (valueOf 8) (bytes-stay at n h)
+
+  number-below : (at n : ℕ) → Bytes bs → numberAt at n bs < (2 ^ 8) ^ n
+  number-below at n b = value-below 8 n (drop at bs) (bytes-drop at bs b)
+
+  bytes-below : (at n : ℕ) → Bytes bs → Bytes (bytesAt at n bs)
+  bytes-below at n b = bytes-take n (drop at bs) (bytes-drop at bs b)
+
+  block-read : Gives (ReadWhole blockFrom) (blockFrom bs)
   unfolding blockFrom
-  block-sound =
+  block-read =
       let n : ℕ = numberAt 2 2 bs in
-      gives-ask _ 12 (leb 4 (length bs)) _ λ _. gives-ask _ 12 (leb (4 + 3 * n) (length bs)) _ λ _.
-      ((number-below 0 2, memories-below (bytesAt 4 (3 * n) bs) (bytes-below 4 (3 * n))), omega (arith, memories-length (bytesAt 4 (3 * n) bs), length-take (3 * n) (drop 4 bs), number-below 2 2))
+      let ms : List ℕ = bytesAt 4 (3 * n) bs in
+      gives-ask _ 12 (leb 4 (length bs)) _ λ h. gives-ask _ 12 (leb (4 + 3 * n) (length bs)) _ λ k.
+      let l = leb-true (4 + 3 * n) (length bs) k in (
+        l,
+        block-from (bs ++ ys) n (numberAt 0 2 bs) (memoriesFrom ms) (longer 4 h) (number-stays 2 2 (omega arith)) (longer (4 + 3 * n) k)
+            (number-stays 0 2 (omega arith)) (ap memoriesFrom (bytes-stay 4 (3 * n) l)),
+        λ b. (
+          (number-below 0 2 b, memories-below ms (bytes-below 4 (3 * n) b)),
+          omega (arith, memories-length ms, length-take (3 * n) (drop 4 bs), number-below 2 2 b),
+        ),
+      )
 
-  label-sound : Gives SoundRecord (labelFrom bs)
+  label-read : Gives (ReadWhole labelFrom) (labelFrom bs)
   unfolding labelFrom
-  label-sound =
+  label-read =
       let n : ℕ = numberAt 11 8 bs in
-      gives-ask _ 12 (leb 19 (length bs)) _ λ _. gives-ask _ 12 (leb (19 + n) (length bs)) _ λ _.
-      gives-ask _ 13 (isUtf8 (bytesAt 19 n bs)) _ λ u. (number-below 0 2, number-below 3 8, text-of (bytesAt 19 n bs) u)
+      let name : List ℕ = bytesAt 19 n bs in
+      gives-ask _ 12 (leb 19 (length bs)) _ λ h. gives-ask _ 12 (leb (19 + n) (length bs)) _ λ k. gives-ask _ 13 (isUtf8 name) _ λ u.
+      let l = leb-true (19 + n) (length bs) k in (
+        l,
+        label-from (bs ++ ys) name n (numberAt 0 2 bs) (numberAt 3 8 bs) (not (eqb (numberAt 2 1 bs) 0)) (longer 19 h)
+            (number-stays 11 8 (omega arith)) (longer (19 + n) k) (bytes-stay 19 n l) u (number-stays 0 2 (omega arith))
+            (ap (λ (x : ℕ). not (eqb x 0)) (number-stays 2 1 (omega arith))) (number-stays 3 8 (omega arith)),
+        λ b.
+            (number-below 0 2 b, number-below 3 8 b, text-of name u),
+      )
 
-  lines-sound : Gives SoundRecord (linesFrom bs)
+  lines-read : Gives (ReadWhole linesFrom) (linesFrom bs)
   unfolding linesFrom
-  lines-sound =
+  lines-read =
       let n : ℕ = numberAt 8 2 bs in
-      gives-ask _ 12 (leb 10 (length bs)) _ λ _. gives-ask _ 12 (leb (10 + 2 * n) (length bs)) _ λ _.
-      gives-ask _ 14 (strictlyRise (addressesFrom (bytesAt 10 (2 * n) bs))) _ λ u.
-      ((number-below 0 8, addresses-below (bytesAt 10 (2 * n) bs) (bytes-below 10 (2 * n))), rise-never-fall (addressesFrom (bytesAt 10 (2 * n) bs)) u)
+      let xs : List ℕ = addressesFrom (bytesAt 10 (2 * n) bs) in
+      gives-ask _ 12 (leb 10 (length bs)) _ λ h. gives-ask _ 12 (leb (10 + 2 * n) (length bs)) _ λ k. gives-ask _ 14 (strictlyRise xs) _ λ u.
+      let l = leb-true (10 + 2 * n) (length bs) k in (
+        l,
+        lines-from (bs ++ ys) n (numberAt 0 8 bs) xs (longer 10 h) (number-stays 8 2 (omega arith)) (longer (10 + 2 * n) k)
+            (number-stays 0 8 (omega arith)) (ap addressesFrom (bytes-stay 10 (2 * n) l)) u,
+        λ b.
+            ((number-below 0 8 b, addresses-below (bytesAt 10 (2 * n) bs) (bytes-below 10 (2 * n) b)), rise-never-fall xs u),
+      )
 
-  source-sound : Gives SoundRecord (sourceFrom bs)
+  source-read : Gives (ReadWhole sourceFrom) (sourceFrom bs)
   unfolding sourceFrom
-  source-sound =
+  source-read =
       let n : ℕ = numberAt 0 8 bs in
-      gives-ask _ 12 (leb 8 (length bs)) _ λ _. gives-ask _ 12 (leb (8 + n) (length bs)) _ λ _.
-      gives-ask _ 13 (isUtf8 (bytesAt 8 n bs)) _ λ u. text-of (bytesAt 8 n bs) u
+      let text : List ℕ = bytesAt 8 n bs in
+      gives-ask _ 12 (leb 8 (length bs)) _ λ h. gives-ask _ 12 (leb (8 + n) (length bs)) _ λ k. gives-ask _ 13 (isUtf8 text) _ λ u.
+      let l = leb-true (8 + n) (length bs) k in
+      (l, source-from (bs ++ ys) text n (longer 8 h) (number-stays 0 8 (omega arith)) (longer (8 + n) k) (bytes-stay 8 n l) u, λ b. text-of text u)
 
-  relocation-sound : Gives SoundRecord (relocationFrom bs)
+  relocation-read : Gives (ReadWhole relocationFrom) (relocationFrom bs)
   unfolding relocationFrom
-  relocation-sound =
+  relocation-read =
       let n : ℕ = numberAt 2 8 bs in
-      gives-ask _ 12 (leb 10 (length bs)) _ λ _. gives-ask _ 12 (leb (10 + n) (length bs)) _ λ _.
-      gives-ask _ 13 (isUtf8 (bytesAt 10 n bs)) _ λ u. (number-below 0 2, text-of (bytesAt 10 n bs) u)
+      let name : List ℕ = bytesAt 10 n bs in
+      gives-ask _ 12 (leb 10 (length bs)) _ λ h. gives-ask _ 12 (leb (10 + n) (length bs)) _ λ k. gives-ask _ 13 (isUtf8 name) _ λ u.
+      let l = leb-true (10 + n) (length bs) k in (
+        l,
+        relocation-from (bs ++ ys) n (numberAt 0 2 bs) name (longer 10 h) (number-stays 2 8 (omega arith)) (longer (10 + n) k)
+            (number-stays 0 2 (omega arith)) (bytes-stay 10 n l) u,
+        λ b. (number-below 0 2 b, text-of name u),
+      )
 
-  record-sound : (k : ℕ) → Gives SoundRecord (recordAt (k ∷ bs))
+  pub record-read : (k : ℕ) → Gives (ReadWhole (λ xs. recordAt (k ∷ xs))) (recordAt (k ∷ bs))
   unfolding recordAt
-  record-sound k =
-      by-if (Gives SoundRecord) (eqb k 0) _ _ (λ _. block-sound) (λ _. by-if (Gives SoundRecord) (eqb k 1) _ _ (λ _. label-sound) (λ _. by-if (Gives SoundRecord) (eqb k 2) _ _ (λ _. lines-sound)
-      (λ _. by-if (Gives SoundRecord) (eqb k 3) _ _ (λ _. source-sound) (λ _. by-if (Gives SoundRecord) (eqb k 4) _ _ (λ _. relocation-sound) (λ _. tt)))))
+  record-read k = go (eqb k 0) (eqb k 1) (eqb k 2) (eqb k 3) (eqb k 4)
+    where
+      from : Bool → Bool → Bool → Bool → Bool → List ℕ → Outcome (Record × ℕ)
+      from a b c d e xs =
+          if a then blockFrom xs else if b then labelFrom xs else if c then linesFrom xs else if d then sourceFrom xs
+          else if e then relocationFrom xs else refused 11
+
+      go : (a b c d e : Bool) → Gives (ReadWhole (from a b c d e)) (from a b c d e bs)
+      go true b c d e = block-read
+      go false true c d e = label-read
+      go false false true d e = lines-read
+      go false false false true e = source-read
+      go false false false false true = relocation-read
+      go false false false false false = tt
 
 records-sound : (bs : List ℕ) → Bytes bs → Gives (All (Sound NeverFalls)) (binaryRecords bs)
 unfolding binaryRecords
 records-sound bs h =
     gives-ask (All (Sound NeverFalls)) 10 (beginsWith header bs) _ λ _.
     tokens-gives recordAt (Sound NeverFalls) (λ _ xs. Bytes xs) (λ k a xs i. i .1)
-    (λ a xs i. gives-map (SoundRecord xs (i .1)) (λ t. Sound NeverFalls (t .0) × Bytes xs) (λ t s. (s, i .1)) (recordAt (a ∷ xs)) (record-sound xs (i .1) a))
-    0 (drop 7 bs) (all-drop (λ b. b < 2 ^ 8) 7 bs h)
+    (λ a xs i. gives-map (ReadWhole xs [] (λ ys. recordAt (a ∷ ys))) (λ t. Sound NeverFalls (t .0) × Bytes xs) (λ t s. (s .2 (i .1), i .1)) (recordAt (a ∷ xs))
+    (record-read xs [] a))
+    0 (drop 7 bs) (bytes-drop 7 bs h)
 
 binary-whole : (bs : List ℕ) → Bytes bs → Gives Whole (binaryObject bs)
 unfolding binaryObject askAll

@@ -1,17 +1,17 @@
 -- What the readers keep of the object read so far: its parts rise, each record is as its bytes were asked to be, and line blocks have a
 -- source. With the questions after the last record that is a well formed object in range. Assumes nothing.
 use mathlib.Core.Path.{_≡_, refl, sym, _∙_, ap}
-use mathlib.Core.Bool.{Bool, true, false, _&&_, _||_, not}
+use mathlib.Core.Bool.{or-true, true, _&&_, _||_, not}
 use mathlib.Core.List.{List, [], _∷_, _++_, map}
-use mathlib.Core.Option.{Option, none, some}
+use mathlib.Core.Option.{some}
 use Prim.Native.Nat.{ℕ, _≤_, Ordering, Ordering·lt, Ordering·eq, Ordering·gt}
 use lib.ListN.{length}
 use lib.Dec.{leb}
 use borrow.Author.Tests.{le-leb}
-use Rattle.format.specs.Basics.{Outcome, given, _>>=_, if_then_else_, every, isEmpty, isSome, All}
+use Rattle.format.specs.Basics.{Outcome, given, _>>=_, every, isEmpty, isSome, All}
 use Rattle.format.specs.Utf8.{isUtf8}
 use Rattle.format.specs.Sorted.{order, byOrdering, upsert}
-use Rattle.format.specs.ObjectFile.{Block, Label, LineBlock, Relocation, ObjectFile, blockKey, labelKey, lineKey, relocationKey, neverFall, apart, namesOf, sourceText, consistent}
+use Rattle.format.specs.ObjectFile.{LineBlock, ObjectFile, blockKey, labelKey, lineKey, relocationKey, neverFall, apart, namesOf, sourceText, consistent}
 use Rattle.format.specs.Records.{Record, block, label, lineBlock, source, relocation, emptyObject, putRecord, gatherRecords, dropStrayRelocations, withBlocks, withLabels, withLines, withRelocations, Question, askAll, concluded}
 use Rattle.format.specs.Words.{wordsOf, objectOf}
 use Rattle.format.proofs.WordsOnly.{bind-given, given-same}
@@ -21,7 +21,7 @@ use Rattle.format.proofs.ListLaws.{all-map, all-append, all-images, eve
 use Rattle.format.proofs.Utf8Laws.{Text, text-append, text-ascii, text-utf8}
 use Rattle.format.proofs.TextPieces.{text-bytes}
 use Rattle.format.proofs.Outcomes.{by-if, Gives, gives, gives-bind}
-use Rattle.format.proofs.Ranges.{WellFormed, InRange, InBlock, InLine, In16, In64, Bytes}
+use Rattle.format.proofs.Ranges.{WellFormed, InRange, InBlock, InLine, In16, In64}
 
 -- a part of an object: its keys rise, and each element is as its reader left it
 abbrev pub Kept : {A : Type 0} → (A → List ℕ) → (A → Type 0) → List A → Type 0
@@ -80,10 +80,6 @@ module _ (Line : LineBlock → Type 0) where
   pub empty-formed : Formed emptyObject
   unfolding emptyObject isEmpty sourceText
   empty-formed = formed emptyObject (tt, tt) (tt, tt) (tt, tt) (text-ascii [] tt) (tt, tt) refl
-
-  or-true : (t : Bool) → (t || true) ≡ true
-  or-true true = refl
-  or-true false = refl
 
   -- other line blocks, with a source
   pub lines-formed :

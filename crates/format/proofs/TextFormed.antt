@@ -1,25 +1,24 @@
 -- What the text reader gives, for every input, is well formed and in range. Assumes nothing.
 use mathlib.Core.Path.{_≡_, refl, ap}
-use mathlib.Core.Bool.{Bool, true, false, _&&_, not}
+use mathlib.Core.Bool.{Bool, true, false, not}
 use mathlib.Core.List.{List, [], _∷_, _++_, map, flatMap}
 use mathlib.Core.Option.{Option, none, some, Option·getD}
-use Prim.Native.Nat.{ℕ, zero, suc, _+_, _-_, _^_, _≤_, _<_}
+use Prim.Native.Nat.{ℕ, suc, _+_, _-_, _^_, _≤_, _<_, Ordering·lt}
 use native.Mathlib.Omega.{arith}
 use lib.ListN.{length, length-append, take, length-take, length-map}
 use lib.Dec.{leb, ltb, eqb, isEq}
 use borrow.Author.Tests.{ltb-true, le-leb, eqb-true}
-use Rattle.format.specs.Basics.{Outcome, refused, given, _>>=_, ask, need, andThen, isSome, isEmpty, if_then_else_, chain, every, ascii, eqs, beginsWith, allSome, All}
+use Rattle.format.specs.Basics.{Outcome, given, _>>=_, isSome, isEmpty, chain, every, ascii, eqs, beginsWith, allSome, All}
 use Rattle.format.specs.Tokens.{Parts, partsAt, foldOutcome}
-use Rattle.format.specs.Sorted.{order, rises, atKey}
+use Rattle.format.specs.Sorted.{order, atKey}
 use Rattle.format.specs.Utf8.{isUtf8, trim}
 use Rattle.format.specs.ObjectFile.{Label, ObjectFile, LineBlock, blockKey, labelKey, lineKey, lineEnd, neverFall, apart}
-use Rattle.format.specs.Records.{Record, block, label, relocation, putRecord, emptyObject, withLines, labelNamed, textQuestions, askAll, concluded}
-use Rattle.format.specs.TextReader.{belowLimit, digitsFrom, withoutPlus, parseNumber, hex2u16, parseDecimal, maybeHex2u16, splitn, cellAt, sameCells, rowsUnder, blockAt, parseTextGroup, parseSymbolRow, parseSymbolGroup, parseLinkerRow, parseLinkerGroup, parseLabelRow, parseLabelTable, parseLineRows, runsFrom, unescape, parseLineTable, isBar, Split, inFront, splitAtBar, upToBar, parseDebugGroup, parseGroup, keptLines, afterMagic, textObject}
+use Rattle.format.specs.Records.{block, label, relocation, putRecord, emptyObject, labelNamed, textQuestions, askAll}
+use Rattle.format.specs.TextReader.{belowLimit, digitsFrom, withoutPlus, parseNumber, hex2u16, parseDecimal, maybeHex2u16, splitn, cellAt, sameCells, rowsUnder, blockAt, parseTextGroup, parseSymbolRow, parseSymbolGroup, parseLinkerRow, parseLinkerGroup, parseLabelRow, parseLabelTable, parseLineRows, runsFrom, unescape, parseLineTable, isBar, Split, splitAtBar, upToBar, parseDebugGroup, parseGroup, keptLines, afterMagic, textObject}
 use Rattle.format.specs.Words.{objectOf}
 use Rattle.format.specs.Calls.{readText}
 use Rattle.format.proofs.ListLaws.{all-map, all-append, all-images}
-use Rattle.format.proofs.SortedLaws.{Rises, compare-of-lt}
-use Rattle.format.proofs.RisesLaws.{rises-type}
+use Rattle.format.proofs.SortedLaws.{Rises, compare-of-lt, above-trans}
 use Rattle.format.proofs.Utf8Laws.{Text, text-of, text-append, text-ascii}
 use Rattle.format.proofs.Ranges.{WellFormed, InRange, InLine, In16, In64, Word16}
 use Rattle.format.proofs.Outcomes.{by-if, by-option, Gives, Holds, gives, gives-bind, gives-need, gives-ask, holds-then, scan-gives, fold-gives}
@@ -75,29 +74,20 @@ runs-from p i [] (none ∷ rows) e n h w = from-earlier p (suc i) (runsFrom (suc
 runs-from p i (a ∷ run) (none ∷ rows) e n h w =
     (omega arith, omega arith, (omega arith, h), from-earlier (i - length (a ∷ run) + length (a ∷ run)) (suc i) (runsFrom (suc i) [] rows) (omega arith) (runs-from (suc i) (suc i) [] rows (omega arith) (omega arith) tt (w .1)))
 
-from-rises : (p : ℕ) (ls : List LineBlock) → From p ls → rises lineKey ls ≡ true
-unfolding rises chain order
-from-rises p [] f = refl
-from-rises p (l ∷ []) f = refl
-from-rises p (l ∷ m ∷ ls) f = rw (compare-of-lt (l .first) (m .first) (omega (arith, f .1, f .3 .0)), from-rises (lineEnd l) (m ∷ ls) (f .3))
+abbrev Stand : List LineBlock → Type 0
+Stand ls = Rises lineKey ls × All InLine ls × (apart ls ≡ true)
 
-from-apart : (p : ℕ) (ls : List LineBlock) → From p ls → apart ls ≡ true
-unfolding apart chain
-from-apart p [] f = refl
-from-apart p (l ∷ []) f = refl
-from-apart p (l ∷ m ∷ ls) f = rw (le-leb (lineEnd l) (m .first) (f .3 .0), from-apart (lineEnd l) (m ∷ ls) (f .3))
+from-stand : (p : ℕ) (ls : List LineBlock) → From p ls → Stand ls
+unfolding apart chain order
+from-stand p [] f = (tt, tt, refl)
+from-stand p (l ∷ []) f = ((tt, tt), (f .2, tt), refl)
+from-stand p (l ∷ m ∷ ls) f =
+    let i = from-stand (lineEnd l) (m ∷ ls) (f .3) in
+    let o : order (lineKey l) (lineKey m) ≡ Ordering·lt = rw (compare-of-lt (l .first) (m .first) (omega (arith, f .1, f .3 .0))) in
+    (((o, above-trans lineKey (lineKey l) (lineKey m) ls o (i .0 .0)), i .0), (f .2, i .1), rw (le-leb (lineEnd l) (m .first) (f .3 .0), i .2))
 
-from-range : (p : ℕ) (ls : List LineBlock) → From p ls → All InLine ls
-from-range p [] f = tt
-from-range p (l ∷ ls) f = (f .2, from-range (lineEnd l) ls (f .3))
-
-runs-formed :
-    (rows : List (Option ℕ)) → length rows ≤ 2 ^ 64 → All Word16 rows
-    → Rises lineKey (runsFrom 0 [] rows) × All InLine (runsFrom 0 [] rows) × (apart (runsFrom 0 [] rows) ≡ true)
-runs-formed rows n w =
-    let ls : List LineBlock = runsFrom 0 [] rows in
-    let f : From 0 ls = runs-from 0 0 [] rows refl (omega arith) tt w in
-    (rises-type lineKey ls (from-rises 0 ls f), from-range 0 ls f, from-apart 0 ls f)
+runs-stand : (rows : List (Option ℕ)) → length rows ≤ 2 ^ 64 → All Word16 rows → Stand (runsFrom 0 [] rows)
+runs-stand rows n w = from-stand 0 (runsFrom 0 [] rows) (runs-from 0 0 [] rows refl (omega arith) tt w)
 
 -- WHAT THE GROUPS KEEP
 
@@ -211,7 +201,7 @@ lines-kept h ls k x =
     (λ _. gives-ask _ 29 (not (isSome (h .source))) _ λ _.
     gives-bind _ Text (unescape (flatMap (λ r. r .1) parsed)) _ (unescape-text (flatMap (λ r. r .1) parsed) (text-flatMap (λ r. r .1) parsed (all-map (λ r q. q .1) parsed (r .0)))) λ s t.
     let os : List (Option ℕ) = map (λ r. r .0) parsed in
-    let f = runs-formed os (omega (arith, r .1, length-map parsed (λ r. r .0))) (all-images Word16 (λ r. r .0) parsed (all-map (λ r q. q .0) parsed (r .0))) in
+    let f = runs-stand os (omega (arith, r .1, length-map parsed (λ r. r .0))) (all-images Word16 (λ r. r .0) parsed (all-map (λ r q. q .0) parsed (r .0))) in
     (lines-formed Any h (runsFrom 0 [] os) s (k .0) (f .0, all-map (λ l q. (q, tt)) (runsFrom 0 [] os) (f .1)) t, f .2))
 
 -- .DEBUG: its lines before the first bar, and those between the bars

@@ -1,24 +1,24 @@
 -- The pieces of a UTF-8 text are UTF-8: cut where a character begins, past ASCII bytes, trimmed, its lines, its cells, and what it
 -- unescapes to. Assumes nothing.
 use mathlib.Core.Path.{_≡_, refl, sym, _∙_, ap, subst}
-use mathlib.Core.Bool.{Bool, true, false, _&&_}
-use mathlib.Core.List.{List, [], _∷_, _++_, append-assoc, append-nil, flatMap}
+use mathlib.Core.Bool.{Bool, true, _&&_}
+use mathlib.Core.List.{List, [], _∷_, _++_, append-nil, flatMap}
 use mathlib.Core.Option.{Option, none, some}
 use Prim.Native.Nat.{ℕ, zero, suc, _+_, _-_, _/_, _%_, _^_, _≤_, _<_}
 use native.Mathlib.Omega.{arith}
 use lib.ListN.{length, take, drop, getD, length-append, take-append-drop}
 use lib.Seq.{append-snoc, drop-drop}
-use lib.Dec.{ltb, leb, eqb}
-use borrow.Author.Tests.{ltb-true, lt-ltb, leb-true, eqb-true}
-use Rattle.format.specs.Basics.{Outcome, given, _>>=_, ask, if_then_else_, andThen, isSome, isEmpty, ascii, keep, beginsWith, All}
+use lib.Dec.{ltb, eqb}
+use borrow.Author.Tests.{ltb-true, lt-ltb, eqb-true}
+use Rattle.format.specs.Basics.{Outcome, given, _>>=_, if_then_else_, andThen, isSome, isEmpty, ascii, keep, beginsWith, All}
 use Rattle.format.specs.Tokens.{tokens}
 use Rattle.format.specs.Utf8.{isBetween, isScalar, encodeScalar, charAt, scalars, isUtf8, isWhiteSpace, whiteSpaceLength, passOver, trimFrom, trimStart, isBlank, trimEnd, trim}
-use Rattle.format.specs.TextReader.{onFirst, lines, keptLines, splitOnce, firstCell, splitn, cellAt, digitValue, digitsFrom, hexDigits, scalarOf, unicodeEscape, afterBackslash, unescapeAt, unescape}
-use Rattle.format.proofs.ListLaws.{both, by-test, all-map}
+use Rattle.format.specs.TextReader.{onFirst, lines, keptLines, splitOnce, firstCell, splitn, cellAt, digitsFrom, hexDigits, scalarOf, unicodeEscape, afterBackslash, unescapeAt, unescape}
+use Rattle.format.proofs.ListLaws.{both, all-map}
 use Rattle.format.proofs.ListFacts.{all-flatMap}
 use Rattle.format.proofs.Outcomes.{by-if, by-option, Gives, Holds, gives-bind, gives-ask, holds-then}
 use Rattle.format.proofs.Ranges.{Bytes}
-use Rattle.format.proofs.Utf8Laws.{Scalar, Text, scalar-bound, char-middle, char-one, char-reads, scalars-char, text-of, text-utf8, text-append, text-ascii}
+use Rattle.format.proofs.Utf8Laws.{Scalar, Text, scalar-bound, char-middle, char-reads, scalars-char, text-of, text-utf8, text-append, text-ascii}
 
 -- a byte 10xxxxxx
 abbrev Follower : ℕ → Type 0
