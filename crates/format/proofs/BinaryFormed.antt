@@ -37,15 +37,18 @@ value-below k zero ds h = rw pow-zero (omega arith)
 value-below k (suc n) [] h =
     let l = digit-below 0 (valueOf k (take n [])) (2 ^ k) ((2 ^ k) ^ n) (pow-pos k) (value-below k n [] tt) in
     rw pow-suc (omega arith)
-value-below k (suc n) (d ∷ ds) h = rw pow-suc (digit-below d (valueOf k (take n ds)) (2 ^ k) ((2 ^ k) ^ n) (h .0) (value-below k n ds (h .1)))
+value-below k (suc n) (d ∷ ds) h =
+    rw pow-suc (digit-below d (valueOf k (take n ds)) (2 ^ k) ((2 ^ k) ^ n) (h .0) (value-below k n ds (h .1)))
 
 memories-below : (bs : List ℕ) → Bytes bs → All Word16 (memoriesFrom bs)
 unfolding memoriesFrom
 memories-below [] h = tt
 memories-below (f ∷ []) h = tt
 memories-below (f ∷ a ∷ []) h = tt
-memories-below (f ∷ a ∷ b ∷ bs) h =
-    (by-if Word16 (eqb f 0xFF) _ _ (λ _. value-below 8 2 (a ∷ b ∷ []) (h .1 .0, (h .1 .1 .0, tt))) (λ _. tt), memories-below bs (h .1 .1 .1))
+memories-below (f ∷ a ∷ b ∷ bs) h = (
+  by-if Word16 (eqb f 0xFF) _ _ (λ _. value-below 8 2 (a ∷ b ∷ []) (h .1 .0, (h .1 .1 .0, tt))) (λ _. tt),
+  memories-below bs (h .1 .1 .1),
+)
 
 memories-length : (bs : List ℕ) → 3 * length (memoriesFrom bs) ≤ length bs
 unfolding memoriesFrom
@@ -136,7 +139,8 @@ module _ (bs ys : List ℕ) where
   lines-read =
       let n : ℕ = numberAt 8 2 bs in
       let xs : List ℕ = addressesFrom (bytesAt 10 (2 * n) bs) in
-      gives-ask _ 12 (leb 10 (length bs)) _ λ h. gives-ask _ 12 (leb (10 + 2 * n) (length bs)) _ λ k. gives-ask _ 14 (strictlyRise xs) _ λ u.
+      gives-ask _ 12 (leb 10 (length bs)) _ λ h. gives-ask _ 12 (leb (10 + 2 * n) (length bs)) _ λ k.
+      gives-ask _ 14 (strictlyRise xs) _ λ u.
       let l = leb-true (10 + 2 * n) (length bs) k in (
         l,
         lines-from (bs ++ ys) n (numberAt 0 8 bs) xs (longer 10 h) (number-stays 8 2 (omega arith)) (longer (10 + 2 * n) k)
@@ -151,8 +155,11 @@ module _ (bs ys : List ℕ) where
       let n : ℕ = numberAt 0 8 bs in
       let text : List ℕ = bytesAt 8 n bs in
       gives-ask _ 12 (leb 8 (length bs)) _ λ h. gives-ask _ 12 (leb (8 + n) (length bs)) _ λ k. gives-ask _ 13 (isUtf8 text) _ λ u.
-      let l = leb-true (8 + n) (length bs) k in
-      (l, source-from (bs ++ ys) text n (longer 8 h) (number-stays 0 8 (omega arith)) (longer (8 + n) k) (bytes-stay 8 n l) u, λ b. text-of text u)
+      let l = leb-true (8 + n) (length bs) k in (
+        l,
+        source-from (bs ++ ys) text n (longer 8 h) (number-stays 0 8 (omega arith)) (longer (8 + n) k) (bytes-stay 8 n l) u,
+        λ b. text-of text u,
+      )
 
   relocation-read : Gives (ReadWhole relocationFrom) (relocationFrom bs)
   unfolding relocationFrom
@@ -189,7 +196,8 @@ unfolding binaryRecords
 records-sound bs h =
     gives-ask (All (Sound NeverFalls)) 10 (beginsWith header bs) _ λ _.
     tokens-gives recordAt (Sound NeverFalls) (λ _ xs. Bytes xs) (λ k a xs i. i .1)
-    (λ a xs i. gives-map (ReadWhole xs [] (λ ys. recordAt (a ∷ ys))) (λ t. Sound NeverFalls (t .0) × Bytes xs) (λ t s. (s .2 (i .1), i .1)) (recordAt (a ∷ xs))
+    (λ a xs i. gives-map (ReadWhole xs [] (λ ys. recordAt (a ∷ ys))) (λ t. Sound NeverFalls (t .0) × Bytes xs) (λ t s. (s .2 (i .1), i .1))
+    (recordAt (a ∷ xs))
     (record-read xs [] a))
     0 (drop 7 bs) (bytes-drop 7 bs h)
 

@@ -30,25 +30,32 @@ module _ {A B : Type 0} (one : List A → Outcome (B × ℕ)) where
   tokens-local l (suc k) (x ∷ xs) ys h = tokens-local l k xs ys (omega arith)
   tokens-local l zero (x ∷ xs) ys h =
       gives-bind _ (λ t. (t .1 ≤ length xs) × (one (x ∷ (xs ++ ys)) ≡ given t)) (one (x ∷ xs)) _ (l x xs ys) λ t p.
-      gives-bind _ (λ ts. tokens one (t .1) (xs ++ ys) ≡ (tokens one 0 ys >>= λ us. given (ts ++ us))) (tokens one (t .1) xs) _ (tokens-local l (t .1) xs ys (p .0)) λ ts q.
+      gives-bind _ (λ ts. tokens one (t .1) (xs ++ ys) ≡ (tokens one 0 ys >>= λ us. given (ts ++ us))) (tokens one (t .1) xs) _
+      (tokens-local l (t .1) xs ys (p .0)) λ ts q.
       rw (p .1, q) (twice (t .0) ts (tokens one 0 ys))
     where
-      twice : (b : B) (ts : List B) (o : Outcome (List B)) → ((o >>= λ us. given (ts ++ us)) >>= λ vs. given (b ∷ vs)) ≡ (o >>= λ us. given (b ∷ (ts ++ us)))
+      twice :
+          (b : B) (ts : List B) (o : Outcome (List B))
+          → ((o >>= λ us. given (ts ++ us)) >>= λ vs. given (b ∷ vs)) ≡ (o >>= λ us. given (b ∷ (ts ++ us)))
       twice b ts (refused n) = refl
       twice b ts (given us) = refl
 
   pub tokens-append :
-      Local → (xs ys : List A) (ts : List B) → tokens one 0 xs ≡ given ts → tokens one 0 (xs ++ ys) ≡ (tokens one 0 ys >>= λ us. given (ts ++ us))
+      Local → (xs ys : List A) (ts : List B) → tokens one 0 xs ≡ given ts
+      → tokens one 0 (xs ++ ys) ≡ (tokens one 0 ys >>= λ us. given (ts ++ us))
   tokens-append l xs ys ts e =
-      gives (λ ts. tokens one 0 (xs ++ ys) ≡ (tokens one 0 ys >>= λ us. given (ts ++ us))) (tokens one 0 xs) ts (tokens-local l 0 xs ys (omega arith)) e
+      gives (λ ts. tokens one 0 (xs ++ ys) ≡ (tokens one 0 ys >>= λ us. given (ts ++ us))) (tokens one 0 xs) ts
+      (tokens-local l 0 xs ys (omega arith)) e
 
 -- the binary form's records are such tokens
 records-local : Local recordAt
 records-local k bs ys =
-    gives-map (ReadWhole bs ys (λ xs. recordAt (k ∷ xs))) (λ t. (t .1 ≤ length bs) × (recordAt (k ∷ (bs ++ ys)) ≡ given t)) (λ t s. (s .0, s .1))
+    gives-map (ReadWhole bs ys (λ xs. recordAt (k ∷ xs))) (λ t. (t .1 ≤ length bs) × (recordAt (k ∷ (bs ++ ys)) ≡ given t))
+    (λ t s. (s .0, s .1))
     (recordAt (k ∷ bs)) (record-read bs ys k)
 
 -- the records of a concatenation are those of its parts, where the first part is made of whole records
 pub records-append :
-    (xs ys : List ℕ) (rs : List Record) → tokens recordAt 0 xs ≡ given rs → tokens recordAt 0 (xs ++ ys) ≡ (tokens recordAt 0 ys >>= λ us. given (rs ++ us))
+    (xs ys : List ℕ) (rs : List Record) → tokens recordAt 0 xs ≡ given rs
+    → tokens recordAt 0 (xs ++ ys) ≡ (tokens recordAt 0 ys >>= λ us. given (rs ++ us))
 records-append xs ys rs e = tokens-append recordAt records-local xs ys rs e

@@ -44,7 +44,9 @@ abbrev pub Whole : ObjectFile → Type 0
 Whole h = WellFormed h × InRange h
 
 -- the words of what is well formed and in range are well formed
-pub words-formed : (o : Outcome ObjectFile) (ws : List ℕ) → Gives Whole o → (o >>= λ h. given (wordsOf h)) ≡ given ws → (h : ObjectFile) × (objectOf ws ≡ given h)
+pub words-formed :
+    (o : Outcome ObjectFile) (ws : List ℕ) → Gives Whole o → (o >>= λ h. given (wordsOf h)) ≡ given ws
+    → (h : ObjectFile) × (objectOf ws ≡ given h)
 words-formed o ws g e =
     let p = bind-given o (λ h. given (wordsOf h)) ws e in
     let w = gives Whole o (p .0) g (p .1) in
@@ -83,7 +85,8 @@ module _ (Line : LineBlock → Type 0) where
 
   -- other line blocks, with a source
   pub lines-formed :
-      (h : ObjectFile) (ls : List LineBlock) (s : List ℕ) → Formed h → Kept lineKey (λ l. Sound (lineBlock l)) ls → Text s → Formed (withLines h ls (some s))
+      (h : ObjectFile) (ls : List LineBlock) (s : List ℕ) → Formed h → Kept lineKey (λ l. Sound (lineBlock l)) ls → Text s
+      → Formed (withLines h ls (some s))
   unfolding sourceText isSome
   lines-formed h ls s f k x = formed (withLines h ls (some s)) (f .blocks) (f .labels) k x (f .relocations) (or-true (isEmpty ls))
 
@@ -115,13 +118,15 @@ module _ (Line : LineBlock → Type 0) where
   unfolding consistent namesOf
   formed-whole h f k =
       let counts =
-      every-all (λ b. leb (length (b .words)) 65535) (h .blocks) (all-map (λ b s. le-leb (length (b .words)) 65535 (s .1)) (h .blocks) (f .blocks .1)) in
+      every-all (λ b. leb (length (b .words)) 65535) (h .blocks)
+      (all-map (λ b s. le-leb (length (b .words)) 65535 (s .1)) (h .blocks) (f .blocks .1)) in
       let named = all-map (λ l s. text-utf8 (l .name) (s .2)) (h .labels) (f .labels .1) in
       let moved = all-map (λ r s. text-utf8 (r .name) (s .1)) (h .relocations) (f .relocations .1) in
       let names =
       every-all isUtf8 (map (λ l. l .name) (h .labels) ++ map (λ r. r .name) (h .relocations))
       (all-append (λ t. isUtf8 t ≡ true) (map (λ l. l .name) (h .labels)) (map (λ r. r .name) (h .relocations))
-      (all-images (λ t. isUtf8 t ≡ true) (λ l. l .name) (h .labels) named) (all-images (λ t. isUtf8 t ≡ true) (λ r. r .name) (h .relocations) moved)) in (
+      (all-images (λ t. isUtf8 t ≡ true) (λ l. l .name) (h .labels) named)
+      (all-images (λ t. isUtf8 t ≡ true) (λ r. r .name) (h .relocations) moved)) in (
         record {
           blocks = f .blocks .0;
           labels = f .labels .0;
@@ -140,10 +145,12 @@ module _ (Line : LineBlock → Type 0) where
 
   -- what a reader hands on, where its last questions and what it kept of the line blocks settle these two
   pub concluded-formed :
-      (qs : List Question) (h : ObjectFile) → Formed h → Gives (λ _. LinesStand (h .lineBlocks)) (askAll qs h) → Gives Whole (concluded qs h)
+      (qs : List Question) (h : ObjectFile) → Formed h → Gives (λ _. LinesStand (h .lineBlocks)) (askAll qs h)
+      → Gives Whole (concluded qs h)
   unfolding concluded dropStrayRelocations
   concluded-formed qs h f q =
       gives-bind _ (λ _. LinesStand (h .lineBlocks)) (askAll qs h) _ q λ _ k.
       by-if Whole (isEmpty (h .labels) && not (isSome (h .source))) _ _
-      (λ _. formed-whole (withRelocations h []) (formed (withRelocations h []) (f .blocks) (f .labels) (f .lineBlocks) (f .source) (tt, tt) (f .sourced)) k)
+      (λ _. formed-whole (withRelocations h [])
+      (formed (withRelocations h []) (f .blocks) (f .labels) (f .lineBlocks) (f .source) (tt, tt) (f .sourced)) k)
       (λ _. formed-whole h f k)

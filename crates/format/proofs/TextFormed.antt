@@ -33,7 +33,8 @@ limit-below limit (some n) = by-if (Holds (λ n. n < limit)) (ltb n limit) _ _ (
 
 number-below : (base limit : ℕ) (bs : List ℕ) → Holds (λ n. n < limit) (parseNumber base limit bs)
 unfolding parseNumber
-number-below base limit bs = by-if (Holds (λ n. n < limit)) (isEmpty (withoutPlus bs)) _ _ (λ _. tt) (λ _. limit-below limit (digitsFrom base 0 (withoutPlus bs)))
+number-below base limit bs =
+    by-if (Holds (λ n. n < limit)) (isEmpty (withoutPlus bs)) _ _ (λ _. tt) (λ _. limit-below limit (digitsFrom base 0 (withoutPlus bs)))
 
 hex-below : (bs : List ℕ) → Holds In16 (hex2u16 bs)
 unfolding hex2u16
@@ -43,7 +44,9 @@ word-below : (bs : List ℕ) → Holds Word16 (maybeHex2u16 bs)
 unfolding maybeHex2u16
 word-below bs = by-if (Holds Word16) (eqs bs (ascii "????")) _ _ (λ _. tt) (λ _. holds-then _ In16 (hex2u16 bs) _ (hex-below bs) λ v h. h)
 
-all-hold : {A B : Type 0} (P : B → Type 0) (f : A → Option B) → ((a : A) → Holds P (f a)) → (xs : List A) → Holds (λ ys. All P ys × (length ys ≡ length xs)) (allSome f xs)
+all-hold :
+    {A B : Type 0} (P : B → Type 0) (f : A → Option B) → ((a : A) → Holds P (f a)) → (xs : List A)
+    → Holds (λ ys. All P ys × (length ys ≡ length xs)) (allSome f xs)
 unfolding allSome
 all-hold P f h [] = (tt, refl)
 all-hold P f h (x ∷ xs) =
@@ -69,10 +72,18 @@ runs-from :
 unfolding runsFrom
 runs-from p i run [] e n h w = tt
 runs-from p i run (some a ∷ rows) e n h w =
-    runs-from p (suc i) (run ++ a ∷ []) rows (omega (arith, length-append run (a ∷ []))) (omega arith) (all-append In16 run (a ∷ []) h (w .0, tt)) (w .1)
-runs-from p i [] (none ∷ rows) e n h w = from-earlier p (suc i) (runsFrom (suc i) [] rows) (omega arith) (runs-from (suc i) (suc i) [] rows (omega arith) (omega arith) tt (w .1))
-runs-from p i (a ∷ run) (none ∷ rows) e n h w =
-    (omega arith, omega arith, (omega arith, h), from-earlier (i - length (a ∷ run) + length (a ∷ run)) (suc i) (runsFrom (suc i) [] rows) (omega arith) (runs-from (suc i) (suc i) [] rows (omega arith) (omega arith) tt (w .1)))
+    runs-from p (suc i) (run ++ a ∷ []) rows (omega (arith, length-append run (a ∷ []))) (omega arith)
+    (all-append In16 run (a ∷ []) h (w .0, tt)) (w .1)
+runs-from p i [] (none ∷ rows) e n h w =
+    from-earlier p (suc i) (runsFrom (suc i) [] rows) (omega arith)
+    (runs-from (suc i) (suc i) [] rows (omega arith) (omega arith) tt (w .1))
+runs-from p i (a ∷ run) (none ∷ rows) e n h w = (
+  omega arith,
+  omega arith,
+  (omega arith, h),
+  from-earlier (i - length (a ∷ run) + length (a ∷ run)) (suc i) (runsFrom (suc i) [] rows) (omega arith)
+      (runs-from (suc i) (suc i) [] rows (omega arith) (omega arith) tt (w .1)),
+)
 
 abbrev Stand : List LineBlock → Type 0
 Stand ls = Rises lineKey ls × All InLine ls × (apart ls ≡ true)
@@ -83,8 +94,11 @@ from-stand p [] f = (tt, tt, refl)
 from-stand p (l ∷ []) f = ((tt, tt), (f .2, tt), refl)
 from-stand p (l ∷ m ∷ ls) f =
     let i = from-stand (lineEnd l) (m ∷ ls) (f .3) in
-    let o : order (lineKey l) (lineKey m) ≡ Ordering·lt = rw (compare-of-lt (l .first) (m .first) (omega (arith, f .1, f .3 .0))) in
-    (((o, above-trans lineKey (lineKey l) (lineKey m) ls o (i .0 .0)), i .0), (f .2, i .1), rw (le-leb (lineEnd l) (m .first) (f .3 .0), i .2))
+    let o : order (lineKey l) (lineKey m) ≡ Ordering·lt = rw (compare-of-lt (l .first) (m .first) (omega (arith, f .1, f .3 .0))) in (
+      ((o, above-trans lineKey (lineKey l) (lineKey m) ls o (i .0 .0)), i .0),
+      (f .2, i .1),
+      rw (le-leb (lineEnd l) (m .first) (f .3 .0), i .2),
+    )
 
 runs-stand : (rows : List (Option ℕ)) → length rows ≤ 2 ^ 64 → All Word16 rows → Stand (runsFrom 0 [] rows)
 runs-stand rows n w = from-stand 0 (runsFrom 0 [] rows) (runs-from 0 0 [] rows refl (omega arith) tt w)
@@ -116,7 +130,8 @@ unfolding atKey
 atKey-all key P k [] h = tt
 atKey-all key P k (a ∷ xs) h = by-if (Holds P) (isEq (order k (key a))) _ _ (λ _. h .0) (λ _. atKey-all key P k xs (h .1))
 
-named-below : (n : List ℕ) (ls : List Label) → All (λ l. Sound Any (label l)) ls → In16 (labelNamed n ls .address) × In64 (labelNamed n ls .start)
+named-below :
+    (n : List ℕ) (ls : List Label) → All (λ l. Sound Any (label l)) ls → In16 (labelNamed n ls .address) × In64 (labelNamed n ls .start)
 unfolding labelNamed
 named-below n ls h =
     let none-named : Label = record { name = n; address = 0; external = false; start = 0 } in
@@ -129,8 +144,10 @@ module _ (h : ObjectFile) (l : List ℕ) (k : TextKept h) (x : Text l) where
   symbol-kept =
       let name : List ℕ = trim (cellAt 2 (splitn 2 l)) in
       gives-need _ In16 26 (hex2u16 (trim (cellAt 0 (splitn 2 l)))) _ (hex-below (trim (cellAt 0 (splitn 2 l)))) λ a p.
-      gives-need _ (λ n. n < 2 ^ 8) 26 (parseDecimal (2 ^ 8) (trim (cellAt 1 (splitn 2 l)))) _ (number-below 10 (2 ^ 8) (trim (cellAt 1 (splitn 2 l)))) λ e _. (
-        put-formed Any h (label (record { name = name; address = a; external = not (eqb e 0); start = labelNamed name (h .labels) .start })) (k .0)
+      gives-need _ (λ n. n < 2 ^ 8) 26 (parseDecimal (2 ^ 8) (trim (cellAt 1 (splitn 2 l)))) _
+      (number-below 10 (2 ^ 8) (trim (cellAt 1 (splitn 2 l)))) λ e _. (
+        put-formed Any h (label
+            (record { name = name; address = a; external = not (eqb e 0); start = labelNamed name (h .labels) .start })) (k .0)
             (p, named-below name (h .labels) (k .0 .labels .1) .1, trim-text (cellAt 2 (splitn 2 l)) (cell-text 2 2 l x)),
         k .1,
       )
@@ -149,7 +166,8 @@ module _ (h : ObjectFile) (l : List ℕ) (k : TextKept h) (x : Text l) where
   label-kept =
       let name : List ℕ = trim (cellAt 0 (splitn 1 l)) in
       let old : Label = labelNamed name (h .labels) in
-      gives-need _ In64 26 (parseDecimal (2 ^ 64) (trim (cellAt 1 (splitn 1 l)))) _ (number-below 10 (2 ^ 64) (trim (cellAt 1 (splitn 1 l)))) λ i p. (
+      gives-need _ In64 26 (parseDecimal (2 ^ 64) (trim (cellAt 1 (splitn 1 l)))) _
+      (number-below 10 (2 ^ 64) (trim (cellAt 1 (splitn 1 l)))) λ i p. (
         put-formed Any h (label (record { name = name; address = old .address; external = old .external; start = i })) (k .0)
             (named-below name (h .labels) (k .0 .labels .1) .0, p, trim-text (cellAt 0 (splitn 1 l)) (cell-text 1 0 l x)),
         k .1,
@@ -166,7 +184,8 @@ table-kept :
     (one : ObjectFile → List ℕ → Outcome ObjectFile) → ((h : ObjectFile) (l : List ℕ) → TextKept h → Text l → Gives TextKept (one h l))
     → (columns : List (List ℕ)) (h : ObjectFile) (ls : List (List ℕ)) → TextKept h → All Text ls
     → Gives TextKept (rowsUnder 26 columns ls >>= λ rows. foldOutcome one h rows)
-table-kept one step columns h ls k x = gives-bind _ (All Text) (rowsUnder 26 columns ls) _ (rows-all 26 columns ls x) λ rows y. fold-gives one TextKept Text step h rows k y
+table-kept one step columns h ls k x =
+    gives-bind _ (All Text) (rowsUnder 26 columns ls) _ (rows-all 26 columns ls x) λ rows y. fold-gives one TextKept Text step h rows k y
 
 -- the line table
 abbrev InRow : Option ℕ × List ℕ → Type 0
@@ -179,7 +198,8 @@ line-rows : (i : ℕ) (ls : List (List ℕ)) → i ≤ 2 ^ 64 → All Text ls �
 unfolding parseLineRows
 line-rows i [] n x = (tt, omega arith)
 line-rows i (l ∷ ls) n x =
-    gives-need _ In64 28 (parseDecimal (2 ^ 64) (trim (cellAt 0 (splitn 2 l)))) _ (number-below 10 (2 ^ 64) (trim (cellAt 0 (splitn 2 l)))) λ m p.
+    gives-need _ In64 28 (parseDecimal (2 ^ 64) (trim (cellAt 0 (splitn 2 l)))) _
+    (number-below 10 (2 ^ 64) (trim (cellAt 0 (splitn 2 l)))) λ m p.
     gives-ask _ 28 (eqb m i) _ λ e.
     gives-need _ Word16 28 (maybeHex2u16 (trim (cellAt 1 (splitn 2 l)))) _ (word-below (trim (cellAt 1 (splitn 2 l)))) λ a w.
     let q : m ≡ i = eqb-true m i e in
@@ -199,9 +219,11 @@ lines-kept h ls k x =
     gives-bind _ (InRows 0) (parseLineRows 0 rows) _ (line-rows 0 rows (omega arith) y) λ parsed r.
     by-if (Gives TextKept) (isEmpty parsed) _ _ (λ _. k)
     (λ _. gives-ask _ 29 (not (isSome (h .source))) _ λ _.
-    gives-bind _ Text (unescape (flatMap (λ r. r .1) parsed)) _ (unescape-text (flatMap (λ r. r .1) parsed) (text-flatMap (λ r. r .1) parsed (all-map (λ r q. q .1) parsed (r .0)))) λ s t.
+    gives-bind _ Text (unescape (flatMap (λ r. r .1) parsed)) _
+    (unescape-text (flatMap (λ r. r .1) parsed) (text-flatMap (λ r. r .1) parsed (all-map (λ r q. q .1) parsed (r .0)))) λ s t.
     let os : List (Option ℕ) = map (λ r. r .0) parsed in
-    let f = runs-stand os (omega (arith, r .1, length-map parsed (λ r. r .0))) (all-images Word16 (λ r. r .0) parsed (all-map (λ r q. q .0) parsed (r .0))) in
+    let f = runs-stand os (omega (arith, r .1, length-map parsed (λ r. r .0)))
+    (all-images Word16 (λ r. r .0) parsed (all-map (λ r q. q .0) parsed (r .0))) in
     (lines-formed Any h (runsFrom 0 [] os) s (k .0) (f .0, all-map (λ l q. (q, tt)) (runsFrom 0 [] os) (f .1)) t, f .2))
 
 -- .DEBUG: its lines before the first bar, and those between the bars
@@ -220,12 +242,15 @@ module _ (P : List ℕ → Type 0) where
   up-to-all (l ∷ m ∷ ls) h = holds-then _ (All P) (upToBar (m ∷ ls)) _ (up-to-all (m ∷ ls) (h .1)) λ ks i. (h .0, i)
 
   -- groups: the lines after each head
-  groups-all : (isHead : List ℕ → Bool) (ls : List (List ℕ)) → All P ls → All P (partsAt isHead ls .before) × All (λ g. All P (g .1)) (partsAt isHead ls .groups)
+  groups-all :
+      (isHead : List ℕ → Bool) (ls : List (List ℕ)) → All P ls
+      → All P (partsAt isHead ls .before) × All (λ g. All P (g .1)) (partsAt isHead ls .groups)
   unfolding partsAt
   groups-all isHead [] h = (tt, tt)
   groups-all isHead (l ∷ ls) h =
       let i = groups-all isHead ls (h .1) in
-      by-if (λ (p : Parts (List ℕ)). All P (p .before) × All (λ g. All P (g .1)) (p .groups)) (isHead l) _ _ (λ _. (tt, (i .0, i .1))) (λ _. ((h .0, i .0), i .1))
+      by-if (λ (p : Parts (List ℕ)). All P (p .before) × All (λ g. All P (g .1)) (p .groups)) (isHead l) _ _ (λ _. (tt, (i .0, i .1)))
+      (λ _. ((h .0, i .0), i .1))
 
 debug-kept : (h : ObjectFile) (ls : List (List ℕ)) → TextKept h → All Text ls → Gives TextKept (parseDebugGroup h ls)
 unfolding parseDebugGroup parseLabelTable
@@ -241,9 +266,12 @@ debug-kept h (l ∷ ls) k x =
 group-kept : (h : ObjectFile) (g : List ℕ × List (List ℕ)) → TextKept h → All Text (g .1) → Gives TextKept (parseGroup h g)
 unfolding parseGroup parseTextGroup parseSymbolGroup parseLinkerGroup
 group-kept h g k x =
-    by-if (Gives TextKept) (eqs (g .0) (ascii ".TEXT")) _ _ (λ _. scan-gives blockAt TextKept Text (λ s a xs i _. block-kept s a xs i) h 0 (g .1) k x)
-    (λ _. by-if (Gives TextKept) (eqs (g .0) (ascii ".SYMBOL")) _ _ (λ _. table-kept parseSymbolRow symbol-kept (ascii "ADDR" ∷ ascii "EXT" ∷ ascii "LABEL" ∷ []) h (g .1) k x)
-    (λ _. by-if (Gives TextKept) (eqs (g .0) (ascii ".LINKER_INFO")) _ _ (λ _. table-kept parseLinkerRow linker-kept (ascii "ADDR" ∷ ascii "LABEL" ∷ []) h (g .1) k x)
+    by-if (Gives TextKept) (eqs (g .0) (ascii ".TEXT")) _ _
+    (λ _. scan-gives blockAt TextKept Text (λ s a xs i _. block-kept s a xs i) h 0 (g .1) k x)
+    (λ _. by-if (Gives TextKept) (eqs (g .0) (ascii ".SYMBOL")) _ _
+    (λ _. table-kept parseSymbolRow symbol-kept (ascii "ADDR" ∷ ascii "EXT" ∷ ascii "LABEL" ∷ []) h (g .1) k x)
+    (λ _. by-if (Gives TextKept) (eqs (g .0) (ascii ".LINKER_INFO")) _ _
+    (λ _. table-kept parseLinkerRow linker-kept (ascii "ADDR" ∷ ascii "LABEL" ∷ []) h (g .1) k x)
     (λ _. by-if (Gives TextKept) (eqs (g .0) (ascii ".DEBUG")) _ _ (λ _. debug-kept h (g .1) k x) (λ _. tt))))
 
 magic-all : (ls : List (List ℕ)) → All Text ls → Gives (All Text) (afterMagic ls)
@@ -259,8 +287,10 @@ text-whole bs =
     let groups : List (List ℕ × List (List ℕ)) = partsAt (beginsWith (ascii ".")) ls .groups in
     gives-ask _ 22 (isEmpty (partsAt (beginsWith (ascii ".")) ls .before)) _ λ _.
     gives-bind _ TextKept (foldOutcome parseGroup emptyObject groups) _
-    (fold-gives parseGroup TextKept (λ g. All Text (g .1)) group-kept emptyObject groups (empty-formed Any, refl) (groups-all Text (beginsWith (ascii ".")) ls x .1))
-    λ g k. concluded-formed Any textQuestions g (k .0) (gives-ask _ 31 (every (λ l. neverFall (l .addresses)) (g .lineBlocks)) _ λ n. (k .1, n))
+    (fold-gives parseGroup TextKept (λ g. All Text (g .1)) group-kept emptyObject groups (empty-formed Any, refl)
+    (groups-all Text (beginsWith (ascii ".")) ls x .1))
+    λ g k. concluded-formed Any textQuestions g (k .0)
+    (gives-ask _ 31 (every (λ l. neverFall (l .addresses)) (g .lineBlocks)) _ λ n. (k .1, n))
 
 pub text-formed : (bs : List ℕ) (h : ObjectFile) → textObject bs ≡ given h → WellFormed h × InRange h
 text-formed bs h e = gives Whole (textObject bs) h (text-whole bs) e

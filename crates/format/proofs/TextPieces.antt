@@ -32,11 +32,18 @@ char-shape : (c : ℕ) → Scalar c → Shape (encodeScalar c)
 unfolding encodeScalar
 char-shape c s =
     by-if Shape (ltb c 0x80) _ _ (λ e. let l = ltb-true c 0x80 e in (c, [], refl, omega arith, tt))
-    (λ _. by-if Shape (ltb c 0x800) _ _ (λ e. let l = ltb-true c 0x800 e in (0xC0 + c / 64, (0x80 + c % 64) ∷ [], refl, omega arith, (low c, tt)))
+    (λ _. by-if Shape (ltb c 0x800) _ _
+    (λ e. let l = ltb-true c 0x800 e in (0xC0 + c / 64, (0x80 + c % 64) ∷ [], refl, omega arith, (low c, tt)))
     (λ _. by-if Shape (ltb c 0x10000) _ _
-    (λ e. let l = ltb-true c 0x10000 e in (0xE0 + c / 4096, (0x80 + c / 64 % 64) ∷ (0x80 + c % 64) ∷ [], refl, omega arith, (low (c / 64), (low c, tt))))
-    (λ _. let l = scalar-bound c s in
-    (0xF0 + c / 262144, (0x80 + c / 4096 % 64) ∷ (0x80 + c / 64 % 64) ∷ (0x80 + c % 64) ∷ [], refl, omega arith, (low (c / 4096), (low (c / 64), (low c, tt)))))))
+    (λ e. let l = ltb-true c 0x10000 e in
+    (0xE0 + c / 4096, (0x80 + c / 64 % 64) ∷ (0x80 + c % 64) ∷ [], refl, omega arith, (low (c / 64), (low c, tt))))
+    (λ _. let l = scalar-bound c s in (
+      0xF0 + c / 262144,
+      (0x80 + c / 4096 % 64) ∷ (0x80 + c / 64 % 64) ∷ (0x80 + c % 64) ∷ [],
+      refl,
+      omega arith,
+      (low (c / 4096), (low (c / 64), (low c, tt))),
+    ))))
   where
     low : (d : ℕ) → Follower (0x80 + d % 64)
     low d = (omega arith, omega arith)
@@ -74,7 +81,8 @@ past-followers (y ∷ ys) rest (x ∷ p) b bs f n e =
 
 -- a text cut before a byte that is not in the middle of a character: two texts
 cut-scalars :
-    (cs p : List ℕ) (b : ℕ) (bs : List ℕ) → All Scalar cs → (Follower b → ⊥) → flatMap encodeScalar cs ≡ p ++ b ∷ bs → Text p × Text (b ∷ bs)
+    (cs p : List ℕ) (b : ℕ) (bs : List ℕ) → All Scalar cs → (Follower b → ⊥) → flatMap encodeScalar cs ≡ p ++ b ∷ bs
+    → Text p × Text (b ∷ bs)
 unfolding flatMap
 cut-scalars [] p b bs s n e = let z = ap length e in absurd (omega (arith, length-append p (b ∷ bs)))
 cut-scalars (c ∷ cs) p b bs s n e = go p e (λ q. cut-scalars cs q b bs (s .1) n)
@@ -197,7 +205,8 @@ unfolding lines
 lines-text p [] x = (x, tt)
 lines-text p (b ∷ bs) x =
     by-if (Lines p) (eqb b 0x0A) _ _
-    (λ e. let q = eqb-true b 0x0A e in let r = ascii-cut p b bs (omega arith) x in (rw append-nil (r .0), all-first Text [] (lines bs) (lines-text [] bs (r .1))))
+    (λ e. let q = eqb-true b 0x0A e in let r = ascii-cut p b bs (omega arith) x in
+    (rw append-nil (r .0), all-first Text [] (lines bs) (lines-text [] bs (r .1))))
     (λ _. by-if (Lines p) (eqb b 0x0D && beginsWith (0x0A ∷ []) bs) _ _
     (λ e. let q = eqb-true b 0x0D (both (eqb b 0x0D) (beginsWith (0x0A ∷ []) bs) e .0) in
     let r = ascii-cut p b bs (omega arith) x in lines-text p bs (text-append p bs (r .0) (r .1)))
@@ -218,7 +227,8 @@ split-text p [] x = tt
 split-text p (b ∷ bs) x =
     by-if (Holds (Cells p)) (beginsWith (ascii " | ") (b ∷ bs)) _ _
     (λ e. rw append-nil (ascii-parts p 0x20 (ascii "| ") (b ∷ bs) (omega arith, (omega arith, (omega arith, tt))) e x))
-    (λ _. holds-then _ (Cells (p ++ b ∷ [])) (splitOnce bs) _ (split-text (p ++ b ∷ []) bs (front p b bs x)) λ c i. (back p b (c .0) (i .0), i .1))
+    (λ _. holds-then _ (Cells (p ++ b ∷ [])) (splitOnce bs) _ (split-text (p ++ b ∷ []) bs (front p b bs x)) λ c i.
+    (back p b (c .0) (i .0), i .1))
 
 cells-text : (k : ℕ) (bs : List ℕ) → Text bs → All Text (splitn k bs)
 unfolding splitn
@@ -281,7 +291,8 @@ tokens-text zero [] p x = x
 tokens-text (suc k) [] p x = x
 tokens-text (suc k) (b ∷ bs) p x = tokens-text k bs p x
 tokens-text zero (b ∷ bs) p x =
-    by-if (λ (o : Outcome (List ℕ × ℕ)). Gives (After p) (o >>= λ t. tokens unescapeAt (t .1) bs >>= λ ts. given (t .0 ∷ ts))) (eqb b 0x5C) _ _
+    by-if (λ (o : Outcome (List ℕ × ℕ)). Gives (After p) (o >>= λ t. tokens unescapeAt (t .1) bs >>= λ ts. given (t .0 ∷ ts)))
+    (eqb b 0x5C) _ _
     (λ e. let c = eqb-true b 0x5C e in let r = ascii-cut p b bs (omega arith) x in
     gives-bind _ (Escaped bs) (afterBackslash bs) _ (after-text bs (r .1)) λ t q.
     gives-bind _ (After []) (tokens unescapeAt (t .1) bs) _ (tokens-text (t .1) bs [] (q .1)) λ ts y.
