@@ -106,11 +106,11 @@ runs-stand rows n w = from-stand 0 (runsFrom 0 [] rows) (runs-from 0 0 [] rows r
 -- WHAT THE GROUPS KEEP
 
 -- the line blocks' addresses are asked after the last group; that they are apart is kept
-abbrev TextKept : ObjectFile → Type 0
-TextKept h = Formed (λ _. Unit {0}) h × (apart (h .lineBlocks) ≡ true)
-
 abbrev Any : LineBlock → Type 0
 Any l = Unit {0}
+
+abbrev TextKept : ObjectFile → Type 0
+TextKept h = Formed Any h × (apart (h .lineBlocks) ≡ true)
 
 block-kept : (h : ObjectFile) (l : List ℕ) (ls : List (List ℕ)) → TextKept h → Gives (λ t. TextKept (t .0)) (blockAt h (l ∷ ls))
 unfolding blockAt putRecord
@@ -138,40 +138,34 @@ named-below n ls h =
     by-option (λ o. Holds (λ l. Sound Any (label l)) o → In16 (Option·getD o none-named .address) × In64 (Option·getD o none-named .start))
     (atKey labelKey n ls) (λ _. (omega arith, omega arith)) (λ l _ p. (p .0, p .1)) (atKey-all labelKey (λ l. Sound Any (label l)) n ls h)
 
+-- rows: a trimmed cell is a text
+abbrev cell : ℕ → ℕ → List ℕ → List ℕ
+cell k i l = trim (cellAt i (splitn k l))
+
 module _ (h : ObjectFile) (l : List ℕ) (k : TextKept h) (x : Text l) where
+  trimmed-text : (n i : ℕ) → Text (cell n i l)
+  trimmed-text n i = trim-text (cellAt i (splitn n l)) (cell-text n i l x)
+
   symbol-kept : Gives TextKept (parseSymbolRow h l)
   unfolding parseSymbolRow putRecord
   symbol-kept =
-      let name : List ℕ = trim (cellAt 2 (splitn 2 l)) in
-      gives-need _ In16 26 (hex2u16 (trim (cellAt 0 (splitn 2 l)))) _ (hex-below (trim (cellAt 0 (splitn 2 l)))) λ a p.
-      gives-need _ (λ n. n < 2 ^ 8) 26 (parseDecimal (2 ^ 8) (trim (cellAt 1 (splitn 2 l)))) _
-      (number-below 10 (2 ^ 8) (trim (cellAt 1 (splitn 2 l)))) λ e _. (
-        put-formed Any h (label
-            (record { name = name; address = a; external = not (eqb e 0); start = labelNamed name (h .labels) .start })) (k .0)
-            (p, named-below name (h .labels) (k .0 .labels .1) .1, trim-text (cellAt 2 (splitn 2 l)) (cell-text 2 2 l x)),
-        k .1,
-      )
+      gives-need _ In16 26 (hex2u16 (cell 2 0 l)) _ (hex-below (cell 2 0 l)) λ a p.
+      gives-need _ (λ n. n < 2 ^ 8) 26 (parseDecimal (2 ^ 8) (cell 2 1 l)) _ (number-below 10 (2 ^ 8) (cell 2 1 l)) λ e _.
+      let s = named-below (cell 2 2 l) (h .labels) (k .0 .labels .1) .1 in
+      (put-formed Any h (label (record { name = _; address = a; external = _; start = _ })) (k .0) (p, s, trimmed-text 2 2), k .1)
 
   linker-kept : Gives TextKept (parseLinkerRow h l)
   unfolding parseLinkerRow putRecord
   linker-kept =
-      gives-need _ In16 26 (hex2u16 (trim (cellAt 0 (splitn 1 l)))) _ (hex-below (trim (cellAt 0 (splitn 1 l)))) λ a p. (
-        put-formed Any h (relocation (record { address = a; name = trim (cellAt 1 (splitn 1 l)) })) (k .0)
-            (p, trim-text (cellAt 1 (splitn 1 l)) (cell-text 1 1 l x)),
-        k .1,
-      )
+      gives-need _ In16 26 (hex2u16 (cell 1 0 l)) _ (hex-below (cell 1 0 l)) λ a p.
+      (put-formed Any h (relocation (record { address = a; name = _ })) (k .0) (p, trimmed-text 1 1), k .1)
 
   label-kept : Gives TextKept (parseLabelRow h l)
   unfolding parseLabelRow putRecord
   label-kept =
-      let name : List ℕ = trim (cellAt 0 (splitn 1 l)) in
-      let old : Label = labelNamed name (h .labels) in
-      gives-need _ In64 26 (parseDecimal (2 ^ 64) (trim (cellAt 1 (splitn 1 l)))) _
-      (number-below 10 (2 ^ 64) (trim (cellAt 1 (splitn 1 l)))) λ i p. (
-        put-formed Any h (label (record { name = name; address = old .address; external = old .external; start = i })) (k .0)
-            (named-below name (h .labels) (k .0 .labels .1) .0, p, trim-text (cellAt 0 (splitn 1 l)) (cell-text 1 0 l x)),
-        k .1,
-      )
+      gives-need _ In64 26 (parseDecimal (2 ^ 64) (cell 1 1 l)) _ (number-below 10 (2 ^ 64) (cell 1 1 l)) λ i p.
+      let a = named-below (cell 1 0 l) (h .labels) (k .0 .labels .1) .0 in
+      (put-formed Any h (label (record { name = _; address = _; external = _; start = i })) (k .0) (a, p, trimmed-text 1 0), k .1)
 
 -- a table's rows are lines of it
 rows-all : (n : ℕ) (columns ls : List (List ℕ)) → All Text ls → Gives (All Text) (rowsUnder n columns ls)
@@ -198,10 +192,9 @@ line-rows : (i : ℕ) (ls : List (List ℕ)) → i ≤ 2 ^ 64 → All Text ls �
 unfolding parseLineRows
 line-rows i [] n x = (tt, omega arith)
 line-rows i (l ∷ ls) n x =
-    gives-need _ In64 28 (parseDecimal (2 ^ 64) (trim (cellAt 0 (splitn 2 l)))) _
-    (number-below 10 (2 ^ 64) (trim (cellAt 0 (splitn 2 l)))) λ m p.
+    gives-need _ In64 28 (parseDecimal (2 ^ 64) (cell 2 0 l)) _ (number-below 10 (2 ^ 64) (cell 2 0 l)) λ m p.
     gives-ask _ 28 (eqb m i) _ λ e.
-    gives-need _ Word16 28 (maybeHex2u16 (trim (cellAt 1 (splitn 2 l)))) _ (word-below (trim (cellAt 1 (splitn 2 l)))) λ a w.
+    gives-need _ Word16 28 (maybeHex2u16 (cell 2 1 l)) _ (word-below (cell 2 1 l)) λ a w.
     let q : m ≡ i = eqb-true m i e in
     gives-bind _ (InRows (suc i)) (parseLineRows (suc i) ls) _ (line-rows (suc i) ls (omega arith) (x .1)) λ rows r.
     (((w, cell-text 2 2 l (x .0)), r .0), omega (arith, r .1))
