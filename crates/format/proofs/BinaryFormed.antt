@@ -45,10 +45,9 @@ unfolding memoriesFrom
 memories-below [] h = tt
 memories-below (f ∷ []) h = tt
 memories-below (f ∷ a ∷ []) h = tt
-memories-below (f ∷ a ∷ b ∷ bs) h = (
-  by-if Word16 (eqb f 0xFF) _ _ (λ _. value-below 8 2 (a ∷ b ∷ []) (h .1 .0, (h .1 .1 .0, tt))) (λ _. tt),
-  memories-below bs (h .1 .1 .1),
-)
+memories-below (f ∷ a ∷ b ∷ bs) h =
+    let v = value-below 8 2 (a ∷ b ∷ []) (h .1 .0, (h .1 .1 .0, tt)) in
+    (by-if Word16 (eqb f 0xFF) _ _ (λ _. v) (λ _. tt), memories-below bs (h .1 .1 .1))
 
 memories-length : (bs : List ℕ) → 3 * length (memoriesFrom bs) ≤ length bs
 unfolding memoriesFrom
@@ -109,15 +108,11 @@ module _ (bs ys : List ℕ) where
       let n : ℕ = numberAt 2 2 bs in
       let ms : List ℕ = bytesAt 4 (3 * n) bs in
       gives-ask _ 12 (leb 4 (length bs)) _ λ h. gives-ask _ 12 (leb (4 + 3 * n) (length bs)) _ λ k.
-      let l = leb-true (4 + 3 * n) (length bs) k in (
-        l,
-        block-from (bs ++ ys) n (numberAt 0 2 bs) (memoriesFrom ms) (longer 4 h) (number-stays 2 2 (omega arith)) (longer (4 + 3 * n) k)
-            (number-stays 0 2 (omega arith)) (ap memoriesFrom (bytes-stay 4 (3 * n) l)),
-        λ b. (
-          (number-below 0 2 b, memories-below ms (bytes-below 4 (3 * n) b)),
-          omega (arith, memories-length ms, length-take (3 * n) (drop 4 bs), number-below 2 2 b),
-        ),
-      )
+      let l = leb-true (4 + 3 * n) (length bs) k in
+      let same = block-from (bs ++ ys) n _ _ (longer 4 h) (number-stays 2 2 (omega arith)) (longer (4 + 3 * n) k)
+      (number-stays 0 2 (omega arith)) (ap memoriesFrom (bytes-stay 4 (3 * n) l)) in
+      let few : 3 * length (memoriesFrom ms) ≤ 3 * n = omega (arith, memories-length ms, length-take (3 * n) (drop 4 bs)) in
+      (l, same, λ b. ((number-below 0 2 b, memories-below ms (bytes-below 4 (3 * n) b)), omega (arith, number-below 2 2 b)))
 
   label-read : Gives (ReadWhole labelFrom) (labelFrom bs)
   unfolding labelFrom
@@ -125,14 +120,11 @@ module _ (bs ys : List ℕ) where
       let n : ℕ = numberAt 11 8 bs in
       let name : List ℕ = bytesAt 19 n bs in
       gives-ask _ 12 (leb 19 (length bs)) _ λ h. gives-ask _ 12 (leb (19 + n) (length bs)) _ λ k. gives-ask _ 13 (isUtf8 name) _ λ u.
-      let l = leb-true (19 + n) (length bs) k in (
-        l,
-        label-from (bs ++ ys) name n (numberAt 0 2 bs) (numberAt 3 8 bs) (not (eqb (numberAt 2 1 bs) 0)) (longer 19 h)
-            (number-stays 11 8 (omega arith)) (longer (19 + n) k) (bytes-stay 19 n l) u (number-stays 0 2 (omega arith))
-            (ap (λ (x : ℕ). not (eqb x 0)) (number-stays 2 1 (omega arith))) (number-stays 3 8 (omega arith)),
-        λ b.
-            (number-below 0 2 b, number-below 3 8 b, text-of name u),
-      )
+      let l = leb-true (19 + n) (length bs) k in
+      let same = label-from (bs ++ ys) name n _ _ _ (longer 19 h) (number-stays 11 8 (omega arith)) (longer (19 + n) k)
+      (bytes-stay 19 n l) u (number-stays 0 2 (omega arith)) (ap (λ (x : ℕ). not (eqb x 0)) (number-stays 2 1 (omega arith)))
+      (number-stays 3 8 (omega arith)) in
+      (l, same, λ b. (number-below 0 2 b, number-below 3 8 b, text-of name u))
 
   lines-read : Gives (ReadWhole linesFrom) (linesFrom bs)
   unfolding linesFrom
@@ -141,13 +133,10 @@ module _ (bs ys : List ℕ) where
       let xs : List ℕ = addressesFrom (bytesAt 10 (2 * n) bs) in
       gives-ask _ 12 (leb 10 (length bs)) _ λ h. gives-ask _ 12 (leb (10 + 2 * n) (length bs)) _ λ k.
       gives-ask _ 14 (strictlyRise xs) _ λ u.
-      let l = leb-true (10 + 2 * n) (length bs) k in (
-        l,
-        lines-from (bs ++ ys) n (numberAt 0 8 bs) xs (longer 10 h) (number-stays 8 2 (omega arith)) (longer (10 + 2 * n) k)
-            (number-stays 0 8 (omega arith)) (ap addressesFrom (bytes-stay 10 (2 * n) l)) u,
-        λ b.
-            ((number-below 0 8 b, addresses-below (bytesAt 10 (2 * n) bs) (bytes-below 10 (2 * n) b)), rise-never-fall xs u),
-      )
+      let l = leb-true (10 + 2 * n) (length bs) k in
+      let same = lines-from (bs ++ ys) n _ xs (longer 10 h) (number-stays 8 2 (omega arith)) (longer (10 + 2 * n) k)
+      (number-stays 0 8 (omega arith)) (ap addressesFrom (bytes-stay 10 (2 * n) l)) u in
+      (l, same, λ b. ((number-below 0 8 b, addresses-below (bytesAt 10 (2 * n) bs) (bytes-below 10 (2 * n) b)), rise-never-fall xs u))
 
   source-read : Gives (ReadWhole sourceFrom) (sourceFrom bs)
   unfolding sourceFrom
@@ -155,11 +144,9 @@ module _ (bs ys : List ℕ) where
       let n : ℕ = numberAt 0 8 bs in
       let text : List ℕ = bytesAt 8 n bs in
       gives-ask _ 12 (leb 8 (length bs)) _ λ h. gives-ask _ 12 (leb (8 + n) (length bs)) _ λ k. gives-ask _ 13 (isUtf8 text) _ λ u.
-      let l = leb-true (8 + n) (length bs) k in (
-        l,
-        source-from (bs ++ ys) text n (longer 8 h) (number-stays 0 8 (omega arith)) (longer (8 + n) k) (bytes-stay 8 n l) u,
-        λ b. text-of text u,
-      )
+      let l = leb-true (8 + n) (length bs) k in
+      let same = source-from (bs ++ ys) text n (longer 8 h) (number-stays 0 8 (omega arith)) (longer (8 + n) k) (bytes-stay 8 n l) u in
+      (l, same, λ b. text-of text u)
 
   relocation-read : Gives (ReadWhole relocationFrom) (relocationFrom bs)
   unfolding relocationFrom
@@ -167,12 +154,10 @@ module _ (bs ys : List ℕ) where
       let n : ℕ = numberAt 2 8 bs in
       let name : List ℕ = bytesAt 10 n bs in
       gives-ask _ 12 (leb 10 (length bs)) _ λ h. gives-ask _ 12 (leb (10 + n) (length bs)) _ λ k. gives-ask _ 13 (isUtf8 name) _ λ u.
-      let l = leb-true (10 + n) (length bs) k in (
-        l,
-        relocation-from (bs ++ ys) n (numberAt 0 2 bs) name (longer 10 h) (number-stays 2 8 (omega arith)) (longer (10 + n) k)
-            (number-stays 0 2 (omega arith)) (bytes-stay 10 n l) u,
-        λ b. (number-below 0 2 b, text-of name u),
-      )
+      let l = leb-true (10 + n) (length bs) k in
+      let same = relocation-from (bs ++ ys) n _ name (longer 10 h) (number-stays 2 8 (omega arith)) (longer (10 + n) k)
+      (number-stays 0 2 (omega arith)) (bytes-stay 10 n l) u in
+      (l, same, λ b. (number-below 0 2 b, text-of name u))
 
   pub record-read : (k : ℕ) → Gives (ReadWhole (λ xs. recordAt (k ∷ xs))) (recordAt (k ∷ bs))
   unfolding recordAt
@@ -196,8 +181,7 @@ unfolding binaryRecords
 records-sound bs h =
     gives-ask (All (Sound NeverFalls)) 10 (beginsWith header bs) _ λ _.
     tokens-gives recordAt (Sound NeverFalls) (λ _ xs. Bytes xs) (λ k a xs i. i .1)
-    (λ a xs i. gives-map (ReadWhole xs [] (λ ys. recordAt (a ∷ ys))) (λ t. Sound NeverFalls (t .0) × Bytes xs) (λ t s. (s .2 (i .1), i .1))
-    (recordAt (a ∷ xs))
+    (λ a xs i. gives-map (ReadWhole xs [] (λ ys. recordAt (a ∷ ys))) _ (λ t s. (s .2 (i .1), i .1)) (recordAt (a ∷ xs))
     (record-read xs [] a))
     0 (drop 7 bs) (bytes-drop 7 bs h)
 

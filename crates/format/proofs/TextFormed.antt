@@ -77,13 +77,9 @@ runs-from p i run (some a ∷ rows) e n h w =
 runs-from p i [] (none ∷ rows) e n h w =
     from-earlier p (suc i) (runsFrom (suc i) [] rows) (omega arith)
     (runs-from (suc i) (suc i) [] rows (omega arith) (omega arith) tt (w .1))
-runs-from p i (a ∷ run) (none ∷ rows) e n h w = (
-  omega arith,
-  omega arith,
-  (omega arith, h),
-  from-earlier (i - length (a ∷ run) + length (a ∷ run)) (suc i) (runsFrom (suc i) [] rows) (omega arith)
-      (runs-from (suc i) (suc i) [] rows (omega arith) (omega arith) tt (w .1)),
-)
+runs-from p i (a ∷ run) (none ∷ rows) e n h w =
+    let later = runs-from (suc i) (suc i) [] rows (omega arith) (omega arith) tt (w .1) in
+    (omega arith, omega arith, (omega arith, h), from-earlier _ (suc i) (runsFrom (suc i) [] rows) (omega arith) later)
 
 abbrev Stand : List LineBlock → Type 0
 Stand ls = Rises lineKey ls × All InLine ls × (apart ls ≡ true)
@@ -94,11 +90,9 @@ from-stand p [] f = (tt, tt, refl)
 from-stand p (l ∷ []) f = ((tt, tt), (f .2, tt), refl)
 from-stand p (l ∷ m ∷ ls) f =
     let i = from-stand (lineEnd l) (m ∷ ls) (f .3) in
-    let o : order (lineKey l) (lineKey m) ≡ Ordering·lt = rw (compare-of-lt (l .first) (m .first) (omega (arith, f .1, f .3 .0))) in (
-      ((o, above-trans lineKey (lineKey l) (lineKey m) ls o (i .0 .0)), i .0),
-      (f .2, i .1),
-      rw (le-leb (lineEnd l) (m .first) (f .3 .0), i .2),
-    )
+    let o : order (lineKey l) (lineKey m) ≡ Ordering·lt = rw (compare-of-lt (l .first) (m .first) (omega (arith, f .1, f .3 .0))) in
+    let up : Rises lineKey (l ∷ m ∷ ls) = ((o, above-trans lineKey (lineKey l) (lineKey m) ls o (i .0 .0)), i .0) in
+    (up, (f .2, i .1), rw (le-leb (lineEnd l) (m .first) (f .3 .0), i .2))
 
 runs-stand : (rows : List (Option ℕ)) → length rows ≤ 2 ^ 64 → All Word16 rows → Stand (runsFrom 0 [] rows)
 runs-stand rows n w = from-stand 0 (runsFrom 0 [] rows) (runs-from 0 0 [] rows refl (omega arith) tt w)
