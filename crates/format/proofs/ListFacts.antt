@@ -4,19 +4,16 @@ use mathlib.Core.Bool.{Bool, true, false, _&&_}
 use mathlib.Core.List.{List, [], _∷_, _++_, map, flatMap}
 use mathlib.Core.Option.{Option, some}
 use Prim.Native.Nat.{ℕ}
-use native.Mathlib.Omega.{arith}
 use borrow.Author.Tests.{eq-eqb}
 use Rattle.format.specs.Basics.{if_then_else_, keep, allSome, eqs, All}
 use Rattle.format.specs.Tokens.{partsAt}
-use Rattle.format.proofs.ListLaws.{all-append, flatMap-append}
+use Rattle.format.proofs.ListLaws.{both, all-append, flatMap-append}
 
 pub and-left : (a b : Bool) → a && b ≡ true → a ≡ true
-and-left true b h = refl
-and-left false b h = h
+and-left a b h = both a b h .0
 
 pub and-right : (a b : Bool) → a && b ≡ true → b ≡ true
-and-right true b h = h
-and-right false b h = let z : _≡_ {A = ℕ} 0 1 = cc in absurd (omega arith)
+and-right a b h = both a b h .1
 
 module _ {A : Type 0} where
   pub all-of : {P : A → Type 0} (f : (x : A) → P x) (xs : List A) → All P xs
