@@ -18,7 +18,7 @@ use Rattle.format.specs.Records.{label, putRecord, withLabels, withReloc
 use Rattle.format.specs.TextWriter.{symbolHeader, linkerHeader, labelHeader, labelWidth, indexWidth, byAddress, byStart, textLine, spaces, toLeft, widest, symbolTable, linkerTable, labelTable as indexText, linkerRow, hex4, labelWidth, indexWidth, labelRow, symbolRow}
 use Rattle.format.specs.TextReader.{splitOnce, splitn, sameCells, rowsUnder, parseSymbolRow, parseSymbolGroup, parseLinkerRow, parseLinkerGroup, parseLabelRow, parseLabelTable}
 use Rattle.format.specs.Calls.{Reordered}
-use Rattle.format.proofs.ListLaws.{all-map, flatMap-map, all-reordered}
+use Rattle.format.proofs.ListLaws.{or-none, all-map, flatMap-map, all-reordered}
 use Rattle.format.proofs.ListFacts.{eqs-self}
 use Rattle.format.proofs.TrimLaws.{Visible, visible-solid, trim-right}
 use Rattle.format.proofs.CellLaws.{Undivided, cells-1, undivided-append, undivided-spaces}
@@ -112,11 +112,6 @@ find-unplaced k (m ∷ ms) = rw (find-unplaced k ms) (pick (isEq (order k (m .na
 distinct-unplaced : (ms : List Label) → Distinct labelKey ms → Distinct labelKey (map unplaced ms)
 distinct-unplaced [] d = tt
 distinct-unplaced (m ∷ ms) d = (find-unplaced (m .name) ms ∙ rw (d .0), distinct-unplaced ms (d .1))
-
-or-none : (o : Option Label) → orElse o none ≡ o
-unfolding orElse
-or-none none = refl
-or-none (some a) = refl
 
 module _ (ls ms ns : List Label) (r : Rises labelKey ls) (p : Reordered ls ms) (q : Reordered ls ns) where
   abbrev placing : List Label
