@@ -11,6 +11,7 @@ use Rattle.format.specs.ObjectFile.{ObjectFile, consistent}
 use Rattle.format.specs.Records.{Record, recordKey, recordsOf, placed}
 use Rattle.format.specs.Words.{recordWords, wordsOf, isHead, recordFrom, recordsFrom, objectOf}
 use Rattle.format.proofs.ListLaws.{empty-is}
+use Rattle.format.proofs.ListFacts.{parts-body}
 use Rattle.format.proofs.RisesLaws.{rises-type, rises-test}
 use Rattle.format.proofs.Ranges.{WellFormed, InRange, InWords, range-records, records-range}
 use Rattle.format.proofs.PlacedLaws.{placed-back}
@@ -19,18 +20,11 @@ use Rattle.format.proofs.WordsBack.{groupOf, group-words, group-head, g
 use Rattle.format.proofs.WordsOnly.{bind-given, ask-given, given-same, record-only}
 
 -- words cut before each head
-body-parts :
-    (p : ℕ → Bool) (bs rest : List ℕ) → All (λ w. p w ≡ false) bs
-    → partsAt p (bs ++ rest) ≡ record { before = bs ++ partsAt p rest .before; groups = partsAt p rest .groups }
-unfolding partsAt
-body-parts p [] rest h = refl
-body-parts p (b ∷ bs) rest h = rw (h .0, body-parts p bs rest (h .1))
-
 group-parts :
     (p : ℕ → Bool) (a : ℕ) (bs rest : List ℕ) (gs : List (ℕ × List ℕ)) → p a ≡ true → All (λ w. p w ≡ false) bs → partsAt p rest ≡ record { before = []; groups = gs }
     → partsAt p (a ∷ (bs ++ rest)) ≡ record { before = []; groups = (a, bs) ∷ gs }
 unfolding partsAt
-group-parts p a bs rest gs t h e = rw (t, body-parts p bs rest h, e, append-nil bs)
+group-parts p a bs rest gs t h e = rw (t, parts-body p bs rest h, e, append-nil bs)
 
 records-parts : (rs : List Record) → All InWords rs → partsAt isHead (flatMap recordWords rs) ≡ record { before = []; groups = map groupOf rs }
 unfolding flatMap partsAt
