@@ -19,7 +19,8 @@ use Rattle.format.specs.TextWriter.{textLine, hex4, decimal, memoryText,
 use Rattle.format.specs.TextReader.{hex2u16, parseDecimal, maybeHex2u16, blockAt, parseTextGroup}
 use Rattle.format.proofs.ListLaws.{all-map, all-images, flatMap-map}
 use Rattle.format.proofs.ListFacts.{all-some, all-flatMap, flatMap-flatMap, flatMap-ext}
-use Rattle.format.proofs.NumeralBack.{hex-back, decimal-back, decimal-numeric, entry-back, entry-numeric, Word16}
+use Rattle.format.proofs.NumeralBack.{hex-back, decimal-back, decimal-numeric, entry-back, entry-numeric}
+use Rattle.format.proofs.Ranges.{Word16}
 use Rattle.format.proofs.RowLaws.{Ordinary, numeric-ordinary, hex-ordinary, entry-full}
 use Rattle.format.proofs.OrderLaws.{absent-upsert}
 

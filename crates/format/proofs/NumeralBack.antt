@@ -13,6 +13,7 @@ use Rattle.format.specs.Digits.{digitsOf}
 use Rattle.format.specs.TextWriter.{lowerDigit, upperDigit, numeral, hex4, decimal, memoryText}
 use Rattle.format.specs.TextReader.{digitValue, digitsFrom, withoutPlus, parseNumber, hex2u16, parseDecimal, maybeHex2u16}
 use Rattle.format.proofs.NumeralLaws.{numeral-back}
+use Rattle.format.proofs.Ranges.{Word16}
 
 -- the bytes of numerals, and ?
 abbrev pub Numeric : ℕ → Type 0
@@ -126,10 +127,6 @@ hex-not-unknown v = go (ltb (v / 16 / 16 / 16 % 16) 10) refl
         → eqb (if t then 48 + v / 16 / 16 / 16 % 16 else 55 + v / 16 / 16 / 16 % 16) 63 && eqs (upperDigit (v / 16 / 16 % 16) ∷ upperDigit (v / 16 % 16) ∷ upperDigit (v % 16) ∷ []) (63 ∷ 63 ∷ 63 ∷ []) ≡ false
     go true e = let h = ltb-true (v / 16 / 16 / 16 % 16) 10 e in rw (ne-eqb (48 + v / 16 / 16 / 16 % 16) 63 (λ q. omega arith))
     go false e = let h = ltb-false (v / 16 / 16 / 16 % 16) 10 e in rw (ne-eqb (55 + v / 16 / 16 / 16 % 16) 63 (λ q. omega arith))
-
-abbrev pub Word16 : Option ℕ → Type 0
-Word16 none = Unit {0}
-Word16 (some v) = v < 2 ^ 16
 
 pub entry-back : (w : Option ℕ) → Word16 w → maybeHex2u16 (memoryText w) ≡ some w
 unfolding maybeHex2u16 eqs ascii

@@ -19,7 +19,8 @@ use Rattle.format.specs.TextWriter.{lineRow, symbolRow, linkerRow, label
 use Rattle.format.specs.TextReader.{hex2u16, parseDecimal, maybeHex2u16, splitn, parseSymbolRow, parseLinkerRow, parseLabelRow, parseLineRows}
 use Rattle.format.proofs.TextLaws.{OneLine}
 use Rattle.format.proofs.ListLaws.{all-map}
-use Rattle.format.proofs.NumeralBack.{Numeric, Full, hex-back, hex-numeric, decimal-back, decimal-numeric, entry-back, entry-numeric, Word16}
+use Rattle.format.proofs.NumeralBack.{Numeric, Full, hex-back, hex-numeric, decimal-back, decimal-numeric, entry-back, entry-numeric}
+use Rattle.format.proofs.Ranges.{Word16}
 use Rattle.format.proofs.Utf8Laws.{Text, text-of, text-append, text-ascii}
 use Rattle.format.proofs.TrimLaws.{Solid, numeric-visible, visible-solid, solid-name, solid-line, trim-solid, trim-left, trim-right, visible-in}
 use Rattle.format.proofs.EscapeLaws.{Printable}

@@ -12,7 +12,8 @@ use Rattle.format.proofs.SortedLaws.{lt-of-compare, eq-of-compare, comp
 use Rattle.format.specs.ObjectFile.{LineBlock, lineEnd}
 use Rattle.format.specs.TextWriter.{Row, rowKey, plainRows, addRows, addBlocks}
 use Rattle.format.specs.TextReader.{runsFrom}
-use Rattle.format.proofs.NumeralBack.{Full, Word16}
+use Rattle.format.proofs.NumeralBack.{Full}
+use Rattle.format.proofs.Ranges.{Word16}
 use Rattle.format.proofs.RowLaws.{Numbered}
 
 -- rows numbered from i on, with these addresses

@@ -6,7 +6,6 @@ use mathlib.Core.Option.{Option, none, some}
 use Prim.Native.Nat.{ℕ, _^_, _≤_, _<_}
 use native.Mathlib.Omega.{arith}
 use lib.ListN.{length}
-use Rattle.format.proofs.NumeralBack.{Word16}
 use Rattle.format.specs.Basics.{given, ascii, beginsWith, isEmpty, every, eqs, All, isSome}
 use Rattle.format.specs.Tokens.{foldOutcome, partsAt}
 use Rattle.format.specs.Sorted.{atKey, upsertAll}
@@ -27,7 +26,7 @@ use Rattle.format.proofs.OrderLaws.{distinct-front}
 use Rattle.format.proofs.BlockTrip.{InBlock, blockRows, blocks-back, blocks-ordinary, blocks-lines}
 use Rattle.format.proofs.LabelTrip.{InLabel, InRelocation, unplaced, symbolLines, symbol-lines, symbols-back, indexLines, index-lines, indices-back, linkerLines, linker-lines, linker-back, placing-known, labels-back}
 use Rattle.format.specs.Fair.{FairName, FairParts}
-use Rattle.format.proofs.Ranges.{WellFormed, InRange}
+use Rattle.format.proofs.Ranges.{WellFormed, InRange, Word16}
 use Rattle.format.proofs.FairLaws.{of-names, consistent-parts, fair-source, fair-blocks}
 use Rattle.format.proofs.DebugTrip.{firstOf, debug-tables, lineLines, line-lines, lines-back, lines-ordinary, fair-spaced}
 use Rattle.format.proofs.TableLaws.{symbols-ordinary, linkers-ordinary, indices-ordinary, indices-no-bars, blocks-end}
