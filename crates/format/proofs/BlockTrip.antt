@@ -24,8 +24,9 @@ use Rattle.format.proofs.Ranges.{Word16}
 use Rattle.format.proofs.RowLaws.{Ordinary, numeric-ordinary, hex-ordinary, entry-full}
 use Rattle.format.proofs.OrderLaws.{absent-upsert}
 
-abbrev pub InBlock : Block → Type 0
-InBlock b = (b .address < 2 ^ 16) × (length (b .words) < 2 ^ 16) × All Word16 (b .words)
+-- what the text form asks of a block: numbers and a count that fit
+abbrev pub TextBlock : Block → Type 0
+TextBlock b = (b .address < 2 ^ 16) × (length (b .words) < 2 ^ 16) × All Word16 (b .words)
 
 abbrev pub blockRows : Block → List (List ℕ)
 blockRows b = hex4 (b .address) ∷ decimal (length (b .words)) ∷ map memoryText (b .words)
@@ -38,7 +39,7 @@ unfolding blockAt isSome
 block-path h l c ls a n ws h1 h2 h3 h4 h5 = rw (h1, h2, h3, h4, h5)
 
 pub block-at :
-    (h : ObjectFile) (b : Block) (rest : List (List ℕ)) → InBlock b → atKey blockKey (b .address ∷ []) (h .blocks) ≡ none
+    (h : ObjectFile) (b : Block) (rest : List (List ℕ)) → TextBlock b → atKey blockKey (b .address ∷ []) (h .blocks) ≡ none
     → blockAt h (blockRows b ++ rest) ≡ given (putRecord h (block b), suc (length (b .words)))
 block-at h b rest r f =
     let n : length (b .words) < 2 ^ 64 = omega (arith, r .1) in
@@ -56,7 +57,7 @@ scan-drop one s zero (x ∷ xs) = refl
 scan-drop one s (suc k) (x ∷ xs) = scan-drop one s k xs
 
 pub blocks-back :
-    (h : ObjectFile) (bs : List Block) → Rises blockKey bs → All InBlock bs → All (λ b. atKey blockKey (blockKey b) (h .blocks) ≡ none) bs
+    (h : ObjectFile) (bs : List Block) → Rises blockKey bs → All TextBlock bs → All (λ b. atKey blockKey (blockKey b) (h .blocks) ≡ none) bs
     → parseTextGroup h (flatMap blockRows bs) ≡ given (withBlocks h (upsertAll blockKey bs (h .blocks)))
 unfolding parseTextGroup scanTokens flatMap upsertAll putRecord
 blocks-back h [] r i f = refl
@@ -68,10 +69,10 @@ blocks-back h (b ∷ bs) r i f =
     rw (e, scan-drop blockAt (withBlocks h (upsert blockKey b (h .blocks))) (length (b .words)) (map memoryText (b .words) ++ rest), d)
     (blocks-back (withBlocks h (upsert blockKey b (h .blocks))) bs (r .1) (i .1) (absent-upsert blockKey b bs (h .blocks) (r .0) (f .1)))
 
-pub blocks-ordinary : (bs : List Block) → All InBlock bs → All Ordinary (flatMap blockRows bs)
+pub blocks-ordinary : (bs : List Block) → All TextBlock bs → All Ordinary (flatMap blockRows bs)
 blocks-ordinary bs h = all-flatMap Ordinary blockRows bs (all-map one bs h)
   where
-    one : (b : Block) → InBlock b → All Ordinary (blockRows b)
+    one : (b : Block) → TextBlock b → All Ordinary (blockRows b)
     one b i =
         let n : length (b .words) < 2 ^ 64 = omega (arith, i .1) in
         let d = decimal-numeric (length (b .words)) n in

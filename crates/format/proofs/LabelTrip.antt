@@ -66,15 +66,16 @@ module _ {A : Type 0} (key : A → List ℕ) where
 abbrev pub unplaced : Label → Label
 unplaced m = record { name = m .name; address = m .address; external = m .external; start = 0 }
 
-abbrev pub InLabel : Label → Type 0
-InLabel m = (m .address < 2 ^ 16) × (m .start < 2 ^ 64) × GoodName (m .name)
+-- what the text form asks of a label: numbers that fit, and a name that a cell holds
+abbrev pub TextLabel : Label → Type 0
+TextLabel m = (m .address < 2 ^ 16) × (m .start < 2 ^ 64) × GoodName (m .name)
 
-symbol-new : (h : ObjectFile) (m : Label) → InLabel m → atKey labelKey (m .name) (h .labels) ≡ none → parseSymbolRow h (symbolRow m) ≡ given (putRecord h (label (unplaced m)))
+symbol-new : (h : ObjectFile) (m : Label) → TextLabel m → atKey labelKey (m .name) (h .labels) ≡ none → parseSymbolRow h (symbolRow m) ≡ given (putRecord h (label (unplaced m)))
 unfolding labelNamed
 symbol-new h m i f = symbol-row h m (i .0) (i .2) ∙ rw f
 
 pub symbols-through :
-    (h : ObjectFile) (ms : List Label) → Distinct labelKey ms → All InLabel ms → All (λ m. atKey labelKey (m .name) (h .labels) ≡ none) ms
+    (h : ObjectFile) (ms : List Label) → Distinct labelKey ms → All TextLabel ms → All (λ m. atKey labelKey (m .name) (h .labels) ≡ none) ms
     → foldOutcome parseSymbolRow h (map symbolRow ms) ≡ given (withLabels h (upsertAll labelKey (map unplaced ms) (h .labels)))
 unfolding foldOutcome upsertAll putRecord
 symbols-through h [] d i f = refl
@@ -82,12 +83,12 @@ symbols-through h (m ∷ ms) d i f =
     rw (symbol-new h m (i .0) (f .0))
     (symbols-through (withLabels h (upsert labelKey (unplaced m) (h .labels))) ms (d .1) (i .1) (found-insert labelKey (λ x. none) (unplaced m) ms (h .labels) (others labelKey m ms (d .0)) (f .1)))
 
-index-known : (names indices : ℕ) (h : ObjectFile) (m : Label) → InLabel m → atKey labelKey (m .name) (h .labels) ≡ some (unplaced m) → parseLabelRow h (labelRow names indices m) ≡ given (putRecord h (label m))
+index-known : (names indices : ℕ) (h : ObjectFile) (m : Label) → TextLabel m → atKey labelKey (m .name) (h .labels) ≡ some (unplaced m) → parseLabelRow h (labelRow names indices m) ≡ given (putRecord h (label m))
 unfolding labelNamed
 index-known names indices h m i f = index-row names indices h m (i .1) (i .2) ∙ rw f
 
 pub indices-through :
-    (names indices : ℕ) (h : ObjectFile) (ms : List Label) → Distinct labelKey ms → All InLabel ms → All (λ m. atKey labelKey (m .name) (h .labels) ≡ some (unplaced m)) ms
+    (names indices : ℕ) (h : ObjectFile) (ms : List Label) → Distinct labelKey ms → All TextLabel ms → All (λ m. atKey labelKey (m .name) (h .labels) ≡ some (unplaced m)) ms
     → foldOutcome parseLabelRow h (map (labelRow names indices) ms) ≡ given (withLabels h (upsertAll labelKey ms (h .labels)))
 unfolding foldOutcome upsertAll putRecord
 indices-through names indices h [] d i f = refl
@@ -153,7 +154,7 @@ unfolding open-Utf8 isEmpty ascii beginsWith splitOnce splitn sameCells eqs
 symbol-header = refl
 
 pub symbols-back :
-    (h : ObjectFile) (ls : List Label) → Distinct labelKey (byAddress ls) → All InLabel (byAddress ls) → All (λ m. atKey labelKey (m .name) (h .labels) ≡ none) (byAddress ls)
+    (h : ObjectFile) (ls : List Label) → Distinct labelKey (byAddress ls) → All TextLabel (byAddress ls) → All (λ m. atKey labelKey (m .name) (h .labels) ≡ none) (byAddress ls)
     → parseSymbolGroup h (symbolLines ls) ≡ given (withLabels h (upsertAll labelKey (map unplaced (byAddress ls)) (h .labels)))
 unfolding parseSymbolGroup
 symbols-back h [] d i f = unfold rowsUnder foldOutcome upsertAll in refl
@@ -193,7 +194,7 @@ index-lines (l ∷ ls) =
     ap (λ (r : List ℕ). textLine (labelHeader (labelWidth (l ∷ ls)) (indexWidth (l ∷ ls))) ++ r) (sym (flatMap-map textLine (labelRow (labelWidth (l ∷ ls)) (indexWidth (l ∷ ls))) (byStart (l ∷ ls))))
 
 pub indices-back :
-    (h : ObjectFile) (ls : List Label) → Distinct labelKey (byStart ls) → All InLabel (byStart ls) → All (λ m. atKey labelKey (m .name) (h .labels) ≡ some (unplaced m)) (byStart ls)
+    (h : ObjectFile) (ls : List Label) → Distinct labelKey (byStart ls) → All TextLabel (byStart ls) → All (λ m. atKey labelKey (m .name) (h .labels) ≡ some (unplaced m)) (byStart ls)
     → parseLabelTable h (indexLines ls) ≡ given (withLabels h (upsertAll labelKey (byStart ls) (h .labels)))
 unfolding parseLabelTable
 indices-back h [] d i f = unfold rowsUnder foldOutcome upsertAll in refl
@@ -202,11 +203,11 @@ indices-back h (l ∷ ls) d i f =
     (indices-through (labelWidth (l ∷ ls)) (indexWidth (l ∷ ls)) h (byStart (l ∷ ls)) d i f)
 
 -- relocations
-abbrev pub InRelocation : Relocation → Type 0
-InRelocation q = (q .address < 2 ^ 16) × GoodName (q .name)
+abbrev pub TextRelocation : Relocation → Type 0
+TextRelocation q = (q .address < 2 ^ 16) × GoodName (q .name)
 
 pub linker-through :
-    (h : ObjectFile) (rs : List Relocation) → All InRelocation rs → foldOutcome parseLinkerRow h (map linkerRow rs) ≡ given (withRelocations h (upsertAll relocationKey rs (h .relocations)))
+    (h : ObjectFile) (rs : List Relocation) → All TextRelocation rs → foldOutcome parseLinkerRow h (map linkerRow rs) ≡ given (withRelocations h (upsertAll relocationKey rs (h .relocations)))
 unfolding foldOutcome upsertAll putRecord
 linker-through h [] i = refl
 linker-through h (q ∷ rs) i =
@@ -225,7 +226,7 @@ linker-header : sameCells (map trim (splitn 1 linkerHeader)) (ascii "ADDR" ∷ a
 unfolding open-Utf8 isEmpty ascii beginsWith splitOnce splitn sameCells eqs
 linker-header = refl
 
-pub linker-back : (h : ObjectFile) (rs : List Relocation) → All InRelocation rs → parseLinkerGroup h (linkerLines rs) ≡ given (withRelocations h (upsertAll relocationKey rs (h .relocations)))
+pub linker-back : (h : ObjectFile) (rs : List Relocation) → All TextRelocation rs → parseLinkerGroup h (linkerLines rs) ≡ given (withRelocations h (upsertAll relocationKey rs (h .relocations)))
 unfolding parseLinkerGroup
 linker-back h [] i = unfold rowsUnder foldOutcome upsertAll in refl
 linker-back h (q ∷ rs) i =

@@ -15,8 +15,8 @@ use Rattle.format.proofs.ListFacts.{all-of, all-flatMap}
 use Rattle.format.proofs.NumeralBack.{Numeric, Full, hex-numeric, decimal-numeric, entry-numeric}
 use Rattle.format.proofs.LineLaws.{printable-line}
 use Rattle.format.proofs.RowLaws.{Ordinary, Starts, row-ordinary, printable-text, symbol-ordinary, linker-ordinary, index-ordinary, index-no-bar, entry-full, hex-full}
-use Rattle.format.proofs.BlockTrip.{InBlock, blockRows}
-use Rattle.format.proofs.LabelTrip.{InLabel, InRelocation, symbolLines, linkerLines, indexLines, LABEL-visible, INDEX-visible}
+use Rattle.format.proofs.BlockTrip.{TextBlock, blockRows}
+use Rattle.format.proofs.LabelTrip.{TextLabel, TextRelocation, symbolLines, linkerLines, indexLines, LABEL-visible, INDEX-visible}
 use Rattle.format.proofs.DebugTrip.{left-printable}
 use Rattle.format.proofs.FileLaws.{printable-by, EndsVisible}
 
@@ -44,22 +44,22 @@ header-no-bar : (names indices : ℕ) → isBar (labelHeader names indices) ≡ 
 unfolding ascii beginsWith
 header-no-bar names indices = refl
 
-pub symbols-ordinary : (ls : List Label) → All InLabel (byAddress ls) → All Ordinary (symbolLines ls)
+pub symbols-ordinary : (ls : List Label) → All TextLabel (byAddress ls) → All Ordinary (symbolLines ls)
 symbols-ordinary [] h = tt
 symbols-ordinary (l ∷ ls) h = (symbol-header, all-images Ordinary symbolRow (byAddress (l ∷ ls)) (all-map (λ m i. symbol-ordinary m (i .2)) (byAddress (l ∷ ls)) h))
 
-pub linkers-ordinary : (rs : List Relocation) → All InRelocation rs → All Ordinary (linkerLines rs)
+pub linkers-ordinary : (rs : List Relocation) → All TextRelocation rs → All Ordinary (linkerLines rs)
 linkers-ordinary [] h = tt
 linkers-ordinary (q ∷ rs) h = (linker-header, all-images Ordinary linkerRow (q ∷ rs) (all-map (λ m i. linker-ordinary m (i .1)) (q ∷ rs) h))
 
-pub indices-ordinary : (ls : List Label) → All InLabel (byStart ls) → All Ordinary (indexLines ls)
+pub indices-ordinary : (ls : List Label) → All TextLabel (byStart ls) → All Ordinary (indexLines ls)
 indices-ordinary [] h = tt
 indices-ordinary (l ∷ ls) h =
     let n : ℕ = labelWidth (l ∷ ls) in
     let w : ℕ = indexWidth (l ∷ ls) in
     (index-header n w, all-images Ordinary (labelRow n w) (byStart (l ∷ ls)) (all-map (λ m i. index-ordinary n w m (i .1) (i .2)) (byStart (l ∷ ls)) h))
 
-pub indices-no-bars : (ls : List Label) → All InLabel (byStart ls) → All (λ l. isBar l ≡ false) (indexLines ls)
+pub indices-no-bars : (ls : List Label) → All TextLabel (byStart ls) → All (λ l. isBar l ≡ false) (indexLines ls)
 indices-no-bars [] h = tt
 indices-no-bars (l ∷ ls) h =
     let n : ℕ = labelWidth (l ∷ ls) in
@@ -74,10 +74,10 @@ numeric-ends (b ∷ c ∷ bs) h f =
     let r = numeric-ends (c ∷ bs) (h .1) tt in
     (b ∷ r .0, r .1, mathlib.Core.Path.ap (λ (x : List ℕ). b ∷ x) (r .2), r .3)
 
-pub blocks-end : (bs : List Block) → All InBlock bs → All EndsVisible (flatMap blockRows bs)
+pub blocks-end : (bs : List Block) → All TextBlock bs → All EndsVisible (flatMap blockRows bs)
 blocks-end bs h = all-flatMap EndsVisible blockRows bs (all-map one bs h)
   where
-    one : (b : Block) → InBlock b → All EndsVisible (blockRows b)
+    one : (b : Block) → TextBlock b → All EndsVisible (blockRows b)
     one b i =
         let d = decimal-numeric (length (b .words)) (omega (arith, i .1)) in
         (numeric-ends (hex4 (b .address)) (hex-numeric (b .address)) (hex-full (b .address)), (numeric-ends (decimal (length (b .words))) (d .0) (d .1), all-images EndsVisible memoryText (b .words) (all-of (λ w. numeric-ends (memoryText w) (entry-numeric w) (entry-full w)) (b .words))))

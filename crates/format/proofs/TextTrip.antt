@@ -23,8 +23,8 @@ use Rattle.format.proofs.Utf8Laws.{Text, text-of}
 use Rattle.format.proofs.RowLaws.{good-name}
 use Rattle.format.proofs.RisesLaws.{reordered-sorted}
 use Rattle.format.proofs.OrderLaws.{distinct-front}
-use Rattle.format.proofs.BlockTrip.{InBlock, blockRows, blocks-back, blocks-ordinary, blocks-lines}
-use Rattle.format.proofs.LabelTrip.{InLabel, InRelocation, unplaced, symbolLines, symbol-lines, symbols-back, indexLines, index-lines, indices-back, linkerLines, linker-lines, linker-back, placing-known, labels-back}
+use Rattle.format.proofs.BlockTrip.{TextBlock, blockRows, blocks-back, blocks-ordinary, blocks-lines}
+use Rattle.format.proofs.LabelTrip.{TextLabel, TextRelocation, unplaced, symbolLines, symbol-lines, symbols-back, indexLines, index-lines, indices-back, linkerLines, linker-lines, linker-back, placing-known, labels-back}
 use Rattle.format.specs.Fair.{FairName, FairParts}
 use Rattle.format.proofs.Ranges.{WellFormed, InRange, Word16}
 use Rattle.format.proofs.FairLaws.{of-names, consistent-parts, fair-source, fair-blocks}
@@ -105,7 +105,7 @@ module _ (bs : List Block) (ls : List Label) (ms : List LineBlock) (s : List ℕ
       (whole-file (flatMap blockRows bs) (symbolLines ls) (linkerLines rs) (indexLines ls) (lineLines s ms))
 
   module _
-      (rb : Rises blockKey bs) (rl : Rises labelKey ls) (rr : Rises relocationKey rs) (ib : All InBlock bs) (il : All InLabel ls) (ir : All InRelocation rs) (x : Text s) (small : lineCount s ≤ 2 ^ 64)
+      (rb : Rises blockKey bs) (rl : Rises labelKey ls) (rr : Rises relocationKey rs) (ib : All TextBlock bs) (il : All TextLabel ls) (ir : All TextRelocation rs) (x : Text s) (small : lineCount s ≤ 2 ^ 64)
       (sp : Spaced 0 (lineCount s) ms) (iw : All (λ l. All (λ a. a < 2 ^ 16) (l .addresses)) ms) (nf : every (λ l. neverFall (l .addresses)) ms ≡ true) where
     distinct : Distinct labelKey ls
     distinct = rises-distinct labelKey ls rl
@@ -116,11 +116,11 @@ module _ (bs : List Block) (ls : List Label) (ms : List LineBlock) (s : List ℕ
     by-start : Reordered ls (byStart ls)
     by-start = reordered-sorted (λ m. m .start ∷ m .name) ls (distinct-front labelKey (λ m. m .start) ls distinct)
 
-    address-in : All InLabel (byAddress ls)
-    address-in = all-reordered InLabel by-address il
+    address-in : All TextLabel (byAddress ls)
+    address-in = all-reordered TextLabel by-address il
 
-    start-in : All InLabel (byStart ls)
-    start-in = all-reordered InLabel by-start il
+    start-in : All TextLabel (byStart ls)
+    start-in = all-reordered TextLabel by-start il
 
     abbrev h1 : ObjectFile
     h1 = record { blocks = bs; labels = []; lineBlocks = []; source = none; relocations = [] }
@@ -198,7 +198,7 @@ module _ (bs : List Block) where
       three : (a b c d : List ℕ) → a ++ b ++ c ++ d ≡ a ++ (b ++ (c ++ d))
       three a b c d = simp append-assoc
 
-  pub blocks-trip : Rises blockKey bs → All InBlock bs → textObject (textFile onlyBlocks) ≡ given onlyBlocks
+  pub blocks-trip : Rises blockKey bs → All TextBlock bs → textObject (textFile onlyBlocks) ≡ given onlyBlocks
   unfolding foldOutcome every dropStrayRelocations isSome isEmpty emptyObject atKey
   blocks-trip rb ib =
       let ob = blocks-ordinary bs ib in
@@ -210,19 +210,19 @@ module _ (bs : List Block) where
       ∙ text-path (flatMap textLine (title ∷ [] ∷ ascii ".TEXT" ∷ bl) ++ 0x0A ∷ []) (ascii ".TEXT" ∷ bl) ((ascii ".TEXT", bl) ∷ []) onlyBlocks (short-utf8 bl ob eb) (short-body bl ob eb) (short-parts bl ob eb) (rw r) refl
 
 -- the count is in range too, as the object is sound
-blocks-in : (bs : List Block) → All (λ b. (b .address < 2 ^ 16) × All Word16 (b .words)) bs → All (λ b. length (b .words) ≤ 65535) bs → All InBlock bs
+blocks-in : (bs : List Block) → All (λ b. (b .address < 2 ^ 16) × All Word16 (b .words)) bs → All (λ b. length (b .words) ≤ 65535) bs → All TextBlock bs
 blocks-in bs h e =
     all-map (λ b p. (p .0 .0, omega (arith, p .1), p .0 .1)) bs (all-both (λ b. (b .address < 2 ^ 16) × All Word16 (b .words)) (λ b. length (b .words) ≤ 65535) bs h e)
 
 -- and the names are fair UTF-8
 labels-in :
-    (ls : List Label) → All (λ l. (l .address < 2 ^ 16) × (l .start < 2 ^ 64)) ls → All (λ l. isUtf8 (l .name) ≡ true) ls → All (λ l. FairName (l .name)) ls → All InLabel ls
+    (ls : List Label) → All (λ l. (l .address < 2 ^ 16) × (l .start < 2 ^ 64)) ls → All (λ l. isUtf8 (l .name) ≡ true) ls → All (λ l. FairName (l .name)) ls → All TextLabel ls
 labels-in ls h u f =
     all-map (λ l p. (p .0 .0, p .0 .1, good-name (l .name) (p .1 .0) (p .1 .1))) ls
     (all-both (λ l. (l .address < 2 ^ 16) × (l .start < 2 ^ 64)) (λ l. (isUtf8 (l .name) ≡ true) × (FairName (l .name))) ls h (all-both (λ l. isUtf8 (l .name) ≡ true) (λ l. FairName (l .name)) ls u f))
 
 relocations-in :
-    (rs : List Relocation) → All (λ r. r .address < 2 ^ 16) rs → All (λ r. isUtf8 (r .name) ≡ true) rs → All (λ r. FairName (r .name)) rs → All InRelocation rs
+    (rs : List Relocation) → All (λ r. r .address < 2 ^ 16) rs → All (λ r. isUtf8 (r .name) ≡ true) rs → All (λ r. FairName (r .name)) rs → All TextRelocation rs
 relocations-in rs h u f =
     all-map (λ r p. (p .0, good-name (r .name) (p .1 .0) (p .1 .1))) rs
     (all-both (λ r. r .address < 2 ^ 16) (λ r. (isUtf8 (r .name) ≡ true) × (FairName (r .name))) rs h (all-both (λ r. isUtf8 (r .name) ≡ true) (λ r. FairName (r .name)) rs u f))
