@@ -119,7 +119,7 @@ labelTable (l ∷ ls) =
     let indices = indexWidth (l ∷ ls) in
     textLine (labelHeader names indices) ++ flatMap (λ m. textLine (labelRow names indices m)) (byStart (l ∷ ls))
 
--- .DEBUG, the line table. "`escape_default`: \t \r \n \' \" \\ so, x20 to x7E plain, else `\u{..}`, lower-case hex, no leading zeros", of a scalar value
+-- .DEBUG, the line table. "`escape_default`: \t \r \n \' \" \\ so, x20 to x7E plain, else `\u{..}`, lower-case hex, no leading zeros"
 unfoldable pub escapeChar : ℕ → List ℕ
 escapeChar c =
     if eqb c 0x09 then ascii "\\t"
