@@ -106,10 +106,6 @@ newlines-length (b ∷ bs) = let ih = newlines-length bs in go (eqb b 10) ih
     go true h = omega arith
     go false h = omega arith
 
-pub lines-small : (s : List ℕ) → length s < 2 ^ 64 → lineCount s ≤ 2 ^ 64
-unfolding lineCount
-lines-small s h = let l = newlines-length s in omega arith
-
 -- a row as it is read
 abbrev pub readRow : List ℕ → Row → Option ℕ × List ℕ
 readRow s r = (r .address, sourceCell s (r .number))

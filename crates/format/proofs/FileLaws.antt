@@ -164,10 +164,6 @@ ends-bar : barLine ≡ ascii "===================" ++ 0x3D ∷ []
 unfolding ascii
 ends-bar = refl
 
-title-shape : title ≡ 0x4C ∷ ascii "C-3 OBJ FILE"
-unfolding ascii
-title-shape = refl
-
 head-text : isHeader (ascii ".TEXT") ≡ true
 unfolding ascii beginsWith
 head-text = refl

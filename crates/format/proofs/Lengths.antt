@@ -1,23 +1,19 @@
--- The lengths of an object's words, binary file and text file: the same in every record order, and after its relocation addresses are
--- swapped. Assumes nothing.
+-- The length of a binary file is the same in every record order, and that of the words after relocation addresses are swapped.
+-- Assumes nothing.
 use mathlib.Core.Path.{_≡_, refl, sym, _∙_, ap}
-use mathlib.Core.Bool.{Bool, true, false, _&&_, not}
-use mathlib.Core.List.{List, [], _∷_, _++_, map, flatMap}
+use mathlib.Core.List.{List, _++_, map, flatMap}
 use Prim.Native.Nat.{ℕ}
 use native.Mathlib.Omega.{arith}
 use lib.ListN.{length, length-append}
-use Rattle.format.specs.Basics.{if_then_else_, isEmpty, ascii, isSome}
-use Rattle.format.specs.Digits.{digitsOf}
 use Rattle.format.specs.ObjectFile.{Label, Relocation, ObjectFile}
 use Rattle.format.specs.Records.{Record, block, label, lineBlock, relocation, recordsOf, sourceRecords}
 use Rattle.format.specs.Words.{recordWords, wordsOf}
 use Rattle.format.specs.Binary.{header, recordBytes, binaryFile}
-use Rattle.format.specs.TextWriter.{linkerRow, hex4, textLine, blockLines, linkerTable, blocksOnly, symbolGroups, textFile}
 use Rattle.format.specs.Calls.{Reordered, inOrder}
 use Rattle.format.specs.Trips.{swapRelocations, swapRelocation}
 use Rattle.format.proofs.ListLaws.{flatMap-length, flatMap-map, flatMap-reordered, reordered-map}
 use Rattle.format.proofs.Ranges.{WellFormed, InRange}
-use Rattle.format.proofs.SwapLaws.{anew, empty-same, swapped-length}
+use Rattle.format.proofs.SwapLaws.{anew, swapped-length}
 
 records-length :
     (f : Record → List ℕ) (h : ObjectFile) (ls : List Label) (rs : List Relocation) → length (flatMap f (map label ls)) ≡ length (flatMap f (map label (h .labels)))
@@ -49,47 +45,3 @@ module _ (h : ObjectFile) (w : WellFormed h) (r : InRange h) where
   pub swapped-words : length (wordsOf (swapRelocations h)) ≡ length (wordsOf h)
   unfolding wordsOf recordWords
   swapped-words = swapped-records recordWords (λ q. refl)
-
-  pub swapped-binary : length (binaryFile (swapRelocations h)) ≡ length (binaryFile h)
-  unfolding binaryFile recordBytes digitsOf
-  swapped-binary =
-      let e = swapped-records recordBytes (λ q. refl) in
-      omega (arith, length-append header (flatMap recordBytes (recordsOf (swapRelocations h))), length-append header (flatMap recordBytes (recordsOf h)))
-
-hex4-length : (v : ℕ) → length (hex4 v) ≡ 4
-unfolding hex4 digitsOf
-hex4-length v = refl
-
-linker-length : (xs ys : List Relocation) → isEmpty xs ≡ isEmpty ys → length (flatMap (λ q. textLine (linkerRow q)) xs) ≡ length (flatMap (λ q. textLine (linkerRow q)) ys) → length (linkerTable xs) ≡ length (linkerTable ys)
-unfolding linkerTable isEmpty
-linker-length [] [] e l = refl
-linker-length [] (y ∷ ys) e l = let z : _≡_ {A = ℕ} 0 1 = cc in absurd (omega arith)
-linker-length (x ∷ xs) [] e l = let z : _≡_ {A = ℕ} 0 1 = cc in absurd (omega arith)
-linker-length (x ∷ xs) (y ∷ ys) e l =
-    omega (arith, length-append (textLine (ascii "ADDR | LABEL")) (flatMap (λ q. textLine (linkerRow q)) (x ∷ xs)), length-append (textLine (ascii "ADDR | LABEL")) (flatMap (λ q. textLine (linkerRow q)) (y ∷ ys)))
-
-linker-row : (q : Relocation) → length (textLine (linkerRow (swapRelocation q))) ≡ length (textLine (linkerRow q))
-linker-row q = simp (length-append, hex4-length)
-
-module _ (h : ObjectFile) (t : List Relocation) where
-  groups-length : length (linkerTable t) ≡ length (linkerTable (h .relocations)) → length (symbolGroups (inOrder h (h .labels) t)) ≡ length (symbolGroups h)
-  unfolding symbolGroups
-  groups-length l = simp (length-append, l)
-
-  file-length :
-      isEmpty t ≡ isEmpty (h .relocations) → length (linkerTable t) ≡ length (linkerTable (h .relocations)) → length (textFile (inOrder h (h .labels) t)) ≡ length (textFile h)
-  unfolding textFile blocksOnly
-  file-length e l = rw e (pick (isEmpty (h .labels) && not (isSome (h .source)) && isEmpty (h .relocations)))
-    where
-      front : List ℕ
-      front = textLine (ascii "LC-3 OBJ FILE") ++ textLine [] ++ textLine (ascii ".TEXT") ++ flatMap blockLines (h .blocks) ++ textLine []
-
-      pick : (b : Bool) → length (front ++ (if b then [] else symbolGroups (inOrder h (h .labels) t))) ≡ length (front ++ (if b then [] else symbolGroups h))
-      pick true = refl
-      pick false = omega (arith, groups-length l, length-append front (symbolGroups (inOrder h (h .labels) t)), length-append front (symbolGroups h))
-
-module _ (h : ObjectFile) (w : WellFormed h) (r : InRange h) where
-  pub swapped-text : length (textFile (swapRelocations h)) ≡ length (textFile h)
-  unfolding swapRelocations
-  swapped-text =
-      file-length h (anew h) (empty-same h w r) (linker-length (anew h) (h .relocations) (empty-same h w r) (swapped-length h w r (λ q. textLine (linkerRow q)) linker-row))

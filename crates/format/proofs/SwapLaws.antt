@@ -8,7 +8,7 @@ use native.Mathlib.Omega.{arith}
 use native.Mathlib.Decide.{ℕ-discrete}
 use lib.Dec.{isEq}
 use lib.ListN.{length, length-append}
-use Rattle.format.specs.Basics.{if_then_else_, isEmpty, every, All}
+use Rattle.format.specs.Basics.{if_then_else_, every, All}
 use Rattle.format.specs.Sorted.{order, thenBy, atKey, sorted, upsertAll}
 use Rattle.format.proofs.SortedLaws.{eq-of-compare, order-self, Rises}
 use Rattle.format.proofs.GatherLaws.{Distinct, rises-distinct, sorted-back}
@@ -18,7 +18,7 @@ use Rattle.format.specs.Utf8.{isUtf8}
 use Rattle.format.specs.Fair.{FairName, FairParts, only-blocks, with-source}
 use Rattle.format.specs.Calls.{Reordered, chained}
 use Rattle.format.specs.Trips.{swapRelocations, swapRelocation, byteSwapped}
-use Rattle.format.proofs.ListLaws.{all-parts, all-append, all-map, all-reordered, every-append, every-reordered, empty-reordered, flatMap-reordered, reordered-map, reordered-back}
+use Rattle.format.proofs.ListLaws.{all-parts, all-append, all-map, all-reordered, every-append, every-reordered, flatMap-reordered, reordered-map, reordered-back}
 use Rattle.format.proofs.RisesLaws.{rises-sorted, reordered-sorted}
 use Rattle.format.proofs.Ranges.{WellFormed, InRange, InRelocation}
 
@@ -86,11 +86,6 @@ swap-ranges : (rs : List Relocation) → All InRelocation rs → All InRelocatio
 swap-ranges [] h = tt
 swap-ranges (r ∷ rs) h = let u = h .0 .0 in ((omega arith, h .0 .1), swap-ranges rs (h .1))
 
-swap-empty : (rs : List Relocation) → isEmpty (map swapRelocation rs) ≡ isEmpty rs
-unfolding isEmpty
-swap-empty [] = refl
-swap-empty (r ∷ rs) = refl
-
 swap-lengths :
     {B : Type 0} (f : Relocation → List B) → ((r : Relocation) → length (f (swapRelocation r)) ≡ length (f r)) → (rs : List Relocation)
     → length (flatMap f (map swapRelocation rs)) ≡ length (flatMap f rs)
@@ -120,9 +115,6 @@ module _ (h : ObjectFile) (w : WellFormed h) (r : InRange h) where
       let c = every-reordered p (reordered-map (λ (q : Relocation). q .name) swapped-order) in
       let d = ap (every p) (swap-names (h .relocations)) in
       a ∙ ap (λ (t : Bool). every p (map (λ l. l .name) (h .labels)) && t) (sym c ∙ d) ∙ sym b
-
-  pub empty-same : isEmpty (anew h) ≡ isEmpty (h .relocations)
-  empty-same = sym (empty-reordered swapped-order) ∙ swap-empty (h .relocations)
 
   pub swapped-consistent : consistent (swapRelocations h) ≡ consistent h
   unfolding consistent swapRelocations

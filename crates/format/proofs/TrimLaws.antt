@@ -92,11 +92,6 @@ pub start-first : (b : ℕ) (bs : List ℕ) → whiteSpaceLength (charAt (b ∷ 
 unfolding trimFrom
 start-first b bs h = rw h
 
-pub start-solid : (t : List ℕ) → Solid t → trimStart t ≡ t
-unfolding trimStart trimFrom
-start-solid [] h = refl
-start-solid (b ∷ bs) h = rw (h .0)
-
 pub start-spaces : (k : ℕ) (t : List ℕ) → trimStart (spaces k ++ t) ≡ trimStart t
 unfolding trimStart trimFrom charAt isWhiteSpace
 start-spaces zero t = refl
