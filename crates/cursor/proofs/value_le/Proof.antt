@@ -28,7 +28,8 @@ cast-b c = omega (arith, c .shared-slice-known .given (c .before .before .loop .
 small : (c : tie.After-shared-slice-known Inv-loop μ-loop) → c .before .before .loop .v < (2 ^ 8) ^ 7
 small c =
     rw (c .before .before .loop .inv .1)
-    (value-drop-lt 8 7 (now (c .before .before .before .args .s)) (c .before .before .loop .i) (λ k. c .shared-slice-known .given k .fits) (omega arith))
+    (value-drop-lt 8 7 (now (c .before .before .before .args .s)) (c .before .before .loop .i) (λ k. c .shared-slice-known .given k .fits)
+    (omega arith))
 
 mul-v : tie.Need-mul-v Inv-loop μ-loop
 mul-v c = omega (arith, small c)
