@@ -7,12 +7,12 @@ use native.Mathlib.Nat.{add-sub-cancel-left}
 use native.Mathlib.Numerals.{add-one}
 use native.Mathlib.Omega.{arith}
 use lib.ListN.{length, take, drop, getD, length-drop}
-use lib.Seq.{drop-cons}
+use lib.Seq.{drop-cons, drop-drop}
 use lib.Dec.{leb}
 use borrow.Author.Tests.{le-leb, lt-leb, leb-true, leb-false}
 use Rattle.format.specs.Basics.{if_then_else_}
 use Rattle.format.specs.Digits.{valueOf}
-use Rattle.format.specs.Binary.{numberAt, hasBytes}
+use Rattle.format.specs.Binary.{numberAt, bytesAt, hasBytes}
 use Rattle.format.proofs.ListLaws.{by-test}
 use Rattle.cursor.specs.Taken.{TakenNumber, TakenBytes, aNumber, noNumber, someBytes, noBytes, takeNumber, takeBytes}
 
@@ -22,6 +22,10 @@ has-rest n s at h =
     by-test (hasBytes (at + n) s)
     (λ t. let q = leb-true (at + n) (length s) t in t ∙ sym (le-leb n (length (drop at s)) (rw length-drop (omega arith))))
     (λ t. let q = leb-false (at + n) (length s) t in t ∙ sym (lt-leb n (length (drop at s)) (rw length-drop (omega arith))))
+
+-- and the bytes further on, so that what is taken there is what format's definitions read of the rest; a number is the value of its bytes
+pub bytes-rest : (n k : ℕ) (s : List ℕ) (at : ℕ) → bytesAt (at + k) n s ≡ bytesAt k n (drop at s)
+bytes-rest n k s at = ap (take n) (sym (drop-drop k at s))
 
 -- of an answer that is one of two, which have different numbers, by its number
 module _ {A : Type 0} (numberOf : A → ℕ) (test : Bool) (yes no : A) (r : A) (e : r ≡ (if test then yes else no)) where

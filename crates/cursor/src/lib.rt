@@ -65,6 +65,7 @@ impl Cursor {
         s.len() <= self.at
     }
 
+    // The next byte.
     pub fn take_u8(self, s: &[u8]) -> TookU8
         ensures { λ r. ⌜ taken8 r ≡ takeNumber 1 (now (s .entry)) (self .at) ⌝ }
     {
@@ -75,6 +76,7 @@ impl Cursor {
         TookU8::Value(s[at], Cursor { at: at + 1 })
     }
 
+    // The number in the next two bytes.
     pub fn take_u16(self, s: &[u8]) -> TookU16
         ensures { λ r. ⌜ taken16 r ≡ takeNumber 2 (now (s .entry)) (self .at) ⌝ }
     {
@@ -90,6 +92,7 @@ impl Cursor {
         TookU16::Value(v as u16, Cursor { at: end })
     }
 
+    // The number in the next eight bytes.
     pub fn take_u64(self, s: &[u8]) -> TookU64
         ensures { λ r. ⌜ taken64 r ≡ takeNumber 8 (now (s .entry)) (self .at) ⌝ }
     {

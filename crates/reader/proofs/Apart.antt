@@ -42,8 +42,8 @@ L κs = T′.the-laws (namedLft 1 0 tt κs)
 abbrev pub mach : Reader → Val
 mach d = T′.lowered d
 
-abbrev pub slice : Reader → Val
-slice d = sliceVal (d .src .ptr) (length (d .src .now))
+abbrev pub sliceOf : Reader → Val
+sliceOf d = sliceVal (d .src .ptr) (length (d .src .now))
 
 -- what the struct owns
 abbrev pub Own : Lft → Reader → Fml
@@ -61,7 +61,7 @@ module _ {M : Type 1} (𝓤 : URA M) (H : Heap 𝓤) (A : Atoms 𝓤) (W : Given
   Had = owns (B (κ, tt) ∷ X ∷ []) (d, (x, tt)) (mach d ∷ [], (xs, tt))
 
   abbrev Asked : Fml
-  Asked = owns (ShrSlice (named 0) κ u8 ∷ usize ∷ X ∷ []) (d .src, (d .at, (x, tt))) (slice d ∷ [], (vint w64 (d .at) ∷ [], (xs, tt)))
+  Asked = owns (ShrSlice (named 0) κ u8 ∷ usize ∷ X ∷ []) (d .src, (d .at, (x, tt))) (sliceOf d ∷ [], (vint w64 (d .at) ∷ [], (xs, tt)))
 
   -- the struct is Copy: what it owns is had twice, and one copy is kept whole for the exit
   pub apart : d .at < 2 ^ 64 → ent 𝓤 (sep 𝓤 token (sem 𝓤 H A Had)) (sep 𝓤 (sep 𝓤 token (sem 𝓤 H A Asked)) (sem 𝓤 H A (Own κ d)))

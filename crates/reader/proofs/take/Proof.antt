@@ -48,7 +48,7 @@ use Rattle.cursor.proofs.TookU64.Laws as S′
 use Rattle.reader.specs.declared.Reader.{Reader}
 use Rattle.reader.proofs.Reader as T
 use Rattle.reader.proofs.Reader.Laws as T′
-use Rattle.reader.proofs.Apart.{B, mach, slice, Own, apart, back}
+use Rattle.reader.proofs.Apart.{B, mach, sliceOf, Own, apart, back}
 use Rattle.reader.proofs.take_at as step
 use Rattle.reader.proofs.take_at.Symbol as step-def
 use Rattle.reader.proofs.take_at.Symbol.{name as #reader·take-at}
@@ -79,7 +79,7 @@ module _ {M : Type 1} (𝓤 : URA M) (H : Heap 𝓤) (A : Atoms 𝓤) (W : Given
 
   -- what the callee is passed
   abbrev passed : Vals step.signature (κ, tt)
-  passed = (slice d ∷ [], (vint w64 (d .at) ∷ [], (EL.vals N.the-type N′.the-laws w, tt)))
+  passed = (sliceOf d ∷ [], (vint w64 (d .at) ∷ [], (EL.vals N.the-type N′.the-laws w, tt)))
 
   abbrev to : Step 𝓤 H A mem run .Ghost
   to = (((κ, tt), (q, tt), tt, (d .src, (d .at, (w, tt))), passed), tt)

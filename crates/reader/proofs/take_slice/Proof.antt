@@ -45,7 +45,7 @@ use Rattle.cursor.proofs.TookBytes.Laws as S′
 use Rattle.reader.specs.declared.Reader.{Reader}
 use Rattle.reader.proofs.Reader as T
 use Rattle.reader.proofs.Reader.Laws as T′
-use Rattle.reader.proofs.Apart.{B, mach, slice, Own, apart, back}
+use Rattle.reader.proofs.Apart.{B, mach, sliceOf, Own, apart, back}
 use Rattle.reader.proofs.take_slice_at as step
 use Rattle.reader.proofs.take_slice_at.Symbol as step-def
 use Rattle.reader.proofs.take_slice_at.Symbol.{name as #reader·take-slice-at}
@@ -76,7 +76,7 @@ module _ {M : Type 1} (𝓤 : URA M) (H : Heap 𝓤) (A : Atoms 𝓤) (W : Given
 
   -- what the callee is passed
   abbrev passed : Vals step.signature (κ, tt)
-  passed = (slice d ∷ [], (vint w64 (d .at) ∷ [], (vint w64 n ∷ [], tt)))
+  passed = (sliceOf d ∷ [], (vint w64 (d .at) ∷ [], (vint w64 n ∷ [], tt)))
 
   abbrev to : Step 𝓤 H A mem run .Ghost
   to = (((κ, tt), (q, tt), tt, (d .src, (d .at, (n, tt))), passed), tt)
@@ -103,7 +103,8 @@ module _ {M : Type 1} (𝓤 : URA M) (H : Heap 𝓤) (A : Atoms 𝓤) (W : Given
   module _ (C : Calls 𝓤 H) (Λ : Loops 𝓤 H) (fm : FmC 𝓤 H (W .laws) C) (known : Triple 𝓤 (C #reader·take-slice-at) (Step 𝓤 H A mem run))
     where
       walk : Holds (hasTy (T′.mir (named 0)) (mach d)) × WT (mach d)
-          → ent 𝓤 (onEntry 𝓤 H A thin.signature (κ, tt) (q, tt) (d, (n, tt)) at) (WpFn 𝓤 H C Λ code.function (mach d ∷ vint w64 n ∷ []) Post)
+          → ent 𝓤 (onEntry 𝓤 H A thin.signature (κ, tt) (q, tt) (d, (n, tt)) at)
+          (WpFn 𝓤 H C Λ code.function (mach d ∷ vint w64 n ∷ []) Post)
       walk wt =
           qed W (raw (onEntry 𝓤 H A thin.signature (κ, tt) (q, tt) (d, (n, tt)) at) ∷ []) ∵ enter ! C Λ code.function
           (mach d ∷ vint w64 n ∷ []) _ $
