@@ -3,12 +3,10 @@
 use mathlib.Core.Path.{_≡_, refl, _∙_, ap}
 use mathlib.Core.Bool.{Bool, true, false, not}
 use mathlib.Core.List.{List, [], _∷_, _++_}
-use Prim.Native.Nat.{ℕ, zero, suc, _+_, _*_, _^_, _≤_, _<_}
-use native.Mathlib.Nat.{pow-zero, pow-suc, mul-suc, mul-comm, mul-le-mul-left}
+use Prim.Native.Nat.{ℕ, _+_, _*_, _^_, _≤_, _<_}
 use native.Mathlib.Omega.{arith}
 use lib.ListN.{length, take, drop, length-append, length-take, length-drop, take-append-drop}
 use lib.Seq.{take-append-le, drop-append-le}
-use lib.Pow.{pow-pos}
 use lib.Dec.{leb, ltb, eqb}
 use borrow.Author.Tests.{ltb-true, leb-true, le-leb}
 use Rattle.format.specs.Basics.{Outcome, refused, given, if_then_else_, chain, All, beginsWith}
@@ -20,6 +18,7 @@ use Rattle.format.specs.Binary.{numberAt, bytesAt, memoriesFrom, address
 use Rattle.format.specs.Words.{objectOf}
 use Rattle.format.specs.Calls.{readBinary}
 use Rattle.format.proofs.Laws.{AllBelow, source-from}
+use Rattle.format.proofs.DigitLaws.{below-take, value-lt}
 use Rattle.format.proofs.ListLaws.{both, all-parts, every-all, all-map}
 use Rattle.format.proofs.Utf8Laws.{text-of}
 use Rattle.format.proofs.Ranges.{In16, Word16, Bytes, WellFormed, InRange}
@@ -27,26 +26,13 @@ use Rattle.format.proofs.BinaryBack.{block-from, label-from, lines-from
 use Rattle.format.proofs.Outcomes.{by-if, Gives, gives-ask, gives, gives-bind, gives-map, tokens-gives}
 use Rattle.format.proofs.Invariants.{Sound, Whole, words-formed, empty-formed, gather-formed, concluded-formed}
 
--- the value of at most n digits is below the base to the n
-digit-below : (d v b p : ℕ) → d < b → v < p → d + b * v < p * b
-digit-below d v b p h l = let m : b * suc v ≤ b * p = mul-le-mul-left b l in omega (arith, mul-suc b v, mul-comm p b)
-
-value-below : (k n : ℕ) (ds : List ℕ) → AllBelow (2 ^ k) ds → valueOf k (take n ds) < (2 ^ k) ^ n
-unfolding valueOf
-value-below k zero ds h = rw pow-zero (omega arith)
-value-below k (suc n) [] h =
-    let l = digit-below 0 (valueOf k (take n [])) (2 ^ k) ((2 ^ k) ^ n) (pow-pos k) (value-below k n [] tt) in
-    rw pow-suc (omega arith)
-value-below k (suc n) (d ∷ ds) h =
-    rw pow-suc (digit-below d (valueOf k (take n ds)) (2 ^ k) ((2 ^ k) ^ n) (h .0) (value-below k n ds (h .1)))
-
 memories-below : (bs : List ℕ) → Bytes bs → All Word16 (memoriesFrom bs)
 unfolding memoriesFrom
 memories-below [] h = tt
 memories-below (f ∷ []) h = tt
 memories-below (f ∷ a ∷ []) h = tt
 memories-below (f ∷ a ∷ b ∷ bs) h =
-    let v = value-below 8 2 (a ∷ b ∷ []) (h .1 .0, (h .1 .1 .0, tt)) in
+    let v = value-lt 8 2 (a ∷ b ∷ []) (h .1 .0, (h .1 .1 .0, tt)) (omega arith) in
     (by-if Word16 (eqb f 0xFF) _ _ (λ _. v) (λ _. tt), memories-below bs (h .1 .1 .1))
 
 memories-length : (bs : List ℕ) → 3 * length (memoriesFrom bs) ≤ length bs
@@ -60,7 +46,7 @@ addresses-below : (bs : List ℕ) → Bytes bs → All In16 (addressesFrom bs)
 unfolding addressesFrom
 addresses-below [] h = tt
 addresses-below (a ∷ []) h = tt
-addresses-below (a ∷ b ∷ bs) h = (value-below 8 2 (a ∷ b ∷ []) (h .0, (h .1 .0, tt)), addresses-below bs (h .1 .1))
+addresses-below (a ∷ b ∷ bs) h = (value-lt 8 2 (a ∷ b ∷ []) (h .0, (h .1 .0, tt)) (omega arith), addresses-below bs (h .1 .1))
 
 -- what rises strictly never falls
 rise-never-fall : (ns : List ℕ) → strictlyRise ns ≡ true → neverFall ns ≡ true
@@ -78,9 +64,6 @@ NeverFalls l = neverFall (l .addresses) ≡ true
 pub bytes-drop : (n : ℕ) (bs : List ℕ) → Bytes bs → Bytes (drop n bs)
 bytes-drop n bs h = all-parts (λ b. b < 2 ^ 8) (take n bs) (drop n bs) (rw (take-append-drop n bs) h) .1
 
-bytes-take : (n : ℕ) (bs : List ℕ) → Bytes bs → Bytes (take n bs)
-bytes-take n bs h = all-parts (λ b. b < 2 ^ 8) (take n bs) (drop n bs) (rw (take-append-drop n bs) h) .0
-
 -- the bytes of a record after its kind byte, and what comes after them
 module _ (bs ys : List ℕ) where
   abbrev pub ReadWhole : (List ℕ → Outcome (Record × ℕ)) → Record × ℕ → Type 0
@@ -96,11 +79,11 @@ module _ (bs ys : List ℕ) where
   number-stays : (at n : ℕ) → at + n ≤ length bs → numberAt at n (bs ++ ys) ≡ numberAt at n bs
   number-stays at n h = ap (valueOf 8) (bytes-stay at n h)
 
-  number-below : (at n : ℕ) → Bytes bs → numberAt at n bs < (2 ^ 8) ^ n
-  number-below at n b = value-below 8 n (drop at bs) (bytes-drop at bs b)
-
   bytes-below : (at n : ℕ) → Bytes bs → Bytes (bytesAt at n bs)
-  bytes-below at n b = bytes-take n (drop at bs) (bytes-drop at bs b)
+  bytes-below at n b = below-take (2 ^ 8) n (drop at bs) (bytes-drop at bs b)
+
+  number-below : (at n : ℕ) → Bytes bs → numberAt at n bs < (2 ^ 8) ^ n
+  number-below at n b = value-lt 8 n (bytesAt at n bs) (bytes-below at n b) (rw length-take (omega arith))
 
   block-read : Gives (ReadWhole blockFrom) (blockFrom bs)
   unfolding blockFrom
