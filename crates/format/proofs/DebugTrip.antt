@@ -16,7 +16,7 @@ use Rattle.format.specs.Source.{lineCount, newlines}
 use Rattle.format.specs.TextWriter.{lineRow, lineHeader, lineWidth, textLine, tableDiv, spaces, toLeft, Row, addBlocks, lineRows, sourceCell, lineTable as lineText, lineRow}
 use Rattle.format.specs.TextReader.{splitn, sameCells, rowsUnder, parseLabelTable, parseLineRows, runsFrom, unescape, parseLineTable, isBar, splitAtBar, upToBar, parseDebugGroup}
 use Rattle.format.proofs.ListLaws.{both, all-append, flatMap-map}
-use Rattle.format.proofs.NumeralBack.{Full}
+use Rattle.format.proofs.NumeralBack.{full-of}
 use Rattle.format.proofs.Utf8Laws.{Text, text-append}
 use Rattle.format.proofs.TrimLaws.{Visible, visible-solid, trim-solid}
 use Rattle.format.proofs.EscapeLaws.{Printable}
@@ -174,10 +174,6 @@ module _ (s : List ℕ) (ls : List LineBlock) where
     lines-ordinary = (header-ordinary (lineWidth (lineRows s ls)), rows-ordinary (lineWidth (lineRows s ls)) 0 (lineRows s ls) (numbered (lineWidth (lineRows s ls))))
 
 -- fair line blocks are laid out with gaps
-full-of : (xs : List ℕ) → 1 ≤ length xs → Full xs
-full-of [] h = absurd (omega arith)
-full-of (x ∷ xs) h = tt
-
 abbrev pub firstOf : List LineBlock → List LineBlock
 firstOf [] = []
 firstOf (l ∷ ls) = l ∷ []

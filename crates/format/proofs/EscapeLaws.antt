@@ -3,47 +3,25 @@ use mathlib.Core.Path.{_≡_, refl, sym, _∙_, ap, subst}
 use mathlib.Core.Bool.{Bool, true, false, _&&_}
 use mathlib.Core.List.{List, [], _∷_, _++_, map, append-assoc, flatMap}
 use mathlib.Core.Option.{some}
-use Prim.Native.Nat.{ℕ, zero, suc, _+_, _*_, _/_, _%_, _^_, _≤_, _<_}
-use native.Mathlib.Nat.{pow-suc, pow-zero, div-lt-iff-lt-mul, mod-lt}
+use Prim.Native.Nat.{ℕ, _+_, _≤_, _<_}
 use native.Mathlib.Omega.{arith}
 use lib.ListN.{length, take, drop, length-append}
 use lib.Seq.{take-append-seam, drop-at}
-use lib.Dec.{ltb, leb, eqb}
-use borrow.Author.Tests.{ltb-true, leb-true, lt-ltb, le-leb, eqb-true}
+use lib.Dec.{leb, eqb}
+use borrow.Author.Tests.{leb-true, lt-ltb, le-leb, eqb-true}
 use Rattle.format.specs.Basics.{given, _>>=_, if_then_else_, ascii, beginsWith, All, isSome}
 use Rattle.format.specs.Tokens.{tokens}
 use Rattle.format.specs.Utf8.{isBetween, encodeScalar}
-use Rattle.format.specs.TextWriter.{lowerDigit, numeral, escapeChar, escape}
+use Rattle.format.specs.TextWriter.{numeral, escapeChar, escape}
 use Rattle.format.specs.TextReader.{digitValue, digitsFrom, hexDigits, unicodeEscape, afterBackslash, unescapeAt, unescape}
 use Rattle.format.proofs.Laws.{tokens-step}
 use Rattle.format.proofs.NumeralLaws.{digit-lower, numeral-back}
 use Rattle.format.proofs.ListFacts.{and-left, and-right, all-flatMap}
 use Rattle.format.proofs.ListLaws.{all-append, all-map, flatMap-map}
-use Rattle.format.proofs.NumeralBack.{lower-numeric}
+use Rattle.format.proofs.NumeralBack.{numeral-all, lower-numeric}
 use Rattle.format.proofs.Utf8Laws.{Scalar, scalar-bound, Text, scalars-of}
 
 -- a property of digits holds of the bytes of a numeral
-pub numeral-all :
-    (P : ℕ → Type 0) (base : ℕ) → 2 ≤ base → ((d : ℕ) → d < base → P (lowerDigit d)) → (k n : ℕ) (ds : List ℕ) → n < base ^ suc k → All P ds
-    → All P (numeral k base n ds) × (1 ≤ length (numeral k base n ds)) × (length (numeral k base n ds) ≤ suc k + length ds)
-unfolding numeral
-numeral-all P base h2 f zero n ds h a =
-    let b : n < base = subst (λ (m : ℕ). n < m) (pow-suc base 0 ∙ ap (λ (m : ℕ). m * base) (pow-zero base) ∙ omega arith) h in
-    ((f n b, a), omega arith, omega arith)
-numeral-all P base h2 f (suc k) n ds h a = go (ltb n base) refl (numeral-all P base h2 f k (n / base) (lowerDigit (n % base) ∷ ds) small (f (n % base) (mod-lt n (omega arith)), a))
-  where
-    small : n / base < base ^ suc k
-    small = let pos : 0 < base = omega arith in div-lt-iff-lt-mul pos .1 (subst (λ (m : ℕ). n < m) (pow-suc base (suc k)) h)
-
-    more : List ℕ
-    more = numeral k base (n / base) (lowerDigit (n % base) ∷ ds)
-
-    go : (t : Bool) → ltb n base ≡ t
-        → All P more × (1 ≤ length more) × (length more ≤ suc k + suc (length ds))
-        → All P (if t then lowerDigit n ∷ ds else more) × (1 ≤ length (if t then lowerDigit n ∷ ds else more)) × (length (if t then lowerDigit n ∷ ds else more) ≤ suc (suc k) + length ds)
-    go true e ih = ((f n (ltb-true n base e), a), omega arith, omega arith)
-    go false e ih = (ih .0, ih .1, omega (arith, ih .2))
-
 abbrev HexDigit : ℕ → Type 0
 HexDigit b = isSome (digitValue 16 b) ≡ true
 

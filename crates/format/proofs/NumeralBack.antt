@@ -6,6 +6,7 @@ use mathlib.Core.Option.{Option, none, some}
 use Prim.Native.Nat.{ℕ, zero, suc, _+_, _-_, _*_, _/_, _%_, _^_, _≤_, _<_}
 use native.Mathlib.Nat.{pow-suc, pow-zero, div-lt-iff-lt-mul, mod-lt}
 use native.Mathlib.Omega.{arith}
+use lib.ListN.{length}
 use lib.Dec.{ltb, eqb}
 use borrow.Author.Tests.{ltb-true, ltb-false, lt-ltb, le-leb, lt-leb, ne-eqb}
 use Rattle.format.specs.Basics.{if_then_else_, isEmpty, ascii, eqs, All}
@@ -33,19 +34,19 @@ upper-digit d hd = go (ltb d 10) refl
         let s : 55 + d - 55 ≡ d = omega arith in
         rw (le-leb 48 (55 + d) (omega arith), lt-leb (55 + d) 57 (omega arith), le-leb 65 (55 + d) (omega arith), le-leb (55 + d) 70 (omega arith), s, lt-ltb d 16 hd)
 
-pub upper-numeric : (d : ℕ) → d < 16 → Numeric (upperDigit d)
-upper-numeric d hd = go (ltb d 10) refl
+-- of either case
+digit-numeric : (letter d : ℕ) → 38 ≤ letter → letter ≤ 87 → d < 16 → Numeric (if ltb d 10 then 48 + d else letter + d)
+digit-numeric letter d h k hd = go (ltb d 10) refl
   where
-    go : (t : Bool) → ltb d 10 ≡ t → Numeric (if t then 48 + d else 55 + d)
-    go true e = let h : d < 10 = ltb-true d 10 e in (omega arith, omega arith)
-    go false e = (omega arith, omega arith)
+    go : (t : Bool) → ltb d 10 ≡ t → Numeric (if t then 48 + d else letter + d)
+    go true e = let l : d < 10 = ltb-true d 10 e in (omega arith, omega arith)
+    go false e = let l : 10 ≤ d = ltb-false d 10 e in (omega arith, omega arith)
+
+upper-numeric : (d : ℕ) → d < 16 → Numeric (upperDigit d)
+upper-numeric d hd = digit-numeric 55 d (omega arith) (omega arith) hd
 
 pub lower-numeric : (d : ℕ) → d < 16 → Numeric (lowerDigit d)
-lower-numeric d hd = go (ltb d 10) refl
-  where
-    go : (t : Bool) → ltb d 10 ≡ t → Numeric (if t then 48 + d else 87 + d)
-    go true e = let h : d < 10 = ltb-true d 10 e in (omega arith, omega arith)
-    go false e = (omega arith, omega arith)
+lower-numeric d hd = digit-numeric 87 d (omega arith) (omega arith) hd
 
 four-digits :
     (a b c d x y z w : ℕ) → Numeric a → digitValue 16 a ≡ some x → digitValue 16 b ≡ some y → digitValue 16 c ≡ some z → digitValue 16 d ≡ some w
@@ -81,26 +82,31 @@ abbrev pub Full : List ℕ → Type 0
 Full [] = ⊥
 Full (b ∷ bs) = Unit {0}
 
-pub numeral-numeric :
-    (base : ℕ) → base ≤ 16 → 2 ≤ base → (k n : ℕ) (ds : List ℕ) → n < base ^ suc k → All Numeric ds
-    → All Numeric (numeral k base n ds) × Full (numeral k base n ds)
+-- what holds of every digit holds of a numeral's bytes, of which there is one at least
+pub numeral-all :
+    (P : ℕ → Type 0) (base : ℕ) → 2 ≤ base → ((d : ℕ) → d < base → P (lowerDigit d)) → (k n : ℕ) (ds : List ℕ) → n < base ^ suc k → All P ds
+    → All P (numeral k base n ds) × (1 ≤ length (numeral k base n ds)) × (length (numeral k base n ds) ≤ suc k + length ds)
 unfolding numeral
-numeral-numeric base hb h2 zero n ds h a =
+numeral-all P base h2 f zero n ds h a =
     let b : n < base = subst (λ (m : ℕ). n < m) (pow-suc base 0 ∙ ap (λ (m : ℕ). m * base) (pow-zero base) ∙ omega arith) h in
-    ((lower-numeric n (omega arith), a), tt)
-numeral-numeric base hb h2 (suc k) n ds h a = go (ltb n base) refl (numeral-numeric base hb h2 k (n / base) (lowerDigit (n % base) ∷ ds) small (low, a))
+    ((f n b, a), omega arith, omega arith)
+numeral-all P base h2 f (suc k) n ds h a = go (ltb n base) refl (numeral-all P base h2 f k (n / base) (lowerDigit (n % base) ∷ ds) small (f (n % base) (mod-lt n (omega arith)), a))
   where
     small : n / base < base ^ suc k
     small = let pos : 0 < base = omega arith in div-lt-iff-lt-mul pos .1 (subst (λ (m : ℕ). n < m) (pow-suc base (suc k)) h)
 
-    low : Numeric (lowerDigit (n % base))
-    low = let m : n % base < base = mod-lt n (omega arith) in lower-numeric (n % base) (omega arith)
+    more : List ℕ
+    more = numeral k base (n / base) (lowerDigit (n % base) ∷ ds)
 
     go : (t : Bool) → ltb n base ≡ t
-        → All Numeric (numeral k base (n / base) (lowerDigit (n % base) ∷ ds)) × Full (numeral k base (n / base) (lowerDigit (n % base) ∷ ds))
-        → All Numeric (if t then lowerDigit n ∷ ds else numeral k base (n / base) (lowerDigit (n % base) ∷ ds)) × Full (if t then lowerDigit n ∷ ds else numeral k base (n / base) (lowerDigit (n % base) ∷ ds))
-    go true e ih = let b : n < base = ltb-true n base e in ((lower-numeric n (omega arith), a), tt)
-    go false e ih = ih
+        → All P more × (1 ≤ length more) × (length more ≤ suc k + suc (length ds))
+        → All P (if t then lowerDigit n ∷ ds else more) × (1 ≤ length (if t then lowerDigit n ∷ ds else more)) × (length (if t then lowerDigit n ∷ ds else more) ≤ suc (suc k) + length ds)
+    go true e ih = ((f n (ltb-true n base e), a), omega arith, omega arith)
+    go false e ih = (ih .0, ih .1, omega (arith, ih .2))
+
+pub full-of : (ds : List ℕ) → 1 ≤ length ds → Full ds
+full-of [] h = absurd (omega arith)
+full-of (d ∷ ds) h = tt
 
 -- a numeral without a sign, of a number below the limit
 pub number-in :
@@ -111,7 +117,9 @@ number-in base limit n (b ∷ bs) a f e l = rw (ne-eqb b 0x2B (λ q. omega (arit
 
 pub decimal-numeric : (n : ℕ) → n < 2 ^ 64 → All Numeric (decimal n) × Full (decimal n)
 unfolding decimal
-decimal-numeric n h = numeral-numeric 10 (omega arith) (omega arith) 19 n [] (omega arith) tt
+decimal-numeric n h =
+    let r = numeral-all Numeric 10 (omega arith) (λ d k. lower-numeric d (omega arith)) 19 n [] (omega arith) tt in
+    (r .0, full-of (decimal n) (r .1))
 
 pub decimal-back : (limit n : ℕ) → n < 2 ^ 64 → n < limit → parseDecimal limit (decimal n) ≡ some n
 unfolding decimal digitsFrom
