@@ -8,8 +8,8 @@ use Prim.Native.Nat.{ℕ, zero, suc, _+_, _-_, _/_, _%_, _^_, _≤_, _<_}
 use native.Mathlib.Omega.{arith}
 use lib.ListN.{length, take, drop, getD, length-append, take-append-drop}
 use lib.Seq.{append-snoc, drop-drop}
-use lib.Dec.{ltb, eqb}
-use borrow.Author.Tests.{ltb-true, lt-ltb, eqb-true}
+use lib.Dec.{eqb}
+use borrow.Author.Tests.{lt-ltb, eqb-true}
 use Rattle.format.specs.Basics.{Outcome, given, _>>=_, if_then_else_, andThen, isSome, isEmpty, ascii, keep, beginsWith, All}
 use Rattle.format.specs.Tokens.{tokens}
 use Rattle.format.specs.Utf8.{isBetween, isScalar, encodeScalar, charAt, scalars, isUtf8, isWhiteSpace, whiteSpaceLength, passOver, trimFrom, trimStart, isBlank, trimEnd, trim}
@@ -18,7 +18,7 @@ use Rattle.format.proofs.ListLaws.{both, all-map}
 use Rattle.format.proofs.ListFacts.{all-flatMap}
 use Rattle.format.proofs.Outcomes.{by-if, by-option, Gives, Holds, gives-bind, gives-ask, holds-then}
 use Rattle.format.proofs.Ranges.{Bytes}
-use Rattle.format.proofs.Utf8Laws.{Scalar, Text, scalar-bound, char-middle, char-reads, scalars-char, text-of, text-utf8, text-append, text-ascii}
+use Rattle.format.proofs.Utf8Laws.{Scalar, Text, by-size, scalar-bound, char-middle, char-reads, scalars-char, text-of, text-utf8, text-append, text-ascii}
 
 -- a byte 10xxxxxx
 abbrev Follower : ℕ → Type 0
@@ -29,21 +29,11 @@ abbrev Shape : List ℕ → Type 0
 Shape e = (x : ℕ) × (ys : List ℕ) × (e ≡ x ∷ ys) × (x < 2 ^ 8) × All Follower ys
 
 char-shape : (c : ℕ) → Scalar c → Shape (encodeScalar c)
-unfolding encodeScalar
 char-shape c s =
-    by-if Shape (ltb c 0x80) _ _ (λ e. let l = ltb-true c 0x80 e in (c, [], refl, omega arith, tt))
-    (λ _. by-if Shape (ltb c 0x800) _ _
-    (λ e. let l = ltb-true c 0x800 e in (0xC0 + c / 64, (0x80 + c % 64) ∷ [], refl, omega arith, (low c, tt)))
-    (λ _. by-if Shape (ltb c 0x10000) _ _
-    (λ e. let l = ltb-true c 0x10000 e in
-    (0xE0 + c / 4096, (0x80 + c / 64 % 64) ∷ (0x80 + c % 64) ∷ [], refl, omega arith, (low (c / 64), (low c, tt))))
-    (λ _. let l = scalar-bound c s in (
-      0xF0 + c / 262144,
-      (0x80 + c / 4096 % 64) ∷ (0x80 + c / 64 % 64) ∷ (0x80 + c % 64) ∷ [],
-      refl,
-      omega arith,
-      (low (c / 4096), (low (c / 64), (low c, tt))),
-    ))))
+    let bound = scalar-bound c s in
+    by-size Shape c (λ l. (c, [], refl, omega arith, tt)) (λ _ l. (0xC0 + c / 64, (0x80 + c % 64) ∷ [], refl, omega arith, (low c, tt)))
+    (λ _ l. (0xE0 + c / 4096, (0x80 + c / 64 % 64) ∷ (0x80 + c % 64) ∷ [], refl, omega arith, (low (c / 64), (low c, tt))))
+    (λ l. (0xF0 + c / 262144, _, refl, omega arith, (low (c / 4096), (low (c / 64), (low c, tt)))))
   where
     low : (d : ℕ) → Follower (0x80 + d % 64)
     low d = (omega arith, omega arith)

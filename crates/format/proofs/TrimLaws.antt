@@ -6,15 +6,14 @@ use mathlib.Core.Option.{Option, none, some}
 use Prim.Native.Nat.{ℕ, zero, suc, _+_, _/_, _%_, _≤_, _<_}
 use native.Mathlib.Omega.{arith}
 use lib.ListN.{length, replicate}
-use lib.Dec.{ltb}
-use borrow.Author.Tests.{ltb-true, ltb-false, le-leb, lt-leb, ne-eqb, not-true}
+use borrow.Author.Tests.{le-leb, lt-leb, ne-eqb, not-true}
 use Rattle.format.specs.Basics.{if_then_else_, isEmpty, every, All}
 use Rattle.format.specs.Utf8.{encodeScalar, charAt, scalars, isWhiteSpace, whiteSpaceLength, passOver, trimFrom, trimStart, isBlank, trimEnd, trim}
 use Rattle.format.specs.Fair.{noWhiteSpace}
 use Rattle.format.specs.TextWriter.{spaces}
 use Rattle.format.proofs.ListLaws.{all-every}
 use Rattle.format.proofs.NumeralBack.{Numeric}
-use Rattle.format.proofs.Utf8Laws.{Scalar, Text, char-ascii, char-one, char-middle, char-2, char-3, char-4, char-reads, scalars-of}
+use Rattle.format.proofs.Utf8Laws.{Scalar, Text, by-size, char-ascii, char-one, char-middle, char-2, char-3, char-4, char-reads, scalars-of}
 use Rattle.format.proofs.TextLaws.{OneLine}
 
 -- no White_Space begins at any byte
@@ -48,20 +47,20 @@ numeric-visible (b ∷ bs) h = ((omega (arith, h .0 .0), omega (arith, h .0 .1))
 -- names
 module _ (c : ℕ) (rest : List ℕ) (s : Scalar c) (w : isWhiteSpace c ≡ false) where
   pub solid-char : Solid rest → Solid (encodeScalar c ++ rest)
-  unfolding encodeScalar
-  solid-char h = go (ltb c 0x80) refl (ltb c 0x800) refl (ltb c 0x10000) refl
+  solid-char h =
+      by-size (λ e. Solid (e ++ rest)) c (λ l. (rw (char-one c rest l, w), h))
+      (λ k l. (rw (char-2 c rest s k l, w), (middle c rest, h)))
+      (λ k l. (rw (char-3 c rest s k l, w), (middle (c / 64) ((0x80 + c % 64) ∷ rest), (middle c rest, h))))
+      (λ k. (
+        rw (char-4 c rest s k, w),
+        (
+          middle (c / 4096) ((0x80 + c / 64 % 64) ∷ (0x80 + c % 64) ∷ rest),
+          (middle (c / 64) ((0x80 + c % 64) ∷ rest), (middle c rest, h)),
+        ),
+      ))
     where
-      middle : (d : ℕ) (bs : List ℕ) → d < 64 → whiteSpaceLength (charAt ((0x80 + d) ∷ bs)) ≡ 0
-      middle d bs l = rw (char-middle (0x80 + d) bs (omega arith) (omega arith))
-
-      go : (t : Bool) → ltb c 0x80 ≡ t → (u : Bool) → ltb c 0x800 ≡ u → (v : Bool) → ltb c 0x10000 ≡ v
-          → Solid ((if t then c ∷ [] else if u then (0xC0 + c / 64) ∷ (0x80 + c % 64) ∷ [] else if v then (0xE0 + c / 4096) ∷ (0x80 + c / 64 % 64) ∷ (0x80 + c % 64) ∷ [] else (0xF0 + c / 262144) ∷ (0x80 + c / 4096 % 64) ∷ (0x80 + c / 64 % 64) ∷ (0x80 + c % 64) ∷ []) ++ rest)
-      go true e u f v g = (rw (char-one c rest (ltb-true c 0x80 e), w), h)
-      go false e true f v g = (rw (char-2 c rest s (ltb-false c 0x80 e) (ltb-true c 0x800 f), w), (middle (c % 64) rest (omega arith), h))
-      go false e false f true g =
-          (rw (char-3 c rest s (ltb-false c 0x800 f) (ltb-true c 0x10000 g), w), (middle (c / 64 % 64) ((0x80 + c % 64) ∷ rest) (omega arith), (middle (c % 64) rest (omega arith), h)))
-      go false e false f false g =
-          (rw (char-4 c rest s (ltb-false c 0x10000 g), w), (middle (c / 4096 % 64) ((0x80 + c / 64 % 64) ∷ (0x80 + c % 64) ∷ rest) (omega arith), (middle (c / 64 % 64) ((0x80 + c % 64) ∷ rest) (omega arith), (middle (c % 64) rest (omega arith), h))))
+      middle : (d : ℕ) (bs : List ℕ) → whiteSpaceLength (charAt ((0x80 + d % 64) ∷ bs)) ≡ 0
+      middle d bs = rw (char-middle (0x80 + d % 64) bs (omega arith) (omega arith))
 
 solid-flatMap : (cs : List ℕ) → All Scalar cs → All (λ c. not (isWhiteSpace c) ≡ true) cs → Solid (flatMap encodeScalar cs)
 unfolding flatMap

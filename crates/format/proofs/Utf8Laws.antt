@@ -12,6 +12,7 @@ use borrow.Author.Tests.{ltb-true, ltb-false, leb-true, lt-ltb, le-ltb, le-leb, 
 use Rattle.format.specs.Basics.{if_then_else_, andThen, isSome, All}
 use Rattle.format.specs.Utf8.{isBetween, isScalar, encodeScalar, follow, shortestForm, charAt, scalarsFrom, scalars, isUtf8}
 use Rattle.format.proofs.ListFacts.{and-left, and-right}
+use Rattle.format.proofs.Outcomes.{by-if}
 use Rattle.format.proofs.ListLaws.{all-append, flatMap-append}
 
 abbrev pub Scalar : ℕ → Type 0
@@ -24,6 +25,18 @@ scalar-bound c h = go (ltb c 0xD800) refl h
     go : (t : Bool) → ltb c 0xD800 ≡ t → t || isBetween 0xE000 0x10FFFF c ≡ true → c < 0x110000
     go true e h = let l = ltb-true c 0xD800 e in omega arith
     go false e h = let l = leb-true c 0x10FFFF (and-right (leb 0xE000 c) (leb c 0x10FFFF) h) in omega arith
+
+-- by how many bytes a scalar value has
+pub by-size :
+    (P : List ℕ → Type 0) (c : ℕ) → (c < 0x80 → P (c ∷ [])) → (0x80 ≤ c → c < 0x800 → P ((0xC0 + c / 2 ^ 6) ∷ (0x80 + c % 2 ^ 6) ∷ []))
+    → (0x800 ≤ c → c < 0x10000 → P ((0xE0 + c / 2 ^ 12) ∷ (0x80 + c / 2 ^ 6 % 2 ^ 6) ∷ (0x80 + c % 2 ^ 6) ∷ []))
+    → (0x10000 ≤ c → P ((0xF0 + c / 2 ^ 18) ∷ (0x80 + c / 2 ^ 12 % 2 ^ 6) ∷ (0x80 + c / 2 ^ 6 % 2 ^ 6) ∷ (0x80 + c % 2 ^ 6) ∷ []))
+    → P (encodeScalar c)
+unfolding encodeScalar
+by-size P c one two three four =
+    by-if P (ltb c 0x80) _ _ (λ e. one (ltb-true c 0x80 e)) λ e.
+    by-if P (ltb c 0x800) _ _ (λ f. two (ltb-false c 0x80 e) (ltb-true c 0x800 f)) λ f.
+    by-if P (ltb c 0x10000) _ _ (λ g. three (ltb-false c 0x800 f) (ltb-true c 0x10000 g)) λ g. four (ltb-false c 0x10000 g)
 
 -- an ASCII byte ends what came before it
 pub follow-ascii : (n c : ℕ) (xs ys : List ℕ) (b : ℕ) → b < 0x80 → follow n c (xs ++ b ∷ ys) ≡ follow n c xs
@@ -74,16 +87,10 @@ module _ (c : ℕ) (rest : List ℕ) (s : Scalar c) where
       (le-ltb (0xF0 + c / 262144) 0x80 (omega arith), lt-leb (0xF0 + c / 262144) 0xDF (omega arith), le-leb 0xC0 (0xF0 + c / 262144) (omega arith), lt-leb (0xF0 + c / 262144) 0xEF (omega arith), le-leb 0xE0 (0xF0 + c / 262144) (omega arith), le-leb 0xF0 (0xF0 + c / 262144) (omega arith), le-leb (0xF0 + c / 262144) 0xF7 (omega arith), le-leb 0x80 (0x80 + c / 4096 % 64) (omega arith), le-leb (0x80 + c / 4096 % 64) 0xBF (omega arith), le-leb 0x80 (0x80 + c / 64 % 64) (omega arith), le-leb (0x80 + c / 64 % 64) 0xBF (omega arith), le-leb 0x80 (0x80 + c % 64) (omega arith), le-leb (0x80 + c % 64) 0xBF (omega arith), e1, e2, e3, le-leb 0x10000 c h, s)
 
   pub scalars-char : scalars (encodeScalar c ++ rest) ≡ (andThen (scalars rest) λ ds. some (c ∷ ds))
-  unfolding scalarsFrom encodeScalar
-  scalars-char = go (ltb c 0x80) refl (ltb c 0x800) refl (ltb c 0x10000) refl
-    where
-      go : (t : Bool) → ltb c 0x80 ≡ t → (u : Bool) → ltb c 0x800 ≡ u → (v : Bool) → ltb c 0x10000 ≡ v
-          → scalarsFrom 0 ((if t then c ∷ [] else if u then (0xC0 + c / 64) ∷ (0x80 + c % 64) ∷ [] else if v then (0xE0 + c / 4096) ∷ (0x80 + c / 64 % 64) ∷ (0x80 + c % 64) ∷ [] else (0xF0 + c / 262144) ∷ (0x80 + c / 4096 % 64) ∷ (0x80 + c / 64 % 64) ∷ (0x80 + c % 64) ∷ []) ++ rest)
-          ≡ (andThen (scalarsFrom 0 rest) λ ds. some (c ∷ ds))
-      go true e u f v g = rw (char-one c rest (ltb-true c 0x80 e))
-      go false e true f v g = rw (char-2 (ltb-false c 0x80 e) (ltb-true c 0x800 f))
-      go false e false f true g = rw (char-3 (ltb-false c 0x800 f) (ltb-true c 0x10000 g))
-      go false e false f false g = rw (char-4 (ltb-false c 0x10000 g))
+  unfolding scalarsFrom
+  scalars-char =
+      by-size (λ e. scalars (e ++ rest) ≡ (andThen (scalars rest) λ ds. some (c ∷ ds))) c (λ h. rw (char-one c rest h)) (λ h l. rw (char-2 h l))
+      (λ h l. rw (char-3 h l)) (λ h. rw (char-4 h))
 
 pub scalars-flatMap : (cs : List ℕ) (rest : List ℕ) → All Scalar cs → scalars (flatMap encodeScalar cs ++ rest) ≡ (andThen (scalars rest) λ ds. some (cs ++ ds))
 unfolding flatMap
