@@ -23,7 +23,7 @@ use Rattle.format.proofs.Ranges.{WellFormed, InRange, InBlock, InLabel,
 use Rattle.format.proofs.FairLaws.{Consistent, consistent-parts, fair-source, fair-blocks}
 use Rattle.format.specs.Fair.{FairLineBlock, FairSource, FairParts}
 use Rattle.format.proofs.BinaryBack.{Writable, records-back}
-use Rattle.format.proofs.BinaryTrip.{binary-trip, gather-blocks, back-blocks}
+use Rattle.format.proofs.BinaryTrip.{binary-trip, gather-blocks, back-same}
 use Rattle.format.proofs.SwapLaws.{all-fit}
 use Rattle.format.specs.Fair.{FairSource}
 
@@ -82,7 +82,7 @@ unfolding binaryObject binaryRecords binaryFile header magic version beginsWith 
 blocks-trip bs h w =
     let a = records-back (map block bs) (all-images Writable block bs w) in
     let b : upsertAll blockKey bs [] ≡ bs = sorted-back blockKey bs bs h (unchanged bs) in
-    rw (only-records bs, a, back-blocks bs, gather-blocks emptyObject bs, b)
+    rw (only-records bs, a, back-same block (λ a. refl) bs, gather-blocks emptyObject bs, b)
 
 module _ (h : ObjectFile) (ls : List Label) (rs : List Relocation) (w : WellFormed h) (r : InRange h) (p : Reordered (h .labels) ls) (q : Reordered (h .relocations) rs) (short : PartsHave Short h) where
   sounds : Consistent h

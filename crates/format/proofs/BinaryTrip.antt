@@ -65,17 +65,10 @@ module _ (bs : List Block) (ls₀ ls : List Label) (ms : List LineBlock) (s : Li
       rw
       (gather-append, gather-append, gather-append, gather-append, gather-blocks emptyObject bs, e1, gather-labels, e2, gather-lines, e3, gather-relocations, source-whole ms s)
 
-pub back-blocks : (xs : List Block) → map back (map block xs) ≡ map block xs
-back-blocks [] = refl
-back-blocks (x ∷ xs) = ap (λ (r : List Record). block x ∷ r) (back-blocks xs)
-
-back-labels : (xs : List Label) → map back (map label xs) ≡ map label xs
-back-labels [] = refl
-back-labels (x ∷ xs) = ap (λ (r : List Record). label x ∷ r) (back-labels xs)
-
-back-lines : (xs : List LineBlock) → map back (map lineBlock xs) ≡ map lineBlock xs
-back-lines [] = refl
-back-lines (x ∷ xs) = ap (λ (r : List Record). lineBlock x ∷ r) (back-lines xs)
+-- records that are read as they were written
+pub back-same : {A : Type 0} (f : A → Record) → ((a : A) → back (f a) ≡ f a) → (xs : List A) → map back (map f xs) ≡ map f xs
+back-same f h [] = refl
+back-same f h (x ∷ xs) = rw (h x, back-same f h xs)
 
 back-relocations : (xs : List Relocation) → map back (map relocation xs) ≡ map relocation (map swapRelocation xs)
 back-relocations [] = refl
@@ -96,7 +89,7 @@ module _ (bs : List Block) (ls₀ ls : List Label) (ms : List LineBlock) (s : Li
       let e1 : map back (recordsOf (inOrder taken ls rs)) ≡ map block bs ++ map label ls ++ map lineBlock ms ++ source s ∷ [] ++ map relocation (map swapRelocation rs) =
       map-append back (map block bs ++ map label ls ++ map lineBlock ms ++ source s ∷ []) (map relocation rs)
       ∙ rw
-      (map-append back (map block bs ++ map label ls ++ map lineBlock ms) (source s ∷ []), map-append back (map block bs ++ map label ls) (map lineBlock ms), map-append back (map block bs) (map label ls), back-blocks bs, back-labels ls, back-lines ms, back-relocations rs) in
+      (map-append back (map block bs ++ map label ls ++ map lineBlock ms) (source s ∷ []), map-append back (map block bs ++ map label ls) (map lineBlock ms), map-append back (map block bs) (map label ls), back-same block (λ a. refl) bs, back-same label (λ a. refl) ls, back-same lineBlock (λ a. refl) ms, back-relocations rs) in
       let e2 = gathered bs ls₀ ls ms s rs₀ (map swapRelocation rs) hb hl hm pl in
       let e3 = relocations-back rs₀ rs hr hf pr in
       rw (e0, e1, e2, e3, and-false (isEmpty ls₀), ha)

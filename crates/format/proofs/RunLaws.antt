@@ -1,4 +1,4 @@
--- The rows of the line table, and the line blocas that their runs give back. Assumes nothing.
+-- The rows of the line table, and the line blocks that their runs give back. Assumes nothing.
 use mathlib.Core.Path.{_≡_, refl, sym, _∙_, ap}
 use mathlib.Core.List.{List, [], _∷_, _++_, map, append-assoc, append-nil}
 use mathlib.Core.Option.{Option, none, some}
