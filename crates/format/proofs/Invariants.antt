@@ -4,19 +4,19 @@ use mathlib.Core.Path.{_≡_, refl, sym, _∙_, ap}
 use mathlib.Core.Bool.{or-true, true, _&&_, _||_, not}
 use mathlib.Core.List.{List, [], _∷_, _++_, map}
 use mathlib.Core.Option.{some}
-use Prim.Native.Nat.{ℕ, _≤_, Ordering, Ordering·lt, Ordering·eq, Ordering·gt}
+use Prim.Native.Nat.{ℕ, _≤_}
 use lib.ListN.{length}
 use lib.Dec.{leb}
 use borrow.Author.Tests.{le-leb}
 use Rattle.format.specs.Basics.{Outcome, given, _>>=_, every, isEmpty, isSome, All}
 use Rattle.format.specs.Utf8.{isUtf8}
-use Rattle.format.specs.Sorted.{order, byOrdering, upsert}
+use Rattle.format.specs.Sorted.{upsert}
 use Rattle.format.specs.ObjectFile.{LineBlock, ObjectFile, blockKey, labelKey, lineKey, relocationKey, neverFall, apart, namesOf, sourceText, consistent}
 use Rattle.format.specs.Records.{Record, block, label, lineBlock, source, relocation, emptyObject, putRecord, gatherRecords, dropStrayRelocations, withBlocks, withLabels, withLines, withRelocations, Question, askAll, concluded}
 use Rattle.format.specs.Words.{wordsOf, objectOf}
 use Rattle.format.proofs.WordsOnly.{bind-given, given-same}
 use Rattle.format.proofs.WordsTrip.{words-back}
-use Rattle.format.proofs.SortedLaws.{Rises, rises-upsert}
+use Rattle.format.proofs.SortedLaws.{Rises, all-upsert, rises-upsert}
 use Rattle.format.proofs.ListLaws.{all-map, all-append, all-images, every-all}
 use Rattle.format.proofs.Utf8Laws.{Text, text-append, text-ascii, text-utf8}
 use Rattle.format.proofs.TextPieces.{text-bytes}
@@ -26,16 +26,6 @@ use Rattle.format.proofs.Ranges.{WellFormed, InRange, InBlock, InLine, 
 -- a part of an object: its keys rise, and each element is as its reader left it
 abbrev pub Kept : {A : Type 0} → (A → List ℕ) → (A → Type 0) → List A → Type 0
 Kept key P xs = Rises key xs × All P xs
-
-all-upsert : {A : Type 0} (key : A → List ℕ) (P : A → Type 0) (a : A) (xs : List A) → P a → All P xs → All P (upsert key a xs)
-unfolding upsert
-all-upsert key P a [] p h = (p, tt)
-all-upsert key P a (b ∷ bs) p h = go (order (key a) (key b)) (all-upsert key P a bs p (h .1))
-  where
-    go : (o : Ordering) → All P (upsert key a bs) → All P (byOrdering o (a ∷ b ∷ bs) (a ∷ bs) (b ∷ upsert key a bs))
-    go Ordering·lt ih = (p, h)
-    go Ordering·eq ih = (p, h .1)
-    go Ordering·gt ih = (h .0, ih)
 
 kept-upsert : {A : Type 0} (key : A → List ℕ) (P : A → Type 0) (a : A) (xs : List A) → P a → Kept key P xs → Kept key P (upsert key a xs)
 kept-upsert key P a xs p h = (rises-upsert key a xs (h .0), all-upsert key P a xs p (h .1))

@@ -66,8 +66,7 @@ after-source s (source t) e = let z : _≡_ {A = ℕ} 0 1 = cc in absurd (omega 
 after-source s (relocation r) e = omega arith
 
 above-all : (P : Record → Type 0) (k : List ℕ) → ((q : Record) → order k (recordKey q) ≡ Ordering·lt → P q) → (rs : List Record) → Above recordKey k rs → All P rs
-above-all P k f [] h = tt
-above-all P k f (q ∷ rs) h = (f q (h .0), above-all P k f rs (h .1))
+above-all P k f rs h = all-map f rs h
 
 all-above : (n : ℕ) (r : Record) → kindOf r < n → (rs : List Record) → From n rs → Above recordKey (recordKey r) rs
 all-above n r h [] k = tt
