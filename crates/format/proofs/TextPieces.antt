@@ -113,7 +113,7 @@ ascii-past (a ∷ xs) (y ∷ ys) h e x =
     let q = eqb-true a y (p .0) in
     ascii-past xs ys (h .1) (p .1) (ascii-rest y ys (omega (arith, h .0)) x)
 
--- and so do ASCII bytes
+-- ASCII bytes part a text
 ascii-parts :
     (p : List ℕ) (a : ℕ) (xs ys : List ℕ) → All (λ b. b < 0x80) (a ∷ xs) → beginsWith (a ∷ xs) ys ≡ true → Text (p ++ ys)
     → Text p × Text (drop (length (a ∷ xs)) ys)
