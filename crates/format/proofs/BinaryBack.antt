@@ -19,7 +19,7 @@ use Rattle.format.specs.Words.{flagBit}
 use Rattle.format.specs.Binary.{recordBytes, recordAt, blockFrom, labelFrom, linesFrom, relocationFrom, memoriesFrom, addressesFrom, numberAt, bytesAt, numberBytes, memoryBytes}
 use Rattle.format.specs.Trips.{byteSwapped, swapRelocation}
 use Rattle.format.proofs.Ranges.{In16, In64, Word16}
-use Rattle.format.proofs.Laws.{value-digits, source-from, tokens-drop}
+use Rattle.format.proofs.Laws.{value-digits, source-from, tokens-step}
 
 abbrev pub Text64 : List ℕ → Type 0
 Text64 t = In64 (length t) × (isUtf8 t ≡ true)
@@ -148,9 +148,8 @@ record-back (relocation r) rest h =
 token-step :
     (xs : List ℕ) (r : Record) (n : ℕ) → 0 < length xs → recordAt xs ≡ given (r, n)
     → tokens recordAt 0 xs ≡ (tokens recordAt 0 (drop (suc n) xs) >>= λ ts. given (r ∷ ts))
-unfolding tokens
 token-step [] r n h e = absurd (omega arith)
-token-step (x ∷ xs) r n h e = rw (e, tokens-drop recordAt n xs)
+token-step (x ∷ xs) r n h e = tokens-step recordAt x xs r n e
 
 -- the records of a file are read in the order in which they were written
 pub records-back : (rs : List Record) → All Writable rs → tokens recordAt 0 (flatMap recordBytes rs) ≡ given (map back rs)
