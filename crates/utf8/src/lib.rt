@@ -1,0 +1,170 @@
+// UTF-8 in place on bytes: whether they are UTF-8, the character at a place, and the bytes of a scalar value.
+ghost use mathlib.Core.Path.{_≡_};
+ghost use mathlib.Core.Bool.{true};
+ghost use Prim.Native.Nat.{ℕ, _+_, _≤_, _<_};
+ghost use lib.ListN.{length, getD};
+ghost use Rattle.format.specs.Utf8.{isUtf8};
+ghost use Rattle.utf8.specs.Utf8.{Ascii, more, whole, isWhole, step, firstByte};
+
+// Where a reader of UTF-8 stands: how many bytes of the character are still to come, and the bounds of the next of them.
+// Between characters none is to come. Where the bytes are no UTF-8, one is to come that has no bounds to lie in.
+pub struct Utf8 {
+    pub need: u8,
+    pub low: u8,
+    pub high: u8,
+}
+
+// The state that waits for the bytes of the table's row.
+fn waiting(need: u8, low: u8, high: u8) -> Utf8
+    ensures { λ r. ⌜ r ≡ more need low high ⌝ }
+{
+    Utf8 {
+        need: need,
+        low: low,
+        high: high,
+    }
+}
+
+// The state after the first byte of a character.
+pub fn first_byte(b: u8) -> Utf8
+    ensures { λ r. ⌜ r ≡ firstByte b ⌝ }
+{
+    if b < 0x80 {
+        return waiting(0, 0, 0);
+    }
+    if b < 0xC2 {
+        return waiting(1, 1, 0);
+    }
+    if b < 0xE0 {
+        return waiting(1, 0x80, 0xBF);
+    }
+    if b == 0xE0 {
+        return waiting(2, 0xA0, 0xBF);
+    }
+    if b == 0xED {
+        return waiting(2, 0x80, 0x9F);
+    }
+    if b < 0xF0 {
+        return waiting(2, 0x80, 0xBF);
+    }
+    if b == 0xF0 {
+        return waiting(3, 0x90, 0xBF);
+    }
+    if b < 0xF4 {
+        return waiting(3, 0x80, 0xBF);
+    }
+    if b == 0xF4 {
+        return waiting(3, 0x80, 0x8F);
+    }
+    waiting(1, 1, 0)
+}
+
+impl Utf8 {
+    // The state before the first byte.
+    pub fn new() -> Utf8
+        ensures { λ r. ⌜ r ≡ whole ⌝ }
+    {
+        Utf8 {
+            need: 0,
+            low: 0,
+            high: 0,
+        }
+    }
+
+    // Between characters: what came so far is UTF-8.
+    pub fn is_whole(self) -> bool
+        ensures { λ r. ⌜ r ≡ isWhole self ⌝ }
+    {
+        self.need == 0
+    }
+
+    // The state after one byte more.
+    pub fn step(self, b: u8) -> Utf8
+        ensures { λ r. ⌜ r ≡ step self b ⌝ }
+    {
+        let need = self.need;
+        let low = self.low;
+        let high = self.high;
+        if need == 0 {
+            return first_byte(b);
+        }
+        if b < low {
+            return waiting(1, 1, 0);
+        }
+        if high < b {
+            return waiting(1, 1, 0);
+        }
+        waiting(need - 1, 0x80, 0xBF)
+    }
+}
+
+// Whether the 64 bytes from a place on are ASCII. The largest of them decides, so that the loop has no exit in the middle and is done
+// by vector instructions.
+fn is_ascii_block(s: &[u8], at: usize) -> bool
+    requires { ⌜ at + 64 ≤ length (now s) ⌝ }
+    ensures { λ r. ⌜ (r ≡ true → Ascii (now (s .entry)) at (at + 64)) ⌝ }
+{
+    let mut most = 0;
+    let mut k = 0;
+    while k < 64 {
+        let b = s[at + k];
+        if most < b {
+            most = b;
+        }
+        k += 1;
+    }
+    most < 0x80
+}
+
+// A place up to which all is ASCII: past the whole blocks.
+fn ascii_blocks(s: &[u8], at: usize) -> usize
+    requires { ⌜ at ≤ length (now s) ⌝ }
+    ensures { λ r. ⌜ (at ≤ r) × (r ≤ length (now (s .entry))) × Ascii (now (s .entry)) at r ⌝ }
+{
+    let mut i = at;
+    while 64 <= s.len() - i {
+        if is_ascii_block(s, i) {
+            i += 64;
+        } else {
+            return i;
+        }
+    }
+    i
+}
+
+// The same, up to the first byte that is not ASCII.
+fn ascii_end(s: &[u8], at: usize) -> usize
+    requires { ⌜ at ≤ length (now s) ⌝ }
+    ensures { λ r. ⌜ (at ≤ r) × (r ≤ length (now (s .entry))) × Ascii (now (s .entry)) at r ⌝ }
+{
+    let mut i = ascii_blocks(s, at);
+    while i < s.len() {
+        if 0x80 <= s[i] {
+            return i;
+        }
+        i += 1;
+    }
+    i
+}
+
+// Whether bytes are UTF-8: ASCII stretches in one go, what lies between them byte by byte.
+pub fn is_utf8(s: &[u8]) -> bool
+    ensures { λ r. ⌜ r ≡ isUtf8 (now (s .entry)) ⌝ }
+{
+    let mut state = Utf8::new();
+    let mut i = 0;
+    while i < s.len() {
+        let b = s[i];
+        let next = i + 1;
+        let need = state.need;
+        if need == 0 {
+            if b < 0x80 {
+                i = ascii_end(s, next);
+                continue;
+            }
+        }
+        state = state.step(b);
+        i = next;
+    }
+    state.is_whole()
+}
