@@ -24,18 +24,24 @@ clipped n start end =
     let e = if ltb end n then end else n in
     record { start = if ltb start e then start else e; end = e }
 
--- where the trimmed range lies: at the end of the range, at its start, and at the end of the range less what is trimmed at its end
+-- where a range lies that is trimmed at its start: what is left ends where the range does
 abbrev pub trimStartSpan : List ℕ → ℕ → ℕ → Span
 trimStartSpan s start end =
     let e = clipped (length s) start end .end in
     record { start = e - length (trimStart (part start end s)); end = e }
 
+-- at its end: what is left starts where the range does
 abbrev pub trimEndSpan : List ℕ → ℕ → ℕ → Span
 trimEndSpan s start end =
     let a = clipped (length s) start end .start in
     record { start = a; end = a + length (trimEnd (part start end s)) }
 
+-- at both: what is left starts where the range trimmed at its start does
 abbrev pub trimSpan : List ℕ → ℕ → ℕ → Span
 trimSpan s start end =
     let a = trimStartSpan s start end .start in
     record { start = a; end = a + length (trim (part start end s)) }
+
+-- THE CONTRACT OF TRIMMING: where the range r lies, and that its bytes are those of the given range, trimmed
+abbrev pub Trimmed : (List ℕ → List ℕ) → (List ℕ → ℕ → ℕ → Span) → List ℕ → ℕ → ℕ → Span → Type 0
+Trimmed f lies s start end r = (r ≡ lies s start end) × Spans s (r .start) (r .end) (f (part start end s))

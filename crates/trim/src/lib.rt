@@ -3,7 +3,7 @@ ghost use mathlib.Core.Path.{_≡_};
 ghost use Prim.Native.Nat.{ℕ, _≤_};
 ghost use lib.ListN.{length, take, drop};
 ghost use Rattle.format.specs.Utf8.{isWhiteSpace, trimStart, trimEnd, trim, isBlank};
-ghost use Rattle.trim.specs.Span.{part, Spans, clipped, trimStartSpan, trimEndSpan, trimSpan};
+ghost use Rattle.trim.specs.Span.{part, clipped, trimStartSpan, trimEndSpan, trimSpan, Trimmed};
 ghost use Rattle.trim.specs.WhiteSpace.{whiteAt, endsWhite, whiteBefore};
 use utf8::Char;
 
@@ -104,7 +104,7 @@ fn clip(s: &[u8], start: usize, end: usize) -> Span
 
 // A range less the White_Space at its start.
 pub fn trim_start(s: &[u8], start: usize, end: usize) -> Span
-    ensures { λ r. ⌜ (r ≡ trimStartSpan (now (s .entry)) start end) × Spans (now (s .entry)) (r .start) (r .end) (trimStart (part start end (now (s .entry)))) ⌝ }
+    ensures { λ r. ⌜ Trimmed trimStart trimStartSpan (now (s .entry)) start end r ⌝ }
 {
     let c = clip(s, start, end);
     let a = c.start;
@@ -118,7 +118,7 @@ pub fn trim_start(s: &[u8], start: usize, end: usize) -> Span
 
 // A range less the White_Space at its end.
 pub fn trim_end(s: &[u8], start: usize, end: usize) -> Span
-    ensures { λ r. ⌜ (r ≡ trimEndSpan (now (s .entry)) start end) × Spans (now (s .entry)) (r .start) (r .end) (trimEnd (part start end (now (s .entry)))) ⌝ }
+    ensures { λ r. ⌜ Trimmed trimEnd trimEndSpan (now (s .entry)) start end r ⌝ }
 {
     let c = clip(s, start, end);
     let a = c.start;
@@ -132,7 +132,7 @@ pub fn trim_end(s: &[u8], start: usize, end: usize) -> Span
 
 // A range less the White_Space at both ends.
 pub fn trim(s: &[u8], start: usize, end: usize) -> Span
-    ensures { λ r. ⌜ (r ≡ trimSpan (now (s .entry)) start end) × Spans (now (s .entry)) (r .start) (r .end) (trim (part start end (now (s .entry)))) ⌝ }
+    ensures { λ r. ⌜ Trimmed trim trimSpan (now (s .entry)) start end r ⌝ }
 {
     let c = trim_start(s, start, end);
     let a = c.start;
