@@ -68,14 +68,9 @@ module _ (b : ℕ) (bs : List ℕ) where
 pub front : {A : Type 0} (d : A) (s : List A) (at : ℕ) → at < length s → drop at s ≡ getD s at d ∷ drop (at + 1) s
 front d s at h = rw add-one (drop-cons s at d h)
 
-module _ (s : List ℕ) (at : ℕ) where
-  pub follow-end : (n c : ℕ) → length s ≤ at → follow (suc n) c (drop at s) ≡ none
-  unfolding follow
-  follow-end n c h = rw (drop-of-length-le s h)
-
-  pub char-end : length s ≤ at → none ≡ charAt (drop at s)
-  unfolding charAt
-  char-end h = rw (drop-of-length-le s h)
+pub char-end : (s : List ℕ) (at : ℕ) → length s ≤ at → none ≡ charAt (drop at s)
+unfolding charAt
+char-end s at h = rw (drop-of-length-le s h)
 
 -- five bits and those of k bytes that follow: below this
 unfoldable pub room : ℕ → ℕ

@@ -6,6 +6,7 @@ use mathlib.Core.Logic.{_⊎_, inl, inr, ⊎-elim}
 use mathlib.Core.List.{List, [], _∷_}
 use mathlib.Core.Option.{Option, none, some}
 use Prim.Native.Nat.{ℕ, zero, suc, _+_, _-_, _*_, _^_, _≤_, _<_}
+use native.Mathlib.Nat.{add-mul, mul-assoc, mul-le-mul-right}
 use native.Mathlib.Omega.{arith}
 use lib.ListN.{length, drop, length-drop}
 use lib.Dec.{leb, ltb, eqb}
@@ -35,7 +36,7 @@ unfolding run
 accepts-bad [] = refl
 accepts-bad (b ∷ bs) = ap (λ u. accepts u bs) (step-bad b) ∙ accepts-bad bs
 
-pub accepts-whole : (l h : ℕ) (bs : List ℕ) → accepts (more 0 l h) bs ≡ accepts whole bs
+accepts-whole : (l h : ℕ) (bs : List ℕ) → accepts (more 0 l h) bs ≡ accepts whole bs
 unfolding run step
 accepts-whole l h [] = refl
 accepts-whole l h (b ∷ bs) = refl
@@ -72,32 +73,30 @@ spans-0 : Spans 0 1
 unfolding follow
 spans-0 x bs v e = let q : x ≡ v = cc in omega arith
 
-spans-1 : Spans 1 64
+-- a byte that follows has six bits
+spans-more : (k s : ℕ) → Spans k s → Spans (suc k) (64 * s)
 unfolding follow
-spans-1 x [] v e = let z : _≡_ {A = ℕ} 0 1 = cc in absurd (omega arith)
-spans-1 x (b ∷ bs) v e =
+spans-more k s span x [] v e = let z : _≡_ {A = ℕ} 0 1 = cc in absurd (omega arith)
+spans-more k s span x (b ∷ bs) v e =
     inside 0x80 0xBF b
-    (λ p q. let h = spans-0 (x * 2 ^ 6 + (b - 0x80)) bs v (sym (follow-in 0 x b bs p q) ∙ e) in omega arith)
-    (λ o. let f = follow-out 0 x b bs o in let z : _≡_ {A = ℕ} 0 1 = cc in absurd (omega arith))
+    (λ p q. let d : ℕ = b - 0x80 in
+    let h = span (x * 64 + d) bs v (sym (follow-in k x b bs p q) ∙ e) in
+    let f : (x * 64 + d) * s ≡ x * (64 * s) + d * s = add-mul (x * 64) d s ∙ ap (λ (n : ℕ). n + d * s) (mul-assoc x 64 s) in
+    let l : d * s ≤ 63 * s = mul-le-mul-right s (omega arith) in
+    omega arith)
+    (λ o. let f = follow-out k x b bs o in let z : _≡_ {A = ℕ} 0 1 = cc in absurd (omega arith))
+
+spans-1 : Spans 1 64
+spans-1 = spans-more 0 1 spans-0
 
 spans-2 : Spans 2 4096
-unfolding follow
-spans-2 x [] v e = let z : _≡_ {A = ℕ} 0 1 = cc in absurd (omega arith)
-spans-2 x (b ∷ bs) v e =
-    inside 0x80 0xBF b
-    (λ p q. let h = spans-1 (x * 2 ^ 6 + (b - 0x80)) bs v (sym (follow-in 1 x b bs p q) ∙ e) in omega arith)
-    (λ o. let f = follow-out 1 x b bs o in let z : _≡_ {A = ℕ} 0 1 = cc in absurd (omega arith))
+spans-2 = spans-more 1 64 spans-1
 
 spans-3 : Spans 3 262144
-unfolding follow
-spans-3 x [] v e = let z : _≡_ {A = ℕ} 0 1 = cc in absurd (omega arith)
-spans-3 x (b ∷ bs) v e =
-    inside 0x80 0xBF b
-    (λ p q. let h = spans-2 (x * 2 ^ 6 + (b - 0x80)) bs v (sym (follow-in 2 x b bs p q) ∙ e) in omega arith)
-    (λ o. let f = follow-out 2 x b bs o in let z : _≡_ {A = ℕ} 0 1 = cc in absurd (omega arith))
+spans-3 = spans-more 2 4096 spans-2
 
 -- by scalar values
-abbrev goOn : Option (ℕ × ℕ) → List ℕ → Bool
+abbrev pub goOn : Option (ℕ × ℕ) → List ℕ → Bool
 goOn none bs = false
 goOn (some t) bs = isUtf8 (drop (t .1) bs)
 
@@ -107,7 +106,7 @@ from-drop zero bs = refl
 from-drop (suc k) [] = refl
 from-drop (suc k) (b ∷ bs) = from-drop k bs
 
-first : (b : ℕ) (bs : List ℕ) → isUtf8 (b ∷ bs) ≡ goOn (charAt (b ∷ bs)) bs
+pub first : (b : ℕ) (bs : List ℕ) → isUtf8 (b ∷ bs) ≡ goOn (charAt (b ∷ bs)) bs
 unfolding isUtf8 scalarsFrom isSome
 first b bs = go (charAt (b ∷ bs))
   where

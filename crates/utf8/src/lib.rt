@@ -148,28 +148,6 @@ fn ascii_end(s: &[u8], at: usize) -> usize
     i
 }
 
-// Whether bytes are UTF-8: ASCII stretches in one go, what lies between them byte by byte.
-pub fn is_utf8(s: &[u8]) -> bool
-    ensures { λ r. ⌜ r ≡ isUtf8 (now (s .entry)) ⌝ }
-{
-    let mut state = Utf8::new();
-    let mut i = 0;
-    while i < s.len() {
-        let b = s[i];
-        let next = i + 1;
-        let need = state.need;
-        if need == 0 {
-            if b < 0x80 {
-                i = ascii_end(s, next);
-                continue;
-            }
-        }
-        state = state.step(b);
-        i = next;
-    }
-    state.is_whole()
-}
-
 // The character at a place: its scalar value, and how many bytes follow its first.
 pub enum Char {
     Scalar { value: u32, more: usize },
@@ -287,4 +265,22 @@ pub fn characters(s: &[u8]) -> usize
         i += 1;
     }
     n
+}
+
+// Whether bytes are UTF-8: ASCII stretches in one go, what lies between them a character at a time.
+pub fn is_utf8(s: &[u8]) -> bool
+    ensures { λ r. ⌜ r ≡ isUtf8 (now (s .entry)) ⌝ }
+{
+    let mut i = 0;
+    while i < s.len() {
+        if s[i] < 0x80 {
+            i = ascii_end(s, i + 1);
+            continue;
+        }
+        let Char::Scalar { value: _, more } = char_at(s, i) else {
+            return false;
+        };
+        i += more + 1;
+    }
+    true
 }
