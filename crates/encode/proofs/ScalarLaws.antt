@@ -36,7 +36,13 @@ module _ (c : ℕ) where
 
   pub is-four : 0x10000 ≤ c → c < 0x110000 → scalarBytes c ≡ four c
   unfolding scalarBytes encodeScalar
-  is-four l h = rw (scalar-high c (omega arith) (omega arith), le-ltb c 0x80 (omega arith), le-ltb c 0x800 (omega arith), le-ltb c 0x10000 l)
+  is-four l h = rw (
+    scalar-high c (omega arith) (omega arith),
+    le-ltb c 0x80 (omega arith),
+    le-ltb c 0x800 (omega arith),
+    le-ltb c 0x10000
+        l,
+  )
 
   pub is-surrogate : 0xD800 ≤ c → c < 0xE000 → scalarBytes c ≡ []
   unfolding scalarBytes

@@ -81,8 +81,10 @@ module _ (s : List ℕ) (start end : ℕ) (c : Span) (q : c ≡ clipped (length 
   in-text = subst (λ (x : Span). InText s start end x) (sym q) (clip-text s start end)
 
   -- r bytes of White_Space at the start
-  pub start-trimmed : (r : ℕ) → r ≤ length (part (c .start) (c .end) s) → drop r (part (c .start) (c .end) s) ≡ trimStart (part (c .start) (c .end) s)
-      → (record { start = c .start + r; end = c .end } ≡ trimStartSpan s start end) × Spans s (c .start + r) (c .end) (trimStart (part start end s))
+  pub start-trimmed : (r : ℕ) → r ≤ length (part (c .start) (c .end) s) → drop r (part (c .start) (c .end) s) ≡ trimStart
+      (part (c .start) (c .end) s)
+      → (record { start = c .start + r; end = c .end } ≡ trimStartSpan s start end) × Spans s (c .start + r) (c .end)
+      (trimStart (part start end s))
   start-trimmed r h e =
       let i = in-text in
       let o : c .start ≤ c .end = i .0 in
@@ -96,8 +98,10 @@ module _ (s : List ℕ) (start end : ℕ) (c : Span) (q : c ≡ clipped (length 
         record { ordered = omega arith; inside = l; same = part-drop s (c .start) (c .end) r ∙ e ∙ ap trimStart (i .2) },
       )
 
-  pub end-trimmed : (r : ℕ) → r ≤ length (part (c .start) (c .end) s) → take r (part (c .start) (c .end) s) ≡ trimEnd (part (c .start) (c .end) s)
-      → (record { start = c .start; end = c .start + r } ≡ trimEndSpan s start end) × Spans s (c .start) (c .start + r) (trimEnd (part start end s))
+  pub end-trimmed : (r : ℕ) → r ≤ length (part (c .start) (c .end) s) → take r (part (c .start) (c .end) s) ≡ trimEnd
+      (part (c .start) (c .end) s)
+      → (record { start = c .start; end = c .start + r } ≡ trimEndSpan s start end) × Spans s (c .start) (c .start + r)
+      (trimEnd (part start end s))
   end-trimmed r h e =
       let i = in-text in
       let o : c .start ≤ c .end = i .0 in
@@ -107,7 +111,12 @@ module _ (s : List ℕ) (start end : ℕ) (c : Span) (q : c ≡ clipped (length 
       sym (ap (λ (x : List ℕ). length (trimEnd x)) (sym (i .2)) ∙ ap length (sym e) ∙ length-take-le r (part (c .start) (c .end) s) h) in (
         ap (λ (x : ℕ). record { start = c .start; end = c .start + x }) k
             ∙ ap (λ (x : ℕ). record { start = x; end = x + length (trimEnd (part start end s)) }) (ap (λ (x : Span). x .start) q),
-        record { ordered = omega arith; inside = omega arith; same = part-take s (c .start) (c .end) r (omega arith) ∙ e ∙ ap trimEnd (i .2) },
+        record {
+          ordered = omega arith;
+          inside = omega arith;
+          same = part-take s (c .start) (c .end) r (omega arith) ∙ e ∙ ap trimEnd
+              (i .2);
+        },
       )
 
 -- a range that lies in the text is left as it is
@@ -118,13 +127,15 @@ clip-same n a e h l =
     (λ t. by-test (ltb a n) (λ u. simp (t, u)) (λ u. simp (t, u) (omega (arith, ltb-false e n t, ltb-false a n u))))
 
 -- both ends, one after the other
-pub both-trimmed : (s : List ℕ) (start end : ℕ) (c r : Span) → c ≡ trimStartSpan s start end → Spans s (c .start) (c .end) (trimStart (part start end s))
+pub both-trimmed : (s : List ℕ) (start end : ℕ) (c r : Span) → c ≡ trimStartSpan s start end → Spans s (c .start) (c .end)
+    (trimStart (part start end s))
     → r ≡ trimEndSpan s (c .start) (c .end) → Spans s (r .start) (r .end) (trimEnd (part (c .start) (c .end) s))
     → (r ≡ trimSpan s start end) × Spans s (r .start) (r .end) (trim (part start end s))
 unfolding trim
 both-trimmed s start end c r q f e g =
     let p = ap trimEnd (f .same) in (
-      e ∙ ap (λ (x : ℕ). record { start = x; end = x + length (trimEnd (part (c .start) (c .end) s)) }) (clip-same (length s) (c .start) (c .end) (f .ordered) (f .inside) ∙ ap (λ (x : Span). x .start) q)
+      e ∙ ap (λ (x : ℕ). record { start = x; end = x + length (trimEnd (part (c .start) (c .end) s)) })
+          (clip-same (length s) (c .start) (c .end) (f .ordered) (f .inside) ∙ ap (λ (x : Span). x .start) q)
           ∙ ap (λ (x : List ℕ). record { start = trimStartSpan s start end .start; end = trimStartSpan s start end .start + length x }) p,
       record { ordered = g .ordered; inside = g .inside; same = g .same ∙ p },
     )

@@ -12,7 +12,8 @@ use lib.Seq.{drop-drop, getD-drop, drop-length, drop-nil}
 use lib.Dec.{leb, ltb, eqb}
 use borrow.Author.Tests.{le-leb, eq-eqb, ltb-true, ltb-false, leb-true, leb-false, eqb-true, eqb-false, lt-leb, ne-eqb}
 use Rattle.format.specs.Basics.{if_then_else_, isEmpty}
-use Rattle.format.specs.Utf8.{isBetween, isScalar, follow, shortestForm, charAt, isWhiteSpace, whiteSpaceLength, passOver, trimFrom, trimStart, isBlank, trimEnd}
+use Rattle.format.specs.Utf8.{isBetween, isScalar, follow, shortestForm, charAt, isWhiteSpace, whiteSpaceLength, passOver, trimFrom}
+use Rattle.format.specs.Utf8.{trimStart, isBlank, trimEnd}
 use Rattle.format.proofs.ListLaws.{by-test, both}
 use Rattle.format.proofs.Utf8Laws.{char-middle}
 use Rattle.utf8.proofs.CharLaws.{front, inside}
@@ -23,9 +24,11 @@ use Rattle.trim.specs.WhiteSpace.{whiteAt, endsWhite, whiteBefore}
 abbrev Fitting : Option (ℕ × ℕ) → List ℕ → Type 0
 Fitting none bs = Unit {0}
 Fitting (some c) bs =
-    (c .1 < length bs) × (c .1 ≤ 3) × (2 < c .1 → 0x10000 ≤ c .0) × ((j : ℕ) → j < c .1 → (0x80 ≤ getD (drop 1 bs) j 0) × (getD (drop 1 bs) j 0 ≤ 0xBF))
+    (c .1 < length bs) × (c .1 ≤ 3) × (2 < c .1 → 0x10000 ≤ c .0) ×
+    ((j : ℕ) → j < c .1 → (0x80 ≤ getD (drop 1 bs) j 0) × (getD (drop 1 bs) j 0 ≤ 0xBF))
 
-follow-fits : (n c : ℕ) (bs : List ℕ) (v : ℕ) → follow n c bs ≡ some v → (n ≤ length bs) × ((j : ℕ) → j < n → (0x80 ≤ getD bs j 0) × (getD bs j 0 ≤ 0xBF))
+follow-fits : (n c : ℕ) (bs : List ℕ) (v : ℕ) → follow n c bs ≡ some v → (n ≤ length bs) ×
+    ((j : ℕ) → j < n → (0x80 ≤ getD bs j 0) × (getD bs j 0 ≤ 0xBF))
 unfolding follow
 follow-fits zero c bs v e = (omega arith, λ j h. absurd (omega arith))
 follow-fits (suc n) c [] v e = let z : _≡_ {A = ℕ} 0 1 = cc in absurd (omega arith)
@@ -38,7 +41,8 @@ follow-fits (suc n) c (b ∷ bs) v e =
     (λ u. let g : none ≡ some v = simp (t, u) at e in let z : _≡_ {A = ℕ} 0 1 = cc in absurd (omega arith)))
     (λ t. let g : none ≡ some v = simp t at e in let z : _≡_ {A = ℕ} 0 1 = cc in absurd (omega arith))
   where
-    inner : (n b : ℕ) (bs : List ℕ) → 0x80 ≤ b → b ≤ 0xBF → ((j : ℕ) → j < n → (0x80 ≤ getD bs j 0) × (getD bs j 0 ≤ 0xBF)) → (j : ℕ) → j < suc n → (0x80 ≤ getD (b ∷ bs) j 0) × (getD (b ∷ bs) j 0 ≤ 0xBF)
+    inner : (n b : ℕ) (bs : List ℕ) → 0x80 ≤ b → b ≤ 0xBF → ((j : ℕ) → j < n → (0x80 ≤ getD bs j 0) × (getD bs j 0 ≤ 0xBF)) → (j : ℕ) → j <
+        suc n → (0x80 ≤ getD (b ∷ bs) j 0) × (getD (b ∷ bs) j 0 ≤ 0xBF)
     inner n b bs l u r zero h = (l, u)
     inner n b bs l u r (suc j) h = r j (omega arith)
 
@@ -69,7 +73,8 @@ char-fits (b ∷ bs) =
 
 -- no White_Space from x3001 on
 white-high : (c : ℕ) → 0x3000 < c → isWhiteSpace c ≡ false
-white-high c h = sym (white-not c beyond (above 0x9 0xD c (omega arith)) (above 0x2000 0x200A c (omega arith)) (λ e. omega arith) (λ e. omega arith))
+white-high c h = sym (white-not c beyond (above 0x9 0xD c (omega arith)) (above 0x2000 0x200A c (omega arith)) (λ e. omega arith)
+    (λ e. omega arith))
   where
     beyond : Alone c → ⊥
     beyond (inl e) = omega arith
@@ -81,7 +86,8 @@ white-high c h = sym (white-not c beyond (above 0x9 0xD c (omega arith)) (above 
     beyond (inr (inr (inr (inr (inr (inr e)))))) = omega arith
 
 -- a White_Space character lies in the text, has three bytes at most, and its later bytes begin no character
-white-of : (o : Option (ℕ × ℕ)) (bs : List ℕ) → Fitting o bs → (whiteSpaceLength o ≤ length bs) × (whiteSpaceLength o ≤ 3) × ((j : ℕ) → suc j < whiteSpaceLength o → (0x80 ≤ getD (drop 1 bs) j 0) × (getD (drop 1 bs) j 0 ≤ 0xBF))
+white-of : (o : Option (ℕ × ℕ)) (bs : List ℕ) → Fitting o bs → (whiteSpaceLength o ≤ length bs) × (whiteSpaceLength o ≤ 3) ×
+    ((j : ℕ) → suc j < whiteSpaceLength o → (0x80 ≤ getD (drop 1 bs) j 0) × (getD (drop 1 bs) j 0 ≤ 0xBF))
 white-of none bs f = (omega arith, omega arith, λ j h. absurd (omega arith))
 white-of (some c) bs f =
     by-test (isWhiteSpace (c .0))
@@ -169,7 +175,8 @@ blank-inner s at p l u =
     let f = white-fits (drop at s) in
     let i : p < length s = omega (arith, f, length-drop at s) in
     let b = w .2 (p - at - 1) (omega arith) in
-    let e : getD (drop 1 (drop at s)) (p - at - 1) 0 ≡ getD s p 0 = rw (drop-drop 1 at s, getD-drop (at + 1) s (p - at - 1) 0) (let k : at + 1 + (p - at - 1) ≡ p = omega arith in ap (λ (j : ℕ). getD s j 0) k) in
+    let e : getD (drop 1 (drop at s)) (p - at - 1) 0 ≡ getD s p 0 = rw (drop-drop 1 at s, getD-drop (at + 1) s (p - at - 1) 0)
+    (let k : at + 1 + (p - at - 1) ≡ p = omega arith in ap (λ (j : ℕ). getD s j 0) k) in
     let l2 : 0x80 ≤ getD s p 0 = rw e at (b .0) in
     let u2 : getD s p 0 ≤ 0xBF = rw e at (b .1) in
     blank-no s p i (ap whiteSpaceLength (ap charAt (front 0 s p i) ∙ char-middle (getD s p 0) (drop (p + 1) s) l2 (omega arith)))
@@ -187,7 +194,8 @@ trim-to (x ∷ xs) (suc e) h n b =
 abbrev EndsAt : List ℕ → ℕ → Type 0
 EndsAt s end = (q : ℕ) × (q < end) × (q + whiteAt s q ≡ end)
 
-last-white : (fuel : ℕ) (s : List ℕ) (p end : ℕ) → end - p ≤ fuel → p < end → end ≤ length s → blankAt s p ≡ true → blankAt s end ≡ true → EndsAt s end
+last-white : (fuel : ℕ) (s : List ℕ) (p end : ℕ) → end - p ≤ fuel → p < end → end ≤ length s → blankAt s p ≡ true → blankAt s end ≡ true
+    → EndsAt s end
 last-white zero s p end f l i b d = absurd (omega arith)
 last-white (suc fuel) s p end f l i b d =
     by-test (eqb (p + whiteAt s p) end)
@@ -197,7 +205,8 @@ last-white (suc fuel) s p end f l i b d =
     (λ v. absurd (true≢false (sym b ∙ blank-no s p (omega arith) (eqb-true (whiteAt s p) 0 v))))
     (λ v. last-white fuel s (p + whiteAt s p) end (omega (arith, eqb-false (whiteAt s p) 0 v)) (ltb-true (p + whiteAt s p) end u) i
     (blank-same s (p + whiteAt s p) p (trim-on s p (whiteAt s p) refl) ∙ b) d))
-    (λ u. absurd (true≢false (sym d ∙ blank-inner s p end l (omega (arith, ltb-false (p + whiteAt s p) end u, eqb-false (p + whiteAt s p) end t))))))
+    (λ u. absurd (true≢false (sym d ∙ blank-inner s p end l
+    (omega (arith, ltb-false (p + whiteAt s p) end u, eqb-false (p + whiteAt s p) end t))))))
 
 -- the first of three lengths that passes
 abbrev firstOf : (ℕ → Bool) → ℕ
@@ -206,7 +215,8 @@ firstOf p = if p 1 then 1 else if p 2 then 2 else if p 3 then 3 else 0
 first-passes : (p : ℕ → Bool) (n : ℕ) → n ≡ firstOf p → 0 < n → p n ≡ true
 first-passes p n e h = go (p 1) refl (p 2) refl (p 3) refl e
   where
-    go : (t : Bool) → p 1 ≡ t → (u : Bool) → p 2 ≡ u → (v : Bool) → p 3 ≡ v → n ≡ (if t then 1 else if u then 2 else if v then 3 else 0) → p n ≡ true
+    go : (t : Bool) → p 1 ≡ t → (u : Bool) → p 2 ≡ u → (v : Bool) → p 3 ≡ v → n ≡ (if t then 1 else if u then 2 else if v then 3 else 0)
+        → p n ≡ true
     go true a u b v d e = ap p e ∙ a
     go false a true b v d e = ap p e ∙ b
     go false a false b true d e = ap p e ∙ d
@@ -215,7 +225,8 @@ first-passes p n e h = go (p 1) refl (p 2) refl (p 3) refl e
 none-passes : (p : ℕ → Bool) (n : ℕ) → 0 ≡ firstOf p → 0 < n → n ≤ 3 → p n ≡ false
 none-passes p n e h l = go (p 1) refl (p 2) refl (p 3) refl e
   where
-    go : (t : Bool) → p 1 ≡ t → (u : Bool) → p 2 ≡ u → (v : Bool) → p 3 ≡ v → _≡_ {A = ℕ} 0 (if t then 1 else if u then 2 else if v then 3 else 0) → p n ≡ false
+    go : (t : Bool) → p 1 ≡ t → (u : Bool) → p 2 ≡ u → (v : Bool) → p 3 ≡ v → _≡_ {A = ℕ} 0
+        (if t then 1 else if u then 2 else if v then 3 else 0) → p n ≡ false
     go true a u b v d e = absurd (omega arith)
     go false a true b v d e = absurd (omega arith)
     go false a false b true d e = absurd (omega arith)
@@ -242,7 +253,8 @@ module _ (s : List ℕ) (end : ℕ) (i : end ≤ length s) (d : blankAt s end �
           let q : ℕ = w .0 in
           let h : q < end = w .1 in
           let e : q + whiteAt s q ≡ end = w .2 in
-          absurd (true≢false (sym (ends-white q h e) ∙ none-passes (endsWhite s end) (whiteAt s q) z (omega arith) (white-small (drop q s)))))
+          absurd (true≢false (sym (ends-white q h e) ∙ none-passes (endsWhite s end) (whiteAt s q) z (omega arith)
+          (white-small (drop q s)))))
           (λ t. t)
 
   -- one of n bytes does: the text is blank from n bytes earlier on

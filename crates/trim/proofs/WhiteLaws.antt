@@ -37,8 +37,15 @@ module _ (x : ℕ) where
   pub white-wide : 0x2000 ≤ x → x ≤ 0x200A → true ≡ isWhiteSpace x
   unfolding isWhiteSpace
   white-wide h l =
-      simp
-      (above 0x9 0xD x (omega arith), ne-eqb x 0x20 (λ e. omega arith), ne-eqb x 0x85 (λ e. omega arith), ne-eqb x 0xA0 (λ e. omega arith), ne-eqb x 0x1680 (λ e. omega arith), le-leb 0x2000 x h, le-leb x 0x200A l)
+      simp (
+        above 0x9 0xD x (omega arith),
+        ne-eqb x 0x20 (λ e. omega arith),
+        ne-eqb x 0x85 (λ e. omega arith),
+        ne-eqb x 0xA0 (λ e. omega arith),
+        ne-eqb x 0x1680 (λ e. omega arith),
+        le-leb 0x2000 x h,
+        le-leb x 0x200A l,
+      )
 
   pub white-lines : 0x2028 ≤ x → x ≤ 0x2029 → true ≡ isWhiteSpace x
   unfolding isWhiteSpace
@@ -47,8 +54,22 @@ module _ (x : ℕ) where
       (λ t. let e : x ≡ 0x2029 = omega (arith, eqb-false x 0x2028 t) in sym (ap isWhiteSpace e))
 
   pub white-not :
-      (Alone x → ⊥) → isBetween 0x9 0xD x ≡ false → isBetween 0x2000 0x200A x ≡ false → (x ≡ 0x2028 → ⊥) → (x ≡ 0x2029 → ⊥) → false ≡ isWhiteSpace x
+      (Alone x → ⊥) → isBetween 0x9 0xD x ≡ false → isBetween 0x2000 0x200A x ≡ false → (x ≡ 0x2028 → ⊥) → (x ≡ 0x2029 → ⊥) → false ≡
+      isWhiteSpace x
   unfolding isWhiteSpace
   white-not other a b c d =
-      simp
-      (a, ne-eqb x 0x20 (λ e. other (inl e)), ne-eqb x 0x85 (λ e. other (inr (inl e))), ne-eqb x 0xA0 (λ e. other (inr (inr (inl e)))), ne-eqb x 0x1680 (λ e. other (inr (inr (inr (inl e))))), b, ne-eqb x 0x2028 c, ne-eqb x 0x2029 d, ne-eqb x 0x202F (λ e. other (inr (inr (inr (inr (inl e)))))), ne-eqb x 0x205F (λ e. other (inr (inr (inr (inr (inr (inl e))))))), ne-eqb x 0x3000 (λ e. other (inr (inr (inr (inr (inr (inr e))))))))
+      simp (
+        a,
+        ne-eqb x 0x20 (λ e. other (inl e)),
+        ne-eqb x 0x85 (λ e. other (inr (inl e))),
+        ne-eqb x 0xA0 (λ e. other (inr (inr (inl e)))),
+        ne-eqb x 0x1680 (λ e. other (inr (inr (inr (inl e))))),
+        b,
+        ne-eqb x 0x2028 c,
+        ne-eqb x 0x2029 d,
+        ne-eqb x 0x202F
+            (λ e. other (inr (inr (inr (inr (inl e)))))),
+        ne-eqb x 0x205F (λ e. other (inr (inr (inr (inr (inr (inl e))))))),
+        ne-eqb x 0x3000
+            (λ e. other (inr (inr (inr (inr (inr (inr e))))))),
+      )

@@ -20,7 +20,8 @@ use Rattle.utf8.specs.Chars.{begins}
 -- in a range, below it or above it
 pub inside : {P : Type 0} (lo hi b : ℕ) → (lo ≤ b → b ≤ hi → P) → ((b < lo) ⊎ (hi < b) → P) → P
 inside lo hi b f g =
-    by-test (leb lo b) (λ p. by-test (leb b hi) (λ q. f (leb-true lo b p) (leb-true b hi q)) (λ q. g (inr (leb-false b hi q)))) (λ p. g (inl (leb-false lo b p)))
+    by-test (leb lo b) (λ p. by-test (leb b hi) (λ q. f (leb-true lo b p) (leb-true b hi q)) (λ q. g (inr (leb-false b hi q))))
+    (λ p. g (inl (leb-false lo b p)))
 
 pub follow-in : (n c b : ℕ) (bs : List ℕ) → 0x80 ≤ b → b ≤ 0xBF → follow (suc n) c (b ∷ bs) ≡ follow n (c * 2 ^ 6 + (b - 0x80)) bs
 unfolding follow
@@ -52,17 +53,42 @@ module _ (b : ℕ) (bs : List ℕ) where
 
   pub char-three : 0xE0 ≤ b → b ≤ 0xEF → charAt (b ∷ bs) ≡ shortestForm 0x800 2 (follow 2 (b - 0xE0) bs)
   unfolding charAt
-  char-three h k = simp (le-ltb b 0x80 (omega arith), le-leb 0xC0 b (omega arith), lt-leb b 0xDF (omega arith), le-leb 0xE0 b h, le-leb b 0xEF k)
+  char-three h k = simp (
+    le-ltb b 0x80 (omega arith),
+    le-leb 0xC0 b (omega arith),
+    lt-leb b 0xDF (omega arith),
+    le-leb 0xE0 b h,
+    le-leb b
+        0xEF k,
+  )
 
   pub char-four : 0xF0 ≤ b → b ≤ 0xF7 → charAt (b ∷ bs) ≡ shortestForm 0x10000 3 (follow 3 (b - 0xF0) bs)
   unfolding charAt
   char-four h k =
-      simp (le-ltb b 0x80 (omega arith), le-leb 0xC0 b (omega arith), lt-leb b 0xDF (omega arith), le-leb 0xE0 b (omega arith), lt-leb b 0xEF (omega arith), le-leb 0xF0 b h, le-leb b 0xF7 k)
+      simp (
+        le-ltb b 0x80 (omega arith),
+        le-leb 0xC0 b (omega arith),
+        lt-leb b 0xDF (omega arith),
+        le-leb 0xE0 b (omega arith),
+        lt-leb b
+            0xEF (omega arith),
+        le-leb 0xF0 b h,
+        le-leb b 0xF7 k,
+      )
 
   pub char-over : 0xF7 < b → charAt (b ∷ bs) ≡ none
   unfolding charAt
   char-over h =
-      simp (le-ltb b 0x80 (omega arith), le-leb 0xC0 b (omega arith), lt-leb b 0xDF (omega arith), le-leb 0xE0 b (omega arith), lt-leb b 0xEF (omega arith), le-leb 0xF0 b (omega arith), lt-leb b 0xF7 h)
+      simp (
+        le-ltb b 0x80 (omega arith),
+        le-leb 0xC0 b (omega arith),
+        lt-leb b 0xDF (omega arith),
+        le-leb 0xE0 b (omega arith),
+        lt-leb b
+            0xEF (omega arith),
+        le-leb 0xF0 b (omega arith),
+        lt-leb b 0xF7 h,
+      )
 
 -- the rest from a place: the byte there, and the rest after it
 pub front : {A : Type 0} (d : A) (s : List A) (at : ℕ) → at < length s → drop at s ≡ getD s at d ∷ drop (at + 1) s
@@ -136,7 +162,8 @@ module _ (s : List ℕ) (at : ℕ) (there : at < length s) where
   pub char-from : {o : Option (ℕ × ℕ)} → charAt (getD s at 0 ∷ drop (at + 1) s) ≡ o → o ≡ charAt (drop at s)
   char-from e = sym (ap charAt (front 0 s at there) ∙ e)
 
-  pub char-form : (least n first : ℕ) {x : Option (ℕ × ℕ)} {o : Option ℕ} → x ≡ shortestForm least n o → o ≡ follow n first (drop (at + 1) s)
+  pub char-form : (least n first : ℕ) {x : Option (ℕ × ℕ)} {o : Option ℕ} → x ≡ shortestForm least n o → o ≡ follow n first
+      (drop (at + 1) s)
       → charAt (getD s at 0 ∷ drop (at + 1) s) ≡ shortestForm least n (follow n first (drop (at + 1) s)) → x ≡ charAt (drop at s)
   char-form least n first e f g = e ∙ ap (shortestForm least n) f ∙ char-from g
 
@@ -164,4 +191,5 @@ count-end s i h = rw (drop-of-length-le s h)
 pub characters-fit : (s : List ℕ) → characters s ≤ length s
 unfolding characters
 characters-fit [] = omega arith
-characters-fit (b ∷ bs) = let h = characters-fit bs in by-test (isBetween 0x80 0xBF b) (λ t. simp t (omega arith)) (λ t. simp t (omega arith))
+characters-fit (b ∷ bs) = let h = characters-fit bs in by-test (isBetween 0x80 0xBF b) (λ t. simp t (omega arith))
+    (λ t. simp t (omega arith))

@@ -41,7 +41,8 @@ module _ (s : List ℕ) (at : ℕ) where
     here : {o : Option (ℕ × ℕ)} → o ≡ charAt (drop at s) → isUtf8 (drop at s) ≡ goOn o (drop (at + 1) s)
     here {o} e =
         let f = front 0 s at there in
-        ap isUtf8 f ∙ first (getD s at 0) (drop (at + 1) s) ∙ ap (λ (c : Option (ℕ × ℕ)). goOn c (drop (at + 1) s)) (ap charAt (sym f) ∙ sym e)
+        ap isUtf8 f ∙ first (getD s at 0) (drop (at + 1) s) ∙ ap (λ (c : Option (ℕ × ℕ)). goOn c (drop (at + 1) s))
+        (ap charAt (sym f) ∙ sym e)
 
     pub utf8-bad : none ≡ charAt (drop at s) → false ≡ isUtf8 (drop at s)
     utf8-bad e = sym (here e)

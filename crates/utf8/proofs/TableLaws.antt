@@ -17,7 +17,8 @@ use Rattle.format.proofs.ListLaws.{by-test}
 use Rattle.format.proofs.Utf8Laws.{char-one, char-middle}
 use Rattle.utf8.specs.declared.Utf8.{Utf8}
 use Rattle.utf8.specs.Utf8.{step, run, whole, bad, more, isWhole, firstByte}
-use Rattle.utf8.proofs.CharLaws.{inside, follow-in, follow-out, scalar-low, scalar-high, not-scalar, char-two, char-three, char-four, char-over}
+use Rattle.utf8.proofs.CharLaws.{inside, follow-in, follow-out, scalar-low, scalar-high, not-scalar, char-two, char-three, char-four}
+use Rattle.utf8.proofs.CharLaws.{char-over}
 
 both-true : (a b : Bool) → a ≡ true → b ≡ true → (a && b) ≡ true
 both-true true b p q = q
@@ -50,7 +51,8 @@ step-out : (n lo hi b : ℕ) → (b < lo) ⊎ (hi < b) → step (more (suc n) lo
 unfolding step
 step-out n lo hi b (inl p) = simp (ne-eqb (suc n) 0 (λ z. omega arith), lt-ltb b lo p)
 step-out n lo hi b (inr q) =
-    by-test (ltb b lo) (λ e. simp (ne-eqb (suc n) 0 (λ z. omega arith), e)) (λ e. simp (ne-eqb (suc n) 0 (λ z. omega arith), e, lt-ltb hi b q))
+    by-test (ltb b lo) (λ e. simp (ne-eqb (suc n) 0 (λ z. omega arith), e))
+    (λ e. simp (ne-eqb (suc n) 0 (λ z. omega arith), e, lt-ltb hi b q))
 
 abbrev passes : Option ℕ → Bool → Bool
 passes none t = false
@@ -62,8 +64,10 @@ tail-accepts zero c bs = accepts-whole 0x80 0xBF bs
 tail-accepts (suc n) c [] = ne-eqb (suc n) 0 (λ z. omega arith)
 tail-accepts (suc n) c (b ∷ bs) =
     inside 0x80 0xBF b
-    (λ p q. ap (λ u. accepts u bs) (step-in n 0x80 0xBF b p q) ∙ tail-accepts n (c * 2 ^ 6 + (b - 0x80)) bs ∙ ap (λ o. passes o (accepts whole (drop n bs))) (sym (follow-in n c b bs p q)))
-    (λ o. ap (λ u. accepts u bs) (step-out n 0x80 0xBF b o) ∙ accepts-bad bs ∙ ap (λ r. passes r (accepts whole (drop n bs))) (sym (follow-out n c b bs o)))
+    (λ p q. ap (λ u. accepts u bs) (step-in n 0x80 0xBF b p q) ∙ tail-accepts n (c * 2 ^ 6 + (b - 0x80)) bs
+    ∙ ap (λ o. passes o (accepts whole (drop n bs))) (sym (follow-in n c b bs p q)))
+    (λ o. ap (λ u. accepts u bs) (step-out n 0x80 0xBF b o) ∙ accepts-bad bs
+    ∙ ap (λ r. passes r (accepts whole (drop n bs))) (sym (follow-out n c b bs o)))
 
 -- the value of a character, from its first bits and how many bytes follow
 abbrev Spans : ℕ → ℕ → Type 0
@@ -121,11 +125,13 @@ first b bs = go (charAt (b ∷ bs))
 abbrev Good : ℕ → ℕ → Bool → Type 0
 Good least v t = (leb least v && isScalar v) ≡ t
 
-full-yes : (least m : ℕ) (o : Option ℕ) (bs : List ℕ) → ((v : ℕ) → o ≡ some v → Good least v true) → goOn (shortestForm least m o) bs ≡ passes o (isUtf8 (drop m bs))
+full-yes : (least m : ℕ) (o : Option ℕ) (bs : List ℕ) → ((v : ℕ) → o ≡ some v → Good least v true)
+    → goOn (shortestForm least m o) bs ≡ passes o (isUtf8 (drop m bs))
 full-yes least m none bs h = refl
 full-yes least m (some v) bs h = rw (h v refl)
 
-full-no : (least m : ℕ) (o : Option ℕ) (bs : List ℕ) → ((v : ℕ) → o ≡ some v → Good least v false) → goOn (shortestForm least m o) bs ≡ false
+full-no : (least m : ℕ) (o : Option ℕ) (bs : List ℕ) → ((v : ℕ) → o ≡ some v → Good least v false)
+    → goOn (shortestForm least m o) bs ≡ false
 full-no least m none bs h = refl
 full-no least m (some v) bs h = rw (h v refl)
 
@@ -150,12 +156,14 @@ module _ (n : ℕ) (ih : (cs : List ℕ) → length cs ≤ n → isUtf8 cs ≡ a
   row-none : firstByte b ≡ bad → charAt (b ∷ bs) ≡ none → Same
   row-none e c = first b bs ∙ ap (λ o. goOn o bs) c ∙ sym (start bad e ∙ accepts-bad bs)
 
-  row-bad : (m least f : ℕ) → firstByte b ≡ bad → charAt (b ∷ bs) ≡ shortestForm least m (follow m f bs) → ((v : ℕ) → follow m f bs ≡ some v → Good least v false) → Same
+  row-bad : (m least f : ℕ) → firstByte b ≡ bad → charAt (b ∷ bs) ≡ shortestForm least m (follow m f bs)
+      → ((v : ℕ) → follow m f bs ≡ some v → Good least v false) → Same
   row-bad m least f e c h = first b bs ∙ ap (λ o. goOn o bs) c ∙ full-no least m (follow m f bs) bs h ∙ sym (start bad e ∙ accepts-bad bs)
 
   row : (k s least lo hi f : ℕ) → Spans k s → 0x80 ≤ lo → hi ≤ 0xBF
       → ((c v : ℕ) → lo ≤ c → c ≤ hi → (f * 2 ^ 6 + (c - 0x80)) * s ≤ v → v < (f * 2 ^ 6 + (c - 0x80)) * s + s → Good least v true)
-      → ((c v : ℕ) → 0x80 ≤ c → c ≤ 0xBF → (c < lo) ⊎ (hi < c) → (f * 2 ^ 6 + (c - 0x80)) * s ≤ v → v < (f * 2 ^ 6 + (c - 0x80)) * s + s → Good least v false)
+      → ((c v : ℕ) → 0x80 ≤ c → c ≤ 0xBF → (c < lo) ⊎ (hi < c) → (f * 2 ^ 6 + (c - 0x80)) * s ≤ v → v < (f * 2 ^ 6 + (c - 0x80)) * s + s
+      → Good least v false)
       → firstByte b ≡ more (suc k) lo hi → charAt (b ∷ bs) ≡ shortestForm least (suc k) (follow (suc k) f bs) → Same
   unfolding run follow
   row k s least lo hi f span low high pass fail e c = first b bs ∙ ap (λ o. goOn o bs) c ∙ go bs short ∙ sym (start (more (suc k) lo hi) e)
@@ -166,12 +174,14 @@ module _ (n : ℕ) (ih : (cs : List ℕ) → length cs ≤ n → isUtf8 cs ≡ a
           inside lo hi x
           (λ p q. let fe = follow-in k f x xs (omega arith) (omega arith) in
           ap (λ o. goOn (shortestForm least (suc k) o) (x ∷ xs)) fe
-          ∙ full-yes least (suc k) (follow k (f * 2 ^ 6 + (x - 0x80)) xs) (x ∷ xs) (λ v g. let w = span (f * 2 ^ 6 + (x - 0x80)) xs v g in pass x v p q (w .0) (w .1))
+          ∙ full-yes least (suc k) (follow k (f * 2 ^ 6 + (x - 0x80)) xs) (x ∷ xs)
+          (λ v g. let w = span (f * 2 ^ 6 + (x - 0x80)) xs v g in pass x v p q (w .0) (w .1))
           ∙ ap (passes (follow k (f * 2 ^ 6 + (x - 0x80)) xs)) (ih (drop k xs) (omega (arith, length-drop k xs)))
           ∙ sym (ap (λ u. accepts u xs) (step-in k lo hi x p q) ∙ tail-accepts k (f * 2 ^ 6 + (x - 0x80)) xs))
           (λ o. inside 0x80 0xBF x
           (λ p q. ap (λ r. goOn (shortestForm least (suc k) r) (x ∷ xs)) (follow-in k f x xs p q)
-          ∙ full-no least (suc k) (follow k (f * 2 ^ 6 + (x - 0x80)) xs) (x ∷ xs) (λ v g. let w = span (f * 2 ^ 6 + (x - 0x80)) xs v g in fail x v p q o (w .0) (w .1)))
+          ∙ full-no least (suc k) (follow k (f * 2 ^ 6 + (x - 0x80)) xs) (x ∷ xs)
+          (λ v g. let w = span (f * 2 ^ 6 + (x - 0x80)) xs v g in fail x v p q o (w .0) (w .1)))
           (λ r. ap (λ r. goOn (shortestForm least (suc k) r) (x ∷ xs)) (follow-out k f x xs r))
           ∙ sym (ap (λ u. accepts u xs) (step-out k lo hi x o) ∙ accepts-bad xs))
 
@@ -183,14 +193,18 @@ module _ (n : ℕ) (ih : (cs : List ℕ) → length cs ≤ n → isUtf8 cs ≡ a
       e (char-two b bs (omega arith) (omega arith))
 
   three : (lo hi : ℕ) → 0xE0 ≤ b → b < 0xF0 → 0x80 ≤ lo → hi ≤ 0xBF
-      → ((c v : ℕ) → lo ≤ c → c ≤ hi → ((b - 0xE0) * 2 ^ 6 + (c - 0x80)) * 64 ≤ v → v < ((b - 0xE0) * 2 ^ 6 + (c - 0x80)) * 64 + 64 → Good 0x800 v true)
-      → ((c v : ℕ) → 0x80 ≤ c → c ≤ 0xBF → (c < lo) ⊎ (hi < c) → ((b - 0xE0) * 2 ^ 6 + (c - 0x80)) * 64 ≤ v → v < ((b - 0xE0) * 2 ^ 6 + (c - 0x80)) * 64 + 64 → Good 0x800 v false)
+      → ((c v : ℕ) → lo ≤ c → c ≤ hi → ((b - 0xE0) * 2 ^ 6 + (c - 0x80)) * 64 ≤ v → v < ((b - 0xE0) * 2 ^ 6 + (c - 0x80)) * 64 + 64 → Good
+      0x800 v true)
+      → ((c v : ℕ) → 0x80 ≤ c → c ≤ 0xBF → (c < lo) ⊎ (hi < c) → ((b - 0xE0) * 2 ^ 6 + (c - 0x80)) * 64 ≤ v → v <
+      ((b - 0xE0) * 2 ^ 6 + (c - 0x80)) * 64 + 64 → Good 0x800 v false)
       → firstByte b ≡ more 2 lo hi → Same
   three lo hi h k low high pass fail e = row 1 64 0x800 lo hi (b - 0xE0) spans-1 low high pass fail e (char-three b bs h (omega arith))
 
   four : (lo hi : ℕ) → 0xF0 ≤ b → b ≤ 0xF4 → 0x80 ≤ lo → hi ≤ 0xBF
-      → ((c v : ℕ) → lo ≤ c → c ≤ hi → ((b - 0xF0) * 2 ^ 6 + (c - 0x80)) * 4096 ≤ v → v < ((b - 0xF0) * 2 ^ 6 + (c - 0x80)) * 4096 + 4096 → Good 0x10000 v true)
-      → ((c v : ℕ) → 0x80 ≤ c → c ≤ 0xBF → (c < lo) ⊎ (hi < c) → ((b - 0xF0) * 2 ^ 6 + (c - 0x80)) * 4096 ≤ v → v < ((b - 0xF0) * 2 ^ 6 + (c - 0x80)) * 4096 + 4096 → Good 0x10000 v false)
+      → ((c v : ℕ) → lo ≤ c → c ≤ hi → ((b - 0xF0) * 2 ^ 6 + (c - 0x80)) * 4096 ≤ v → v < ((b - 0xF0) * 2 ^ 6 + (c - 0x80)) * 4096 + 4096
+      → Good 0x10000 v true)
+      → ((c v : ℕ) → 0x80 ≤ c → c ≤ 0xBF → (c < lo) ⊎ (hi < c) → ((b - 0xF0) * 2 ^ 6 + (c - 0x80)) * 4096 ≤ v → v <
+      ((b - 0xF0) * 2 ^ 6 + (c - 0x80)) * 4096 + 4096 → Good 0x10000 v false)
       → firstByte b ≡ more 3 lo hi → Same
   four lo hi h k low high pass fail e = row 2 4096 0x10000 lo hi (b - 0xF0) spans-2 low high pass fail e (char-four b bs h (omega arith))
 
@@ -229,7 +243,8 @@ module _ (n : ℕ) (ih : (cs : List ℕ) → length cs ≤ n → isUtf8 cs ≡ a
       (λ t2. let nk2 = eqb-false b 0xED t2 in
       three 0x80 0xBF h l (omega arith) (omega arith)
       (λ c v p q r s. both-true (leb 0x800 v) (isScalar v) (le-leb 0x800 v (omega arith))
-      (by-test (ltb b 0xED) (λ y. let m = ltb-true b 0xED y in scalar-low v (omega arith)) (λ y. let m = ltb-false b 0xED y in scalar-high v (omega arith) (omega arith))))
+      (by-test (ltb b 0xED) (λ y. let m = ltb-true b 0xED y in scalar-low v (omega arith))
+      (λ y. let m = ltb-false b 0xED y in scalar-high v (omega arith) (omega arith))))
       (λ c v p q o r s. absurd (⊎-elim (λ y. omega arith) (λ y. omega arith) o))
       (simp (a, d, g, t, t2, lt-ltb b 0xF0 l))))
 
@@ -266,7 +281,8 @@ module _ (n : ℕ) (ih : (cs : List ℕ) → length cs ≤ n → isUtf8 cs ≡ a
       let e : firstByte b ≡ bad = simp (a, d, g, j, m, i, t, t2, t3) in
       by-test (leb b 0xF7)
       (λ y. let k = leb-true b 0xF7 y in
-      row-bad 3 0x10000 (b - 0xF0) e (char-four b bs h k) (λ v q. let w = spans-3 (b - 0xF0) bs v q in no-scalar 0x10000 v (not-scalar v (omega arith) (inr (omega arith)))))
+      row-bad 3 0x10000 (b - 0xF0) e (char-four b bs h k)
+      (λ v q. let w = spans-3 (b - 0xF0) bs v q in no-scalar 0x10000 v (not-scalar v (omega arith) (inr (omega arith)))))
       (λ y. row-none e (char-over b bs (leb-false b 0xF7 y))))))
 
   same : Same
@@ -279,7 +295,8 @@ module _ (n : ℕ) (ih : (cs : List ℕ) → length cs ≤ n → isUtf8 cs ≡ a
       (λ t2. rows-two h (ltb-true b 0xE0 t2))
       (λ t2. by-test (ltb b 0xF0) (λ t3. rows-three (ltb-false b 0xE0 t2) (ltb-true b 0xF0 t3)) (λ t3. rows-four (ltb-false b 0xF0 t3))))
 
-turn : (n : ℕ) → ((cs : List ℕ) → length cs ≤ n → isUtf8 cs ≡ accepts whole cs) → (bs : List ℕ) → length bs ≤ suc n → isUtf8 bs ≡ accepts whole bs
+turn : (n : ℕ) → ((cs : List ℕ) → length cs ≤ n → isUtf8 cs ≡ accepts whole cs) → (bs : List ℕ) → length bs ≤ suc n → isUtf8 bs ≡ accepts
+    whole bs
 unfolding isUtf8 scalarsFrom isSome run
 turn n ih [] h = refl
 turn n ih (b ∷ bs) h = same n ih b bs (omega arith)

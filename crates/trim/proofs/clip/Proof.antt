@@ -15,7 +15,8 @@ use Rattle.trim.proofs.clip.Statement.{statement}
 use Rattle.trim.proofs.clip.Tie as tie
 
 -- the end, whichever way it came
-end-is : (c : tie.Joined1) → c .if1 .e ≡ (if ltb (c .before .args .end) (length (now (c .before .args .s))) then c .before .args .end else length (now (c .before .args .s)))
+end-is : (c : tie.Joined1) → c .if1 .e ≡ (if ltb (c .before .args .end) (length (now (c .before .args .s))) then c .before .args .end else
+    length (now (c .before .args .s)))
 end-is c = ⊎-elim (λ w. simp (lt-ltb _ _ (w .0 .taken)) (w .1)) (λ w. simp (le-ltb _ _ (w .0 .left)) (w .1)) (c .if1 .came)
 
 returns : tie.Need-returns

@@ -8,7 +8,8 @@ use Rattle.trim.proofs.is_blank.Tie as tie
 returns : tie.Need-returns
 returns c =
     let args = c .before .before .args in
-    blank-range (now (args .s)) (args .start) (args .end) (c .trim-start .result .start) (c .trim-start .result .end) (c .trim-start .ensures .1)
+    blank-range (now (args .s)) (args .start) (args .end) (c .trim-start .result .start) (c .trim-start .result .end)
+    (c .trim-start .ensures .1)
 
 pub is-blank-spec : {M : Type 1} → statement M
 is-blank-spec = tie.close (tie.spec (λ c κs. search needs) returns)

@@ -8,7 +8,8 @@ use Rattle.trim.proofs.trim.Tie as tie
 returns : tie.Need-returns
 returns c =
     let args = c .before .before .before .args in
-    both-trimmed (now (args .s)) (args .start) (args .end) (c .before .trim-start .result) (c .trim-end .result) (c .before .trim-start .ensures .0) (c .before .trim-start .ensures .1) (c .trim-end .ensures .0) (c .trim-end .ensures .1)
+    both-trimmed (now (args .s)) (args .start) (args .end) (c .before .trim-start .result) (c .trim-end .result)
+    (c .before .trim-start .ensures .0) (c .before .trim-start .ensures .1) (c .trim-end .ensures .0) (c .trim-end .ensures .1)
 
 pub trim-spec : {M : Type 1} → statement M
 trim-spec = tie.close (tie.spec (λ c κs. search needs) (λ c κs. search needs) returns)

@@ -23,15 +23,20 @@ returns c =
     (loop .inv .0, sym (trim-stop _ (sym (c .before .white-at .ensures) ∙ c .if1 .taken)) ∙ loop .inv .1)
 
 -- the character lies in the text
-fits : (c : tie.Else1 Inv-loop μ-loop) → c .before .white-at .result ≤ length (now (c .before .before .before .before .args .s)) - c .before .before .loop .at
+fits : (c : tie.Else1 Inv-loop μ-loop) → c .before .white-at .result ≤ length (now (c .before .before .before .before .args .s)) -
+    c .before .before .loop .at
 fits c = rw (c .before .white-at .ensures) (white-left (now (c .before .before .before .before .args .s)) (c .before .before .loop .at))
 
 loop-again : tie.Need-loop-again Inv-loop μ-loop
 loop-again c =
-    let loop = c .before .before .loop in
-    (omega (arith, fits c), trim-on (now (c .before .before .before .before .args .s)) (loop .at) _ (c .before .white-at .ensures) ∙ loop .inv .1)
+    let loop = c .before .before .loop in (
+      omega (arith, fits c),
+      trim-on (now (c .before .before .before .before .args .s)) (loop .at) _ (c .before .white-at .ensures) ∙
+          loop .inv .1,
+    )
 
 pub white-start-spec : {M : Type 1} → statement M
 white-start-spec =
     tie.close
-    (tie.spec Inv-loop μ-loop (λ c. (omega arith, refl)) (λ c κs. search needs) returns (λ c. omega (arith, fits c)) (λ c. omega (arith, fits c)) loop-again)
+    (tie.spec Inv-loop μ-loop (λ c. (omega arith, refl)) (λ c κs. search needs) returns (λ c. omega (arith, fits c))
+    (λ c. omega (arith, fits c)) loop-again)

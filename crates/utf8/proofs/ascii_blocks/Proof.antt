@@ -18,10 +18,15 @@ abbrev μ-loop : tie.MeasureT-loop
 loop-again : tie.Need-loop-again Inv-loop μ-loop
 loop-again c =
     let loop = c .before .before .before .loop in
-    let args = c .before .before .before .before .before .args in
-    (omega arith, omega arith, ascii-join (now (args .s)) (args .at) (loop .i) (loop .i + 64) (loop .inv .2) (c .before .is-ascii-block .ensures (c .if1 .taken)))
+    let args = c .before .before .before .before .before .args in (
+      omega arith,
+      omega arith,
+      ascii-join (now (args .s)) (args .at) (loop .i) (loop .i + 64) (loop .inv .2)
+          (c .before .is-ascii-block .ensures (c .if1 .taken)),
+    )
 
 pub ascii-blocks-spec : {M : Type 1} → statement M
 ascii-blocks-spec =
     tie.close
-    (tie.spec Inv-loop μ-loop (λ c. (omega arith, omega arith, λ j p q. absurd (omega arith))) (λ c. omega arith) (λ c κs. omega arith) (λ c. omega arith) (λ c. omega arith) loop-again (λ c. c .before .before .before .loop .inv) (λ c. c .before .loop .inv))
+    (tie.spec Inv-loop μ-loop (λ c. (omega arith, omega arith, λ j p q. absurd (omega arith))) (λ c. omega arith) (λ c κs. omega arith)
+    (λ c. omega arith) (λ c. omega arith) loop-again (λ c. c .before .before .before .loop .inv) (λ c. c .before .loop .inv))

@@ -18,10 +18,15 @@ abbrev μ-loop : tie.MeasureT-loop
 loop-again : tie.Need-loop-again Inv-loop μ-loop
 loop-again c =
     let loop = c .before .before .before .loop in
-    let args = c .before .before .before .before .before .before .args in
-    (omega arith, omega arith, ascii-join (now (args .s)) (args .at) (loop .i) (loop .i + 1) (loop .inv .2) (ascii-one (now (args .s)) (loop .i) (c .if1 .left)))
+    let args = c .before .before .before .before .before .before .args in (
+      omega arith,
+      omega arith,
+      ascii-join (now (args .s)) (args .at) (loop .i) (loop .i + 1) (loop .inv .2)
+          (ascii-one (now (args .s)) (loop .i) (c .if1 .left)),
+    )
 
 pub ascii-end-spec : {M : Type 1} → statement M
 ascii-end-spec =
     tie.close
-    (tie.spec Inv-loop μ-loop (λ c κs. omega arith) (λ c. c .ascii-blocks .ensures) (λ c. omega arith) (λ c. c .before .before .before .loop .inv) (λ c. omega arith) (λ c. omega arith) loop-again (λ c. c .before .loop .inv))
+    (tie.spec Inv-loop μ-loop (λ c κs. omega arith) (λ c. c .ascii-blocks .ensures) (λ c. omega arith)
+    (λ c. c .before .before .before .loop .inv) (λ c. omega arith) (λ c. omega arith) loop-again (λ c. c .before .loop .inv))

@@ -22,8 +22,12 @@ loop-holds c = (omega arith, omega arith, omega arith)
 loop-again : tie.Need-loop-again Inv-loop μ-loop
 loop-again c =
     let s = now (c .before .before .before .before .before .args .s) in
-    let loop = c .before .before .before .loop in
-    (omega arith, omega (arith, c .begins .ensures .1), omega (arith, c .begins .ensures .0, count-on s (loop .i) (c .before .before .loop-test .taken)))
+    let loop = c .before .before .before .loop in (
+      omega arith,
+      omega (arith, c .begins .ensures .1),
+      omega
+          (arith, c .begins .ensures .0, count-on s (loop .i) (c .before .before .loop-test .taken)),
+    )
 
 returns : tie.Need-returns Inv-loop μ-loop
 returns c = omega (arith, count-end (now (c .before .before .before .args .s)) (c .before .loop .i) (c .loop-test .left))
@@ -31,4 +35,5 @@ returns c = omega (arith, count-end (now (c .before .before .before .args .s)) (
 pub characters-spec : {M : Type 1} → statement M
 characters-spec =
     tie.close
-    (tie.spec Inv-loop μ-loop loop-holds (λ c. omega arith) (λ c κs. search needs) (λ c. omega (arith, c .begins .ensures .1)) (λ c. omega arith) (λ c. omega arith) loop-again returns)
+    (tie.spec Inv-loop μ-loop loop-holds (λ c. omega arith) (λ c κs. search needs) (λ c. omega (arith, c .begins .ensures .1))
+    (λ c. omega arith) (λ c. omega arith) loop-again returns)

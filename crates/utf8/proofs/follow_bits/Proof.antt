@@ -27,17 +27,25 @@ returns : tie.Need-returns Inv-loop μ-loop
 returns c = follow-short _ _ _ _ _ (c .before .loop-test .taken) (c .if1 .taken) ∙ c .before .before .loop .inv .2
 
 returns-2 : tie.Need-returns-2 Inv-loop μ-loop
-returns-2 c = follow-none _ _ _ _ _ (c .before .before .before .loop-test .taken) (c .before .before .if1 .left) (inl (c .if2 .taken)) ∙ c .before .before .before .before .loop .inv .2
+returns-2 c = follow-none _ _ _ _ _ (c .before .before .before .loop-test .taken) (c .before .before .if1 .left) (inl (c .if2 .taken)) ∙
+    c .before .before .before .before .loop .inv .2
 
 returns-3 : tie.Need-returns-3 Inv-loop μ-loop
-returns-3 c = follow-none _ _ _ _ _ (c .before .before .before .before .loop-test .taken) (c .before .before .before .if1 .left) (inr (c .if3 .taken)) ∙ c .before .before .before .before .before .loop .inv .2
+returns-3 c = follow-none _ _ _ _ _ (c .before .before .before .before .loop-test .taken) (c .before .before .before .if1 .left)
+    (inr (c .if3 .taken)) ∙ c .before .before .before .before .before .loop .inv .2
 
 -- the byte's bits, and the room for one byte more
-more-bits : (c : tie.Else3 Inv-loop μ-loop) → (c .before .before .before .before .before .loop .bits * 64 + (getD (now (c .before .before .before .before .before .before .args .s)) (c .before .before .before .before .before .before .args .at + c .before .before .before .before .before .loop .k) 0 - 0x80) < room (c .before .before .before .before .before .loop .k + 1)) × (room (c .before .before .before .before .before .loop .k + 1) ≤ 8388608)
+more-bits : (c : tie.Else3 Inv-loop μ-loop) → (c .before .before .before .before .before .loop .bits * 64 +
+    (getD (now (c .before .before .before .before .before .before .args .s))
+    (c .before .before .before .before .before .before .args .at + c .before .before .before .before .before .loop .k) 0 - 0x80) < room
+    (c .before .before .before .before .before .loop .k + 1)) × (room (c .before .before .before .before .before .loop .k + 1) ≤ 8388608)
 more-bits c =
     let loop = c .before .before .before .before .before .loop in
-    let args = c .before .before .before .before .before .before .args in
-    (room-more (loop .k) (loop .bits) (getD (now (args .s)) (args .at + loop .k) 0 - 0x80) (loop .inv .1) (omega arith), room-small (loop .k + 1) (omega arith))
+    let args = c .before .before .before .before .before .before .args in (
+      room-more (loop .k) (loop .bits) (getD (now (args .s)) (args .at + loop .k) 0 - 0x80) (loop .inv .1) (omega arith),
+      room-small
+          (loop .k + 1) (omega arith),
+    )
 
 mul-bits : tie.Need-mul-bits Inv-loop μ-loop
 mul-bits c = omega (arith, more-bits c .0, more-bits c .1)
@@ -46,8 +54,13 @@ add-bits : tie.Need-add-bits Inv-loop μ-loop
 add-bits c = omega (arith, more-bits c .0, more-bits c .1)
 
 loop-again : tie.Need-loop-again Inv-loop μ-loop
-loop-again c =
-    (omega arith, more-bits c .0, follow-more _ _ _ _ _ (c .before .before .before .before .loop-test .taken) (c .before .before .before .if1 .left) (c .before .if2 .left) (c .if3 .left) ∙ c .before .before .before .before .before .loop .inv .2)
+loop-again c = (
+  omega arith,
+  more-bits c .0,
+  follow-more _ _ _ _ _ (c .before .before .before .before .loop-test .taken)
+      (c .before .before .before .if1 .left) (c .before .if2 .left) (c .if3 .left)
+      ∙ c .before .before .before .before .before .loop .inv .2,
+)
 
 returns-4 : tie.Need-returns-4 Inv-loop μ-loop
 returns-4 c = follow-all _ _ _ _ _ (c .loop-test .left) ∙ c .before .loop .inv .2
@@ -55,4 +68,10 @@ returns-4 c = follow-all _ _ _ _ _ (c .loop-test .left) ∙ c .before .loop .inv
 pub follow-bits-spec : {M : Type 1} → statement M
 follow-bits-spec =
     tie.close
-    (tie.spec Inv-loop μ-loop loop-holds (λ c. omega arith) returns (λ c. omega arith) returns-2 returns-3 (λ c. omega (arith, c .before .before .shared-slice-known .given (c .before .before .before .before .before .before .args .at + c .before .before .before .before .before .loop .k))) mul-bits add-bits (λ c. omega arith) (λ c. omega arith) loop-again returns-4)
+    (tie.spec Inv-loop μ-loop loop-holds (λ c. omega arith) returns (λ c. omega arith) returns-2 returns-3
+    (λ c. omega (
+      arith,
+      c .before .before .shared-slice-known .given
+          (c .before .before .before .before .before .before .args .at + c .before .before .before .before .before .loop .k),
+    )) mul-bits add-bits
+    (λ c. omega arith) (λ c. omega arith) loop-again returns-4)

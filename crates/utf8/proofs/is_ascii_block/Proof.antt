@@ -21,8 +21,11 @@ loop-again c =
     let loop = c .before .before .before .loop in
     let args = c .before .before .before .before .args in
     let b : (loop .most ≤ c .if1 .most) × (getD (now (args .s)) (args .at + loop .k) 0 ≤ c .if1 .most) =
-    ⊎-elim (λ w. omega arith) (λ w. omega arith) (c .if1 .came) in
-    (omega arith, λ j p q. at-most-more (loop .most) (c .if1 .most) (now (args .s)) (args .at) (args .at + loop .k) (loop .inv .1) (b .0) (b .1) j p (omega arith))
+    ⊎-elim (λ w. omega arith) (λ w. omega arith) (c .if1 .came) in (
+      omega arith,
+      λ j p q. at-most-more (loop .most) (c .if1 .most) (now (args .s)) (args .at) (args .at + loop .k) (loop .inv .1) (b .0)
+          (b .1) j p (omega arith),
+    )
 
 returns : tie.Need-returns Inv-loop μ-loop
 returns c = λ t j p q. let i = c .before .loop .inv .1 j p (omega arith) in omega (arith, ltb-true (c .before .loop .most) 0x80 t)
@@ -30,4 +33,5 @@ returns c = λ t j p q. let i = c .before .loop .inv .1 j p (omega arith) in ome
 pub is-ascii-block-spec : {M : Type 1} → statement M
 is-ascii-block-spec =
     tie.close
-    (tie.spec Inv-loop μ-loop (λ c. (omega arith, λ j p q. absurd (omega arith))) (λ c. omega arith) (λ c. omega arith) (λ c. omega arith) (λ c. omega arith) loop-again returns)
+    (tie.spec Inv-loop μ-loop (λ c. (omega arith, λ j p q. absurd (omega arith))) (λ c. omega arith) (λ c. omega arith) (λ c. omega arith)
+    (λ c. omega arith) loop-again returns)
