@@ -54,8 +54,8 @@ module _ (x : ℕ) where
       (λ t. let e : x ≡ 0x2029 = omega (arith, eqb-false x 0x2028 t) in sym (ap isWhiteSpace e))
 
   pub white-not :
-      (Alone x → ⊥) → isBetween 0x9 0xD x ≡ false → isBetween 0x2000 0x200A x ≡ false → (x ≡ 0x2028 → ⊥) → (x ≡ 0x2029 → ⊥) → false ≡
-      isWhiteSpace x
+      (Alone x → ⊥) → isBetween 0x9 0xD x ≡ false → isBetween 0x2000 0x200A x ≡ false → (x ≡ 0x2028 → ⊥) → (x ≡ 0x2029 → ⊥)
+      → false ≡ isWhiteSpace x
   unfolding isWhiteSpace
   white-not other a b c d =
       simp (
