@@ -1,4 +1,4 @@
-// UTF-8 in place on bytes: whether they are UTF-8, the character at a place, and the bytes of a scalar value.
+// UTF-8 in place on bytes: whether they are UTF-8, the character at a place, and how many there are.
 ghost use mathlib.Core.Path.{_≡_};
 ghost use mathlib.Core.Bool.{true};
 ghost use Prim.Native.Nat.{ℕ, _+_, _≤_, _<_};
@@ -7,7 +7,8 @@ ghost use Rattle.format.specs.Utf8.{follow, shortestForm, charAt, isUtf8, chara
 ghost use Rattle.utf8.specs.Chars.{charOf, bitsOf, begins};
 ghost use Rattle.utf8.specs.Utf8.{Ascii, more, whole, isWhole, step, firstByte};
 
-// Where a reader of UTF-8 stands: how many bytes of the character are still to come, and the bounds of the next of them.
+// Where a reader of UTF-8 stands that is fed a byte at a time, as from text words, whose bytes don't lie side by side: how many bytes of
+// the character are still to come, and the bounds of the next of them.
 // Between characters none is to come. Where the bytes are no UTF-8, one is to come that has no bounds to lie in.
 pub struct Utf8 {
     pub need: u8,
