@@ -1,0 +1,4 @@
+pub mod WriteLaws
+pub mod Parts
+pub mod EachLaws
+pub mod TextLaws

@@ -1,0 +1,27 @@
+-- Two stores. Assumes nothing.
+use borrow.Author.Needs.{needs}
+use mathlib.Core.Path.{refl}
+use Rattle.format.specs.Digits.{digitsOf}
+use Rattle.writing.proofs.WriteLaws.{too-short, stored}
+use Rattle.writing.proofs.put_u16_le.Statement.{statement}
+use Rattle.writing.proofs.put_u16_le.Tie as tie
+
+returns : tie.Need-returns
+unfolding digitsOf
+returns c = too-short (digitsOf 8 2 (c .before .args .v)) _ 2 refl (c .if1 .taken)
+
+returns-2 : tie.Need-returns-2
+unfolding digitsOf
+returns-2 c = stored (digitsOf 8 2 (c .before .args .v)) _ 2 refl (c .if1 .left)
+
+pub put-u16-le-spec : {M : Type 1} → statement M
+put-u16-le-spec =
+    tie.close
+    (tie.spec
+    returns
+    (λ c. search needs)
+    (λ c. search needs)
+    (λ c. search needs)
+    (λ c. search needs)
+    (λ c. search needs)
+    returns-2)
