@@ -1,0 +1,4 @@
+pub mod Run
+pub mod Bodies
+pub mod Texts
+pub mod Steps
