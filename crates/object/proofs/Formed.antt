@@ -13,8 +13,9 @@ use Rattle.format.specs.Records.{Record, recordKey, placed}
 use Rattle.format.specs.Words.{isHead, recordFrom, recordsFrom, objectOf}
 use Rattle.format.specs.Calls.{checked}
 use Rattle.object.specs.Bodies.{bodyAt, groupsAt}
+use Rattle.format.proofs.WordsOnly.{bind-given, ask-given, given-same}
+use Rattle.object.proofs.Tests.{clash}
 use Rattle.object.proofs.RefusalLaws.{refusal-of}
-use Rattle.object.proofs.BodyLaws.{after-groups, groups-out, groups-here, head-at}
 
 -- the first record of those read
 pub record Reads (g : ℕ × List ℕ) (gs : List (ℕ × List ℕ)) (rs : List Record) : Type 0 where
@@ -26,38 +27,36 @@ pub record Reads (g : ℕ × List ℕ) (gs : List (ℕ × List ℕ)) (rs : List 
 
 pub reads : (g : ℕ × List ℕ) (gs : List (ℕ × List ℕ)) (rs : List Record) → recordsFrom (g ∷ gs) ≡ given rs → Reads g gs rs
 unfolding recordsFrom
-reads g gs rs e = go (recordFrom g) refl (recordsFrom gs) refl e
-  where
-    go : (o : Outcome Record) → recordFrom g ≡ o → (p : Outcome (List Record)) → recordsFrom gs ≡ p → (o >>= λ r. p >>= λ qs. given (r ∷ qs)) ≡ given rs → Reads g gs rs
-    go (refused n) f p q e = let z : _≡_ {A = ℕ} 0 1 = cc in absurd (omega arith)
-    go (given r) f (refused n) q e = let z : _≡_ {A = ℕ} 0 1 = cc in absurd (omega arith)
-    go (given r) f (given qs) q e = record { first = r; rest = qs; head = f; tail = q; all = cc }
+reads g gs rs e =
+    let f = bind-given (recordFrom g) (λ r. recordsFrom gs >>= λ qs. given (r ∷ qs)) rs e in
+    let t = bind-given (recordsFrom gs) (λ qs. given (f .0 ∷ qs)) rs (f .2) in
+    record { first = f .0; rest = t .0; head = f .1; tail = t .1; all = sym (given-same (t .2)) }
 
--- the records of a well formed object
+-- the records of a well formed object: it starts with a head, they rise, and it is theirs
 pub record Held (ws : List ℕ) (h : ObjectFile) : Type 0 where
   pub records : List Record
+  pub starts : bodyAt ws 0 ≡ []
   pub read : recordsFrom (groupsAt ws 0) ≡ given records
-  pub is : h ≡ placed records
+  pub rising : rises recordKey records ≡ true
+  pub whole : consistent (placed records) ≡ true
+  pub is : placed records ≡ h
+
+empty : (xs : List ℕ) → isEmpty xs ≡ true → xs ≡ []
+unfolding isEmpty
+empty [] e = refl
+empty (x ∷ xs) e = clash e refl
 
 pub held : (ws : List ℕ) (h : ObjectFile) → objectOf ws ≡ given h → Held ws h
-unfolding objectOf groupsAt
-held ws h e = start (isEmpty (partsAt isHead ws .before)) e
-  where
-    last : (rs : List Record) → recordsFrom (groupsAt ws 0) ≡ given rs → (a b : Bool) → (ask 1 a >>= λ _. ask 1 b >>= λ _. given (placed rs)) ≡ given h → Held ws h
-    last rs q false b e = let z : _≡_ {A = ℕ} 0 1 = cc in absurd (omega arith)
-    last rs q true false e = let z : _≡_ {A = ℕ} 0 1 = cc in absurd (omega arith)
-    last rs q true true e = record { records = rs; read = q; is = cc }
-
-    middle : (o : Outcome (List Record)) → recordsFrom (groupsAt ws 0) ≡ o
-        → (o >>= λ rs. ask 1 (rises recordKey rs) >>= λ _. ask 1 (consistent (placed rs)) >>= λ _. given (placed rs)) ≡ given h → Held ws h
-    middle (refused n) q e = let z : _≡_ {A = ℕ} 0 1 = cc in absurd (omega arith)
-    middle (given rs) q e = last rs q (rises recordKey rs) (consistent (placed rs)) e
-
-    start : (t : Bool)
-        → (ask 1 t >>= λ _. recordsFrom (partsAt isHead ws .groups) >>= λ rs. ask 1 (rises recordKey rs) >>= λ _. ask 1 (consistent (placed rs)) >>= λ _. given (placed rs)) ≡ given h
-        → Held ws h
-    start false e = let z : _≡_ {A = ℕ} 0 1 = cc in absurd (omega arith)
-    start true e = middle (recordsFrom (partsAt isHead ws .groups)) refl e
+unfolding objectOf groupsAt bodyAt
+held ws h e =
+    let p = partsAt isHead ws in
+    let last : List Record → Outcome ObjectFile = λ rs. ask 1 (consistent (placed rs)) >>= λ _. given (placed rs) in
+    let then : List Record → Outcome ObjectFile = λ rs. ask 1 (rises recordKey rs) >>= λ _. last rs in
+    let a = ask-given 1 (isEmpty (p .before)) (recordsFrom (p .groups) >>= then) h e in
+    let f = bind-given (recordsFrom (p .groups)) then h (a .1) in
+    let b = ask-given 1 (rises recordKey (f .0)) (last (f .0)) h (f .2) in
+    let c = ask-given 1 (consistent (placed (f .0))) (given (placed (f .0))) h (b .1) in
+    record { records = f .0; starts = empty (p .before) (a .0); read = f .1; rising = b .0; whole = c .0; is = given-same (c .1) }
 
 -- an object by its number
 pub record Formed (ws : List ℕ) : Type 0 where

@@ -12,3 +12,4 @@ pub mod StepLaws
 pub mod KindLaws
 pub mod WalkLaws
 pub mod Formed
+pub mod AccessLaws
