@@ -1,4 +1,5 @@
 pub mod Laws
+pub mod DigitLaws
 pub mod SortedLaws
 pub mod NumeralLaws
 pub mod TextLaws

@@ -99,7 +99,7 @@ abbrev pub All : {A : Type 0} → (A → Type 0) → List A → Type 0
 All P [] = Unit {0}
 All P (x ∷ xs) = P x × All P xs
 
--- opens every definition of this module, and the library's `flatMap`, where an `unfolding` line names it
+-- Named on an `unfolding` line, it opens every definition of this module, and the library's `flatMap`; each module ends with its own.
 unfoldable pub open-Basics : Unit {0}
 unfolding isSome ascii isEmpty every keep chain allSome eqs beginsWith flatMap
 open-Basics = tt

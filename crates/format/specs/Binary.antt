@@ -11,7 +11,8 @@ use Rattle.format.specs.Digits.{valueOf, digitsOf}
 use Rattle.format.specs.Tokens.{tokens}
 use Rattle.format.specs.Utf8.{isUtf8}
 use Rattle.format.specs.ObjectFile.{ObjectFile, strictlyRise}
-use Rattle.format.specs.Records.{Record, block, label, lineBlock, source, relocation, recordsOf, gatherRecords, emptyObject, binaryQuestions, concluded}
+use Rattle.format.specs.Records.{Record, block, label, lineBlock, source, relocation, recordsOf}
+use Rattle.format.specs.Records.{gatherRecords, emptyObject, binaryQuestions, concluded}
 use Rattle.format.specs.Words.{flagBit}
 
 -- "Header 6F 62 6A 21 10 00 01": magic, five bytes, and version, two
@@ -85,8 +86,8 @@ addressesFrom [] = []
 addressesFrom (a ∷ []) = []
 addressesFrom (a ∷ b ∷ bs) = valueOf 8 (a ∷ b ∷ []) ∷ addressesFrom bs
 
--- The record of each kind, from the bytes after its kind byte, and how many of them it has: "All its bytes there? 12", "Name or source chunk
--- UTF-8? 13", "Line addresses strictly rising? 14". A count or a length is read only where its bytes are there.
+-- Each kind's record, from the bytes after its kind byte, and how many of them it has: "All its bytes there? 12" (a count or a length is
+-- read only where its bytes are there), "Name or source chunk UTF-8? 13", "Line addresses strictly rising? 14"
 unfoldable pub blockFrom : List ℕ → Outcome (Record × ℕ)
 blockFrom bs = do
   _ ← ask 12 (hasBytes 4 bs)
@@ -155,7 +156,6 @@ binaryObject bs = do
   rs ← binaryRecords bs
   concluded binaryQuestions (gatherRecords emptyObject rs)
 
--- opens every definition of this module where an `unfolding` line names it
 unfoldable pub open-Binary : Unit {0}
 unfolding magic version header recordBytes binaryFile countsFit memoriesFrom addressesFrom blockFrom labelFrom linesFrom sourceFrom
     relocationFrom recordAt binaryRecords binaryObject

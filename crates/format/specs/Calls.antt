@@ -33,8 +33,7 @@ pub data Reordered {A : Type 0} : List A → List A → Type 0 where
 abbrev pub inOrder : ObjectFile → List Label → List Relocation → ObjectFile
 inOrder h ls rs = record { blocks = h .blocks; labels = ls; lineBlocks = h .lineBlocks; source = h .source; relocations = rs }
 
--- binary write of the words ws, with label and relocation records in the orders given: "well formed? 1", "at most 65,535 addresses per
--- line block? 2"
+-- binary write with label and relocation records in the orders given: "well formed? 1", "at most 65,535 addresses per line block? 2"
 unfoldable pub writeBinary : List ℕ → List Label → List Relocation → Outcome (List ℕ)
 writeBinary ws ls rs = do
   h ← objectOf ws
@@ -65,8 +64,7 @@ pub record Filled : Type 0 where
   pub len : ℕ
   pub buffer : List ℕ
 
--- "Is it at least as long as the answer? 3"; "length and every other value handed back 0, and leaves all lent buffers as found"; "return
--- the length filled; bytes or words past it stay"
+-- "Is it at least as long as the answer? 3"; on a refusal buffers are "as found"; else "bytes or words past [the length filled] stay"
 unfoldable pub fill : Outcome (List ℕ) → List ℕ → Filled
 fill (refused n) buffer = record { number = n; len = 0; buffer = buffer }
 fill (given out) buffer =
@@ -188,7 +186,6 @@ unfoldable pub bin2text : ℕ → ℕ → ℕ → List ℕ → List ℕ
 bin2text bytes words out input =
     message (fitting bytes (given input) >>= λ bs. fitting words (readBinary bs) >>= λ ws. fitting out (writeText ws))
 
--- opens every definition of this module where an `unfolding` line names it
 unfoldable pub open-Calls : Unit {0}
 unfolding writeBinary writeText readBinary readText fill checked measured fairAnswer sourceIn valueAnswer spanAnswer positionAnswer
     queryCountLines queryRawLineSpan queryLineSpan queryPosPair queryGet queryFind message fitting bin2text

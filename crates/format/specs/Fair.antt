@@ -1,5 +1,4 @@
--- Fair objects (document 01, "Fair"): the facts by name, over the words that the document speaks of. `isFair` is the same as a test.
--- Assumes nothing.
+-- Fair objects (document 01, "Fair"): the facts by name, over words; `isFair` is the same as a test. Assumes nothing.
 use mathlib.Core.Path.{_≡_}
 use mathlib.Core.Bool.{Bool, true, false, _&&_, not}
 use mathlib.Core.List.{List, []}
@@ -77,7 +76,6 @@ isFairBy (some s) h = every isFairName (namesOf h) && every (isFairLineBlock s) 
 unfoldable pub isFair : ObjectFile → Bool
 isFair h = isFairBy (h .source) h
 
--- opens every definition of this module where an `unfolding` line names it
 unfoldable pub open-Fair : Unit {0}
 unfolding noWhiteSpace gapsBetween isFairName isFairLineBlock isFairBy isFair
 open-Fair = tt

@@ -111,7 +111,7 @@ plus-0FF = reads-text (ascii "LC-3 OBJ FILE\n.TEXT\n+0FF\n0") (given (0x000000FF
 abbrev pub one-bar : Case
 one-bar = reads-text (ascii "LC-3 OBJ FILE\n.DEBUG\n====================") (refused 27)
 
--- a line block with two addresses, by its first line
+-- a line block with two addresses, by its first line n
 abbrev pub twoLines : ℕ → List ℕ
 twoLines n = 0x02 ∷ n ∷ [] ++ zeros7 ++ (0x02 ∷ 0x00 ∷ 0x00 ∷ 0x30 ∷ 0x01 ∷ 0x30 ∷ [])
 

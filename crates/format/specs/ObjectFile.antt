@@ -1,5 +1,4 @@
--- An object file's five parts, and what a well formed one is besides the form of its words and the order of its records. Document 01's
--- word for an object file is "holding". Assumes nothing.
+-- An object file's five parts (document 01's "holding"), and what a well formed one is besides its words and their order. Assumes nothing.
 use mathlib.Core.Bool.{Bool, _&&_, _||_}
 use mathlib.Core.List.{List, [], _∷_, _++_, map}
 use mathlib.Core.Option.{Option, none, some}
@@ -85,7 +84,6 @@ consistent h =
     && every isUtf8 (namesOf h)
     && isUtf8 (sourceText (h .source))
 
--- opens every definition of this module where an `unfolding` line names it
 unfoldable pub open-ObjectFile : Unit {0}
 unfolding apart namesOf sourceText consistent
 open-ObjectFile = tt

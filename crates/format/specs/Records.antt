@@ -6,7 +6,8 @@ use mathlib.Core.Option.{Option, none, some, Option·getD}
 use Prim.Native.Nat.{ℕ}
 use Rattle.format.specs.Basics.{Outcome, given, _>>=_, ask, if_then_else_, every, isEmpty, isSome}
 use Rattle.format.specs.Sorted.{upsert, atKey}
-use Rattle.format.specs.ObjectFile.{Block, Label, LineBlock, Relocation, ObjectFile, blockKey, labelKey, lineKey, relocationKey, apart, neverFall, sourceText}
+use Rattle.format.specs.ObjectFile.{Block, Label, LineBlock, Relocation, ObjectFile, blockKey, labelKey, lineKey}
+use Rattle.format.specs.ObjectFile.{relocationKey, apart, neverFall, sourceText}
 
 -- a part of an object, or one of its elements
 pub data Record : Type 0 where
@@ -102,7 +103,6 @@ concluded qs h = askAll qs h >>= λ _. given (dropStrayRelocations h)
 unfoldable pub labelNamed : List ℕ → List Label → Label
 labelNamed n ls = Option·getD (atKey labelKey n ls) (record { name = n; address = 0; external = false; start = 0 })
 
--- opens every definition of this module where an `unfolding` line names it
 unfoldable pub open-Records : Unit {0}
 unfolding recordKey sourceRecords recordsOf emptyObject placed putRecord gatherRecords dropStrayRelocations askAll concluded labelNamed
 open-Records = tt

@@ -17,8 +17,7 @@ newlines (b ∷ bs) = if eqb b 10 then suc (newlines bs) else newlines bs
 unfoldable pub lineCount : List ℕ → ℕ
 lineCount s = suc (newlines s)
 
--- 001's `nl_indices`, where each line ends: at its newline, and the last at the source's end. The first number is the place of the
--- list's start.
+-- 001's `nl_indices`, where each line ends: at its newline, the last at the source's end; i is the place of the list's start
 unfoldable pub nlIndicesFrom : ℕ → List ℕ → List ℕ
 nlIndicesFrom i [] = i ∷ []
 nlIndicesFrom i (b ∷ bs) = if eqb b 10 then i ∷ nlIndicesFrom (suc i) bs else nlIndicesFrom (suc i) bs
@@ -89,7 +88,7 @@ unfoldable pub findLine : List LineBlock → ℕ → Option ℕ
 findLine [] a = none
 findLine (l ∷ ls) a = orElse (andThen (offsetOf a (l .addresses)) λ i. some ((l .first + i) % 2 ^ 64)) (findLine ls a)
 
--- opens every definition of this module, and the library's `orElse`, where an `unfolding` line names it
 unfoldable pub open-Source : Unit {0}
-unfolding newlines lineCount nlIndicesFrom nlIndices rawLineSpan trimmed lineSpan countBelow getPosPair lastStarting getAddress offsetOf findLine orElse
+unfolding newlines lineCount nlIndicesFrom nlIndices rawLineSpan trimmed lineSpan countBelow getPosPair lastStarting getAddress offsetOf
+    findLine orElse
 open-Source = tt

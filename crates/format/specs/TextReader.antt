@@ -1,12 +1,12 @@
--- Reading the text form (document 01, "Text form (000)" and the questions 20 to 31). Texts, lines and cells are lists of bytes.
--- Assumes nothing.
+-- Reading the text form (document 01, "Text form (000)", questions 20 to 31). Texts, lines and cells are bytes. Assumes nothing.
 use mathlib.Core.Bool.{Bool, true, false, _&&_, not}
 use mathlib.Core.List.{List, [], _∷_, _++_, map, flatMap}
 use mathlib.Core.Option.{Option, none, some}
 use Prim.Native.Nat.{ℕ, zero, suc, _+_, _-_, _*_, _^_}
 use lib.ListN.{length, take, drop, getD}
 use lib.Dec.{leb, ltb, eqb}
-use Rattle.format.specs.Basics.{Outcome, refused, given, _>>=_, ask, need, andThen, isSome, if_then_else_, ascii, isEmpty, keep, allSome, eqs, beginsWith}
+use Rattle.format.specs.Basics.{Outcome, refused, given, _>>=_, ask, need, andThen, isSome, if_then_else_, ascii}
+use Rattle.format.specs.Basics.{isEmpty, keep, allSome, eqs, beginsWith}
 use Rattle.format.specs.Tokens.{tokens, scanTokens, foldOutcome, partsAt}
 use Rattle.format.specs.Sorted.{atKey}
 use Rattle.format.specs.Utf8.{isUtf8, isScalar, encodeScalar, isBetween, isBlank, trim}
@@ -96,14 +96,13 @@ sameCells [] (y ∷ ys) = false
 sameCells (x ∷ xs) [] = false
 sameCells (x ∷ xs) (y ∷ ys) = eqs x y && sameCells xs ys
 
--- A table's rows: its lines after a header with these columns, trimmed. "A table without lines is read as empty." A header that does not
--- read gives the table's number.
+-- a table's rows: its lines after a header with these columns; n is its number. "A table without lines is read as empty."
 unfoldable pub rowsUnder : ℕ → List (List ℕ) → List (List ℕ) → Outcome (List (List ℕ))
 rowsUnder n columns [] = given []
 rowsUnder n columns (l ∷ ls) = ask n (sameCells (map trim (splitn (length columns - 1) l)) columns) >>= λ _. given ls
 
--- .TEXT: "block by block: address, count and all entries read? 24", "That block's address new in the file? 25". The block that the lines
--- begin with, and how many lines it has after its first. "`.TEXT` lines aren't trimmed"; "count u16".
+-- .TEXT, "block by block: address, count and all entries read? 24", "That block's address new in the file? 25": the block that the lines
+-- begin with, and how many lines it has after its first; "count u16"
 unfoldable pub blockAt : ObjectFile → List (List ℕ) → Outcome (ObjectFile × ℕ)
 blockAt h [] = refused 24
 blockAt h (l ∷ []) = refused 24
@@ -152,8 +151,7 @@ parseLabelRow h l = do
 unfoldable pub parseLabelTable : ObjectFile → List (List ℕ) → Outcome ObjectFile
 parseLabelTable h ls = rowsUnder 26 (ascii "LABEL" ∷ ascii "INDEX" ∷ []) ls >>= λ rows. foldOutcome parseLabelRow h rows
 
--- .DEBUG, its line table: "header and rows read, line numbers 0, 1, 2 ..? 28". The rows numbered from i on, each an address or none and its
--- SOURCE cell, which is not trimmed.
+-- .DEBUG, its line table, "header and rows read, line numbers 0, 1, 2 ..? 28": from row i on, the address and the untrimmed SOURCE cell
 unfoldable pub parseLineRows : ℕ → List (List ℕ) → Outcome (List (Option ℕ × List ℕ))
 parseLineRows i [] = given []
 parseLineRows i (l ∷ ls) = do
@@ -164,17 +162,15 @@ parseLineRows i (l ∷ ls) = do
   rows ← parseLineRows (suc i) ls
   given ((a, cellAt 2 cs) ∷ rows)
 
--- "Line runs are maximal stretches with an address; a run reaching the last row is dropped, unchecked": the run that stands before row i, and
--- the rows from there on
+-- "Line runs are maximal stretches with an address; a run reaching the last row is dropped, unchecked": the run before row i, and the rows
 unfoldable pub runsFrom : ℕ → List ℕ → List (Option ℕ) → List LineBlock
 runsFrom i run [] = []
 runsFrom i run (some a ∷ rows) = runsFrom (suc i) (run ++ a ∷ []) rows
 runsFrom i [] (none ∷ rows) = runsFrom (suc i) [] rows
 runsFrom i (a ∷ run) (none ∷ rows) = record { first = i - length (a ∷ run); addresses = a ∷ run } ∷ runsFrom (suc i) [] rows
 
--- "`unescaper::unescape` is replaced .. by this: those six, and `\u{1 to 6 hex digits}` of a scalar value; other backslashes refuse" (30)
-
--- how many hex digits a text begins with
+-- "`unescaper::unescape` is replaced .. by this: those six, and `\u{1 to 6 hex digits}` of a scalar value; other backslashes refuse" (30).
+-- How many hex digits a text begins with:
 unfoldable pub hexDigits : List ℕ → ℕ
 hexDigits [] = 0
 hexDigits (b ∷ bs) = if isSome (digitValue 16 b) then suc (hexDigits bs) else 0
@@ -280,9 +276,9 @@ textObject bs = do
   h ← foldOutcome parseGroup emptyObject (parts .groups)
   concluded textQuestions h
 
--- opens every definition of this module where an `unfolding` line names it
 unfoldable pub open-TextReader : Unit {0}
 unfolding onFirst lines keptLines digitValue digitsFrom withoutPlus parseNumber hex2u16 maybeHex2u16 splitOnce splitn sameCells rowsUnder
-    blockAt parseTextGroup parseSymbolRow parseSymbolGroup parseLinkerRow parseLinkerGroup parseLabelRow parseLabelTable parseLineRows runsFrom
-    hexDigits unicodeEscape afterBackslash unescapeAt unescape parseLineTable splitAtBar upToBar parseDebugGroup parseGroup afterMagic textObject
+    blockAt parseTextGroup parseSymbolRow parseSymbolGroup parseLinkerRow parseLinkerGroup parseLabelRow parseLabelTable parseLineRows
+    runsFrom hexDigits unicodeEscape afterBackslash unescapeAt unescape parseLineTable splitAtBar upToBar parseDebugGroup parseGroup
+    afterMagic textObject
 open-TextReader = tt

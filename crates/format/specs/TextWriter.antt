@@ -13,8 +13,6 @@ use Rattle.format.specs.ObjectFile.{Block, Label, LineBlock, Relocation,
 use Rattle.format.specs.Words.{flagBit}
 use Rattle.format.specs.Source.{lineCount, rawLineSpan, spanBytes}
 
--- NUMERALS, CELLS AND LINES
-
 abbrev pub upperDigit : ℕ → ℕ
 upperDigit d = if ltb d 10 then 48 + d else 55 + d
 
@@ -70,7 +68,6 @@ blockLines b =
     textLine (hex4 (b .address)) ++ textLine (decimal (length (b .words))) ++ flatMap (λ w. textLine (memoryText w)) (b .words)
 
 -- .SYMBOL
-
 abbrev pub symbolHeader : List ℕ
 symbolHeader = ascii "ADDR | EXT | LABEL"
 
@@ -86,7 +83,6 @@ symbolTable [] = []
 symbolTable (l ∷ ls) = textLine symbolHeader ++ flatMap (λ m. textLine (symbolRow m)) (byAddress (l ∷ ls))
 
 -- .LINKER_INFO
-
 abbrev pub linkerHeader : List ℕ
 linkerHeader = ascii "ADDR | LABEL"
 
@@ -98,9 +94,7 @@ unfoldable pub linkerTable : List Relocation → List ℕ
 linkerTable [] = []
 linkerTable (r ∷ rs) = textLine linkerHeader ++ flatMap (λ q. textLine (linkerRow q)) (r ∷ rs)
 
--- .DEBUG, the label table
-
--- "Label column width is the longest name in bytes, at least 5"
+-- .DEBUG, the label table: "Label column width is the longest name in bytes, at least 5"
 abbrev pub labelWidth : List Label → ℕ
 labelWidth ls = widest (λ m. length (m .name)) 5 ls
 
@@ -125,9 +119,7 @@ labelTable (l ∷ ls) =
     let indices = indexWidth (l ∷ ls) in
     textLine (labelHeader names indices) ++ flatMap (λ m. textLine (labelRow names indices m)) (byStart (l ∷ ls))
 
--- .DEBUG, the line table
-
--- "`escape_default`: \t \r \n \' \" \\ so, x20 to x7E plain, else `\u{..}`, lower-case hex, no leading zeros", of a scalar value
+-- .DEBUG, the line table. "`escape_default`: \t \r \n \' \" \\ so, x20 to x7E plain, else `\u{..}`, lower-case hex, no leading zeros"
 unfoldable pub escapeChar : ℕ → List ℕ
 escapeChar c =
     if eqb c 0x09 then ascii "\\t"
@@ -187,8 +179,6 @@ lineTable s ls =
     let rows = lineRows s ls in
     textLine (lineHeader (lineWidth rows)) ++ flatMap (λ r. textLine (lineRow (lineWidth rows) (sourceCell s) r)) rows
 
--- THE FILE
-
 abbrev pub barLine : List ℕ
 barLine = textLine (ascii "====================")
 
@@ -209,7 +199,6 @@ textFile h =
     textLine (ascii "LC-3 OBJ FILE") ++ textLine [] ++ textLine (ascii ".TEXT") ++ flatMap blockLines (h .blocks) ++ textLine []
     ++ (if blocksOnly h then [] else symbolGroups h)
 
--- opens every definition of this module where an `unfolding` line names it
 unfoldable pub open-TextWriter : Unit {0}
 unfolding hex4 numeral decimal widest blockLines symbolTable linkerTable labelTable escapeChar escape plainRows addRows addBlocks
     lineRows sourceCell lineTable blocksOnly symbolGroups textFile

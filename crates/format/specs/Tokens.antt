@@ -6,8 +6,7 @@ use Rattle.format.specs.Basics.{Outcome, given, _>>=_, if_then_else_}
 
 module _ {A B : Type 0} (one : List A → Outcome (B × ℕ)) where
   -- Cut a list into tokens. `one` is asked at the start of each token: it gives the token and how many elements it has after its first.
-  -- The number counts the elements of the current token that are still to be passed over. A token longer than what is left would end
-  -- with the list; every `one` here refuses before it gives such a token.
+  -- The number counts the elements of the current token still to be passed over. No `one` here gives a token longer than what is left.
   unfoldable pub tokens : ℕ → List A → Outcome (List B)
   tokens k [] = given []
   tokens zero (a ∷ xs) = one (a ∷ xs) >>= λ t. tokens (t .1) xs >>= λ ts. given (t .0 ∷ ts)
@@ -41,7 +40,6 @@ unfoldable pub partsAt : {A : Type 0} → (A → Bool) → List A → Parts A
 partsAt isHead [] = record { before = []; groups = [] }
 partsAt isHead (a ∷ xs) = if isHead a then headOf a (partsAt isHead xs) else bodyOf a (partsAt isHead xs)
 
--- opens every definition of this module where an `unfolding` line names it
 unfoldable pub open-Tokens : Unit {0}
 unfolding tokens scanTokens foldOutcome partsAt
 open-Tokens = tt

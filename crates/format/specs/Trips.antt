@@ -61,15 +61,14 @@ pub record LogEntry : Type 0 where
 abbrev pub logEntry : Trip → List ℕ → ℕ → List ℕ → LogEntry
 logEntry t ws n next = record { trip = t; before = ws; number = n; after = next }
 
--- a list of trips from the words ws, each from the words that stand after the one before it, with its log and the words that stand last
+-- a list of trips from the words ws, each from what stands after the one before it: its log, and the words that stand last
 pub data TripsMade : List ℕ → List Trip → List LogEntry → List ℕ → Type 0 where
   done : {ws : List ℕ} → TripsMade ws [] [] ws
   onward :
       {ws next last : List ℕ} {n : ℕ} {t : Trip} {ts : List Trip} {es : List LogEntry}
       → TripMade t ws n next → TripsMade next ts es last → TripsMade ws (t ∷ ts) (logEntry t ws n next ∷ es) last
 
--- "The trip's file is what demand 2's definitions give in its form for the holding that stands, also where the write refuses; its length is
--- the same in every record order": here with the records in the object's own order
+-- "The trip's file is what demand 2's definitions give in its form .., its length is the same in every record order": in the object's own
 abbrev pub fileIn : Form → ObjectFile → List ℕ
 fileIn binary h = binaryFile h
 fileIn text h = textFile h
@@ -148,7 +147,6 @@ SecondTripDiffers =
     → (t : Trip) (ts : List Trip) (e : LogEntry) (es : List LogEntry) (last : List ℕ) → TripsMade ws (t ∷ ts) (e ∷ es) last
     → t .form ≡ binary → e .number ≡ 0 → evenBinaryTrips es ≡ false → ¬ (last ≡ e .after)
 
--- opens every definition of this module where an `unfolding` line names it
 unfoldable pub open-Trips : Unit {0}
 unfolding fileOf isShort swapRelocations stepsOf evenBinaryTrips
 open-Trips = tt

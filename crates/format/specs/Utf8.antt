@@ -44,8 +44,8 @@ charAt (b ∷ bs) =
     else if isBetween 0xF0 0xF7 b then shortestForm 0x10000 3 (follow 3 (b - 0xF0) bs)
     else none
 
--- the scalar values of a text, or none if it is not UTF-8; the number counts the bytes of the current character that are still to be
--- passed over (a character is never longer than what is left)
+-- the scalar values of a text, or none if it is not UTF-8; the number counts the bytes still to be passed over of the current character,
+-- which is never longer than what is left
 unfoldable pub scalarsFrom : ℕ → List ℕ → Option (List ℕ)
 scalarsFrom k [] = some []
 scalarsFrom zero (b ∷ bs) = andThen (charAt (b ∷ bs)) λ c. andThen (scalarsFrom (c .1) bs) λ cs. some (c .0 ∷ cs)
@@ -102,7 +102,6 @@ trimEnd (b ∷ bs) = if isBlank (b ∷ bs) then [] else b ∷ trimEnd bs
 unfoldable pub trim : List ℕ → List ℕ
 trim bs = trimEnd (trimStart bs)
 
--- opens every definition of this module where an `unfolding` line names it
 unfoldable pub open-Utf8 : Unit {0}
 unfolding isScalar encodeScalar follow charAt scalarsFrom isUtf8 characters isWhiteSpace trimFrom trimStart isBlank trimEnd trim
 open-Utf8 = tt

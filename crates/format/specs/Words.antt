@@ -131,7 +131,6 @@ objectOf ws = do
   _ ← ask 1 (consistent (placed rs))
   given (placed rs)
 
--- opens every definition of this module where an `unfolding` line names it
 unfoldable pub open-Words : Unit {0}
 unfolding memoryWord numberWords textWords recordWords wordsOf bitsOf memoryOf memoriesOf addressesOf numberFrom textPart textFrom isHead
     recordFrom recordsFrom objectOf

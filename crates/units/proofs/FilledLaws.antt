@@ -15,7 +15,8 @@ ends-refused n buffer = refl
 
 module _ (out buffer : List ℕ) where
   -- the answer was written
-  pub ends-given : length out ≤ length buffer → filledOf (handedBack 0 (length out)) (out ++ drop (length out) buffer) ≡ fill (given out) buffer
+  pub ends-given :
+      length out ≤ length buffer → filledOf (handedBack 0 (length out)) (out ++ drop (length out) buffer) ≡ fill (given out) buffer
   unfolding fill
   ends-given h = rw (le-leb _ _ h)
 

@@ -1,2 +1,3 @@
+pub mod CharLaws
 pub mod TableLaws
-pub mod RunLaws
+pub mod PlaceLaws

@@ -6,6 +6,7 @@ use mathlib.Core.Logic.{_⊎_, inl, inr, ⊎-elim}
 use mathlib.Core.List.{List, [], _∷_}
 use mathlib.Core.Option.{Option, none, some}
 use Prim.Native.Nat.{ℕ, zero, suc, _+_, _-_, _*_, _^_, _≤_, _<_}
+use native.Mathlib.Nat.{add-mul, mul-assoc, mul-le-mul-right}
 use native.Mathlib.Omega.{arith}
 use lib.ListN.{length, drop, length-drop}
 use lib.Dec.{leb, ltb, eqb}
@@ -16,6 +17,7 @@ use Rattle.format.proofs.ListLaws.{by-test}
 use Rattle.format.proofs.Utf8Laws.{char-one, char-middle}
 use Rattle.utf8.specs.declared.Utf8.{Utf8}
 use Rattle.utf8.specs.Utf8.{step, run, whole, bad, more, isWhole, firstByte}
+use Rattle.utf8.proofs.CharLaws.{inside, follow-in, follow-out, scalar-low, scalar-high, not-scalar, char-two, char-three, char-four, char-over}
 
 both-true : (a b : Bool) → a ≡ true → b ≡ true → (a && b) ≡ true
 both-true true b p q = q
@@ -34,7 +36,7 @@ unfolding run
 accepts-bad [] = refl
 accepts-bad (b ∷ bs) = ap (λ u. accepts u bs) (step-bad b) ∙ accepts-bad bs
 
-pub accepts-whole : (l h : ℕ) (bs : List ℕ) → accepts (more 0 l h) bs ≡ accepts whole bs
+accepts-whole : (l h : ℕ) (bs : List ℕ) → accepts (more 0 l h) bs ≡ accepts whole bs
 unfolding run step
 accepts-whole l h [] = refl
 accepts-whole l h (b ∷ bs) = refl
@@ -49,20 +51,6 @@ unfolding step
 step-out n lo hi b (inl p) = simp (ne-eqb (suc n) 0 (λ z. omega arith), lt-ltb b lo p)
 step-out n lo hi b (inr q) =
     by-test (ltb b lo) (λ e. simp (ne-eqb (suc n) 0 (λ z. omega arith), e)) (λ e. simp (ne-eqb (suc n) 0 (λ z. omega arith), e, lt-ltb hi b q))
-
--- in a range, below it or above it
-inside : {P : Type 0} (lo hi b : ℕ) → (lo ≤ b → b ≤ hi → P) → ((b < lo) ⊎ (hi < b) → P) → P
-inside lo hi b f g =
-    by-test (leb lo b) (λ p. by-test (leb b hi) (λ q. f (leb-true lo b p) (leb-true b hi q)) (λ q. g (inr (leb-false b hi q)))) (λ p. g (inl (leb-false lo b p)))
-
-follow-in : (n c b : ℕ) (bs : List ℕ) → 0x80 ≤ b → b ≤ 0xBF → follow (suc n) c (b ∷ bs) ≡ follow n (c * 2 ^ 6 + (b - 0x80)) bs
-unfolding follow
-follow-in n c b bs p q = simp (le-leb 0x80 b p, le-leb b 0xBF q)
-
-follow-out : (n c b : ℕ) (bs : List ℕ) → (b < 0x80) ⊎ (0xBF < b) → follow (suc n) c (b ∷ bs) ≡ none
-unfolding follow
-follow-out n c b bs (inl p) = simp (lt-leb 0x80 b p)
-follow-out n c b bs (inr q) = by-test (leb 0x80 b) (λ e. simp (e, lt-leb b 0xBF q)) (λ e. simp e)
 
 abbrev passes : Option ℕ → Bool → Bool
 passes none t = false
@@ -85,32 +73,30 @@ spans-0 : Spans 0 1
 unfolding follow
 spans-0 x bs v e = let q : x ≡ v = cc in omega arith
 
-spans-1 : Spans 1 64
+-- a byte that follows has six bits
+spans-more : (k s : ℕ) → Spans k s → Spans (suc k) (64 * s)
 unfolding follow
-spans-1 x [] v e = let z : _≡_ {A = ℕ} 0 1 = cc in absurd (omega arith)
-spans-1 x (b ∷ bs) v e =
+spans-more k s span x [] v e = let z : _≡_ {A = ℕ} 0 1 = cc in absurd (omega arith)
+spans-more k s span x (b ∷ bs) v e =
     inside 0x80 0xBF b
-    (λ p q. let h = spans-0 (x * 2 ^ 6 + (b - 0x80)) bs v (sym (follow-in 0 x b bs p q) ∙ e) in omega arith)
-    (λ o. let f = follow-out 0 x b bs o in let z : _≡_ {A = ℕ} 0 1 = cc in absurd (omega arith))
+    (λ p q. let d : ℕ = b - 0x80 in
+    let h = span (x * 64 + d) bs v (sym (follow-in k x b bs p q) ∙ e) in
+    let f : (x * 64 + d) * s ≡ x * (64 * s) + d * s = add-mul (x * 64) d s ∙ ap (λ (n : ℕ). n + d * s) (mul-assoc x 64 s) in
+    let l : d * s ≤ 63 * s = mul-le-mul-right s (omega arith) in
+    omega arith)
+    (λ o. let f = follow-out k x b bs o in let z : _≡_ {A = ℕ} 0 1 = cc in absurd (omega arith))
+
+spans-1 : Spans 1 64
+spans-1 = spans-more 0 1 spans-0
 
 spans-2 : Spans 2 4096
-unfolding follow
-spans-2 x [] v e = let z : _≡_ {A = ℕ} 0 1 = cc in absurd (omega arith)
-spans-2 x (b ∷ bs) v e =
-    inside 0x80 0xBF b
-    (λ p q. let h = spans-1 (x * 2 ^ 6 + (b - 0x80)) bs v (sym (follow-in 1 x b bs p q) ∙ e) in omega arith)
-    (λ o. let f = follow-out 1 x b bs o in let z : _≡_ {A = ℕ} 0 1 = cc in absurd (omega arith))
+spans-2 = spans-more 1 64 spans-1
 
 spans-3 : Spans 3 262144
-unfolding follow
-spans-3 x [] v e = let z : _≡_ {A = ℕ} 0 1 = cc in absurd (omega arith)
-spans-3 x (b ∷ bs) v e =
-    inside 0x80 0xBF b
-    (λ p q. let h = spans-2 (x * 2 ^ 6 + (b - 0x80)) bs v (sym (follow-in 2 x b bs p q) ∙ e) in omega arith)
-    (λ o. let f = follow-out 2 x b bs o in let z : _≡_ {A = ℕ} 0 1 = cc in absurd (omega arith))
+spans-3 = spans-more 2 4096 spans-2
 
 -- by scalar values
-abbrev goOn : Option (ℕ × ℕ) → List ℕ → Bool
+abbrev pub goOn : Option (ℕ × ℕ) → List ℕ → Bool
 goOn none bs = false
 goOn (some t) bs = isUtf8 (drop (t .1) bs)
 
@@ -120,7 +106,7 @@ from-drop zero bs = refl
 from-drop (suc k) [] = refl
 from-drop (suc k) (b ∷ bs) = from-drop k bs
 
-first : (b : ℕ) (bs : List ℕ) → isUtf8 (b ∷ bs) ≡ goOn (charAt (b ∷ bs)) bs
+pub first : (b : ℕ) (bs : List ℕ) → isUtf8 (b ∷ bs) ≡ goOn (charAt (b ∷ bs)) bs
 unfolding isUtf8 scalarsFrom isSome
 first b bs = go (charAt (b ∷ bs))
   where
@@ -142,19 +128,6 @@ full-yes least m (some v) bs h = rw (h v refl)
 full-no : (least m : ℕ) (o : Option ℕ) (bs : List ℕ) → ((v : ℕ) → o ≡ some v → Good least v false) → goOn (shortestForm least m o) bs ≡ false
 full-no least m none bs h = refl
 full-no least m (some v) bs h = rw (h v refl)
-
-scalar-low : (v : ℕ) → v < 0xD800 → isScalar v ≡ true
-unfolding isScalar
-scalar-low v h = simp (lt-ltb v 0xD800 h)
-
-scalar-high : (v : ℕ) → 0xE000 ≤ v → v ≤ 0x10FFFF → isScalar v ≡ true
-unfolding isScalar
-scalar-high v h k = simp (le-ltb v 0xD800 (omega arith), le-leb 0xE000 v h, le-leb v 0x10FFFF k)
-
-not-scalar : (v : ℕ) → 0xD800 ≤ v → (v < 0xE000) ⊎ (0x10FFFF < v) → isScalar v ≡ false
-unfolding isScalar
-not-scalar v h (inl k) = simp (le-ltb v 0xD800 h, lt-leb 0xE000 v k)
-not-scalar v h (inr k) = simp (le-ltb v 0xD800 h, le-leb 0xE000 v (omega arith), lt-leb v 0x10FFFF k)
 
 small : (least v : ℕ) → v < least → Good least v false
 small least v h = rw (lt-leb least v h)
@@ -202,43 +175,24 @@ module _ (n : ℕ) (ih : (cs : List ℕ) → length cs ≤ n → isUtf8 cs ≡ a
           (λ r. ap (λ r. goOn (shortestForm least (suc k) r) (x ∷ xs)) (follow-out k f x xs r))
           ∙ sym (ap (λ u. accepts u xs) (step-out k lo hi x o) ∙ accepts-bad xs))
 
-  -- what the definition asks of the first byte
-  char-two : 0xC0 ≤ b → b ≤ 0xDF → charAt (b ∷ bs) ≡ shortestForm 0x80 1 (follow 1 (b - 0xC0) bs)
-  unfolding charAt
-  char-two h k = simp (le-ltb b 0x80 (omega arith), le-leb 0xC0 b h, le-leb b 0xDF k)
-
-  char-three : 0xE0 ≤ b → b ≤ 0xEF → charAt (b ∷ bs) ≡ shortestForm 0x800 2 (follow 2 (b - 0xE0) bs)
-  unfolding charAt
-  char-three h k = simp (le-ltb b 0x80 (omega arith), le-leb 0xC0 b (omega arith), lt-leb b 0xDF (omega arith), le-leb 0xE0 b h, le-leb b 0xEF k)
-
-  char-four : 0xF0 ≤ b → b ≤ 0xF7 → charAt (b ∷ bs) ≡ shortestForm 0x10000 3 (follow 3 (b - 0xF0) bs)
-  unfolding charAt
-  char-four h k =
-      simp (le-ltb b 0x80 (omega arith), le-leb 0xC0 b (omega arith), lt-leb b 0xDF (omega arith), le-leb 0xE0 b (omega arith), lt-leb b 0xEF (omega arith), le-leb 0xF0 b h, le-leb b 0xF7 k)
-
-  char-over : 0xF7 < b → charAt (b ∷ bs) ≡ none
-  unfolding charAt
-  char-over h =
-      simp (le-ltb b 0x80 (omega arith), le-leb 0xC0 b (omega arith), lt-leb b 0xDF (omega arith), le-leb 0xE0 b (omega arith), lt-leb b 0xEF (omega arith), le-leb 0xF0 b (omega arith), lt-leb b 0xF7 h)
-
   two : 0x80 ≤ b → 0xC2 ≤ b → b < 0xE0 → firstByte b ≡ more 1 0x80 0xBF → Same
   two h k l e =
       row 0 1 0x80 0x80 0xBF (b - 0xC0) spans-0 (omega arith) (omega arith)
       (λ c v p q r t. both-true (leb 0x80 v) (isScalar v) (le-leb 0x80 v (omega arith)) (scalar-low v (omega arith)))
       (λ c v p q o r t. absurd (⊎-elim (λ a. omega arith) (λ a. omega arith) o))
-      e (char-two (omega arith) (omega arith))
+      e (char-two b bs (omega arith) (omega arith))
 
   three : (lo hi : ℕ) → 0xE0 ≤ b → b < 0xF0 → 0x80 ≤ lo → hi ≤ 0xBF
       → ((c v : ℕ) → lo ≤ c → c ≤ hi → ((b - 0xE0) * 2 ^ 6 + (c - 0x80)) * 64 ≤ v → v < ((b - 0xE0) * 2 ^ 6 + (c - 0x80)) * 64 + 64 → Good 0x800 v true)
       → ((c v : ℕ) → 0x80 ≤ c → c ≤ 0xBF → (c < lo) ⊎ (hi < c) → ((b - 0xE0) * 2 ^ 6 + (c - 0x80)) * 64 ≤ v → v < ((b - 0xE0) * 2 ^ 6 + (c - 0x80)) * 64 + 64 → Good 0x800 v false)
       → firstByte b ≡ more 2 lo hi → Same
-  three lo hi h k low high pass fail e = row 1 64 0x800 lo hi (b - 0xE0) spans-1 low high pass fail e (char-three h (omega arith))
+  three lo hi h k low high pass fail e = row 1 64 0x800 lo hi (b - 0xE0) spans-1 low high pass fail e (char-three b bs h (omega arith))
 
   four : (lo hi : ℕ) → 0xF0 ≤ b → b ≤ 0xF4 → 0x80 ≤ lo → hi ≤ 0xBF
       → ((c v : ℕ) → lo ≤ c → c ≤ hi → ((b - 0xF0) * 2 ^ 6 + (c - 0x80)) * 4096 ≤ v → v < ((b - 0xF0) * 2 ^ 6 + (c - 0x80)) * 4096 + 4096 → Good 0x10000 v true)
       → ((c v : ℕ) → 0x80 ≤ c → c ≤ 0xBF → (c < lo) ⊎ (hi < c) → ((b - 0xF0) * 2 ^ 6 + (c - 0x80)) * 4096 ≤ v → v < ((b - 0xF0) * 2 ^ 6 + (c - 0x80)) * 4096 + 4096 → Good 0x10000 v false)
       → firstByte b ≡ more 3 lo hi → Same
-  four lo hi h k low high pass fail e = row 2 4096 0x10000 lo hi (b - 0xF0) spans-2 low high pass fail e (char-four h (omega arith))
+  four lo hi h k low high pass fail e = row 2 4096 0x10000 lo hi (b - 0xF0) spans-2 low high pass fail e (char-four b bs h (omega arith))
 
   -- the rows, in the table's order
   rows-two : 0x80 ≤ b → b < 0xE0 → Same
@@ -250,7 +204,7 @@ module _ (n : ℕ) (ih : (cs : List ℕ) → length cs ≤ n → isUtf8 cs ≡ a
       by-test (ltb b 0xC0)
       (λ g. row-none e (char-middle b bs h (ltb-true b 0xC0 g)))
       (λ g. let m = ltb-false b 0xC0 g in
-      row-bad 1 0x80 (b - 0xC0) e (char-two m (omega arith)) (λ v q. let w = spans-1 (b - 0xC0) bs v q in small 0x80 v (omega arith))))
+      row-bad 1 0x80 (b - 0xC0) e (char-two b bs m (omega arith)) (λ v q. let w = spans-1 (b - 0xC0) bs v q in small 0x80 v (omega arith))))
       (λ t. let k = ltb-false b 0xC2 t in two h k l (simp (le-ltb b 0x80 h, t, lt-ltb b 0xE0 l)))
 
   rows-three : 0xE0 ≤ b → b < 0xF0 → Same
@@ -312,8 +266,8 @@ module _ (n : ℕ) (ih : (cs : List ℕ) → length cs ≤ n → isUtf8 cs ≡ a
       let e : firstByte b ≡ bad = simp (a, d, g, j, m, i, t, t2, t3) in
       by-test (leb b 0xF7)
       (λ y. let k = leb-true b 0xF7 y in
-      row-bad 3 0x10000 (b - 0xF0) e (char-four h k) (λ v q. let w = spans-3 (b - 0xF0) bs v q in no-scalar 0x10000 v (not-scalar v (omega arith) (inr (omega arith)))))
-      (λ y. row-none e (char-over (leb-false b 0xF7 y))))))
+      row-bad 3 0x10000 (b - 0xF0) e (char-four b bs h k) (λ v q. let w = spans-3 (b - 0xF0) bs v q in no-scalar 0x10000 v (not-scalar v (omega arith) (inr (omega arith)))))
+      (λ y. row-none e (char-over b bs (leb-false b 0xF7 y))))))
 
   same : Same
   unfolding firstByte

@@ -2,8 +2,9 @@
 ghost use mathlib.Core.Path.{_≡_};
 ghost use mathlib.Core.Bool.{true};
 ghost use Prim.Native.Nat.{ℕ, _+_, _≤_, _<_};
-ghost use lib.ListN.{length, getD};
-ghost use Rattle.format.specs.Utf8.{isUtf8};
+ghost use lib.ListN.{length, drop};
+ghost use Rattle.format.specs.Utf8.{follow, shortestForm, charAt, isUtf8, characters};
+ghost use Rattle.utf8.specs.Chars.{charOf, bitsOf, begins};
 ghost use Rattle.utf8.specs.Utf8.{Ascii, more, whole, isWhole, step, firstByte};
 
 // Where a reader of UTF-8 stands: how many bytes of the character are still to come, and the bounds of the next of them.
@@ -147,24 +148,139 @@ fn ascii_end(s: &[u8], at: usize) -> usize
     i
 }
 
-// Whether bytes are UTF-8: ASCII stretches in one go, what lies between them byte by byte.
+// The character at a place: its scalar value, and how many bytes follow its first.
+pub enum Char {
+    Scalar { value: u32, more: usize },
+    Nothing,
+}
+
+// The bits of the bytes that follow a first byte.
+enum Bits {
+    Value(u32),
+    Missing,
+}
+
+// The bits of the first byte and of the n bytes 10xxxxxx from a place on.
+fn follow_bits(s: &[u8], at: usize, n: usize, first: u32) -> Bits
+    requires { ⌜ (at ≤ length (now s)) × (n ≤ 3) × (first < 32) ⌝ }
+    ensures { λ r. ⌜ bitsOf r ≡ follow n first (drop at (now (s .entry))) ⌝ }
+{
+    let mut bits = first;
+    let mut k = 0;
+    while k < n {
+        let i = at + k;
+        if s.len() <= i {
+            return Bits::Missing;
+        }
+        let b = s[i];
+        if b < 0x80 {
+            return Bits::Missing;
+        }
+        if 0xBF < b {
+            return Bits::Missing;
+        }
+        let x = (b - 0x80) as u32;
+        bits = bits * 64 + x;
+        k += 1;
+    }
+    Bits::Value(bits)
+}
+
+// The character of these bits, if it is a scalar value and needs as many bytes.
+fn shortest_form(least: u32, more: usize, bits: Bits) -> Char
+    ensures { λ r. ⌜ charOf r ≡ shortestForm least more (bitsOf bits) ⌝ }
+{
+    let Bits::Value(value) = bits else {
+        return Char::Nothing;
+    };
+    if value < least {
+        return Char::Nothing;
+    }
+    if value < 0xD800 {
+        return Char::Scalar {
+            value: value,
+            more: more,
+        };
+    }
+    if value < 0xE000 {
+        return Char::Nothing;
+    }
+    if 0x10FFFF < value {
+        return Char::Nothing;
+    }
+    Char::Scalar {
+        value: value,
+        more: more,
+    }
+}
+
+// The character at a place; nothing where none begins there, also past the end.
+pub fn char_at(s: &[u8], at: usize) -> Char
+    ensures { λ r. ⌜ charOf r ≡ charAt (drop at (now (s .entry))) ⌝ }
+{
+    if s.len() <= at {
+        return Char::Nothing;
+    }
+    let b = s[at] as u32;
+    if b < 0x80 {
+        return Char::Scalar { value: b, more: 0 };
+    }
+    if b < 0xC0 {
+        return Char::Nothing;
+    }
+    let next = at + 1;
+    if b < 0xE0 {
+        return shortest_form(0x80, 1, follow_bits(s, next, 1, b - 0xC0));
+    }
+    if b < 0xF0 {
+        return shortest_form(0x800, 2, follow_bits(s, next, 2, b - 0xE0));
+    }
+    if b < 0xF8 {
+        return shortest_form(0x10000, 3, follow_bits(s, next, 3, b - 0xF0));
+    }
+    Char::Nothing
+}
+
+// 1 for a byte that begins a character.
+fn begins(b: u8) -> usize
+    ensures { λ r. ⌜ (r ≡ begins b) × (r ≤ 1) ⌝ }
+{
+    if b < 0x80 {
+        return 1;
+    }
+    if 0xBF < b {
+        return 1;
+    }
+    0
+}
+
+// The number of characters of a text.
+pub fn characters(s: &[u8]) -> usize
+    ensures { λ r. ⌜ r ≡ characters (now (s .entry)) ⌝ }
+{
+    let mut n = 0;
+    let mut i = 0;
+    while i < s.len() {
+        n += begins(s[i]);
+        i += 1;
+    }
+    n
+}
+
+// Whether bytes are UTF-8: ASCII stretches in one go, what lies between them a character at a time.
 pub fn is_utf8(s: &[u8]) -> bool
     ensures { λ r. ⌜ r ≡ isUtf8 (now (s .entry)) ⌝ }
 {
-    let mut state = Utf8::new();
     let mut i = 0;
     while i < s.len() {
-        let b = s[i];
-        let next = i + 1;
-        let need = state.need;
-        if need == 0 {
-            if b < 0x80 {
-                i = ascii_end(s, next);
-                continue;
-            }
+        if s[i] < 0x80 {
+            i = ascii_end(s, i + 1);
+            continue;
         }
-        state = state.step(b);
-        i = next;
+        let Char::Scalar { value: _, more } = char_at(s, i) else {
+            return false;
+        };
+        i += more + 1;
     }
-    state.is_whole()
+    true
 }

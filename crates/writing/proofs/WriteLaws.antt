@@ -41,7 +41,8 @@ module _ {A : Type 0} where
       (a b room : List A) (at : ℕ) → at ≡ length a → length a ≤ length room
       → take at (into a room) ++ into b (drop at (into a room)) ≡ into (a ++ b) room
   into-into a b room at e h =
-      simp (e, take-at a (drop (length a) room) (length a) refl, drop-at a (drop (length a) room) (length a) refl, drop-drop, length-append, append-assoc)
+      let past = drop (length a) room in
+      simp (e, take-at a past (length a) refl, drop-at a past (length a) refl, drop-drop, length-append, append-assoc)
 
   -- one element more, stored at the end of what is done
   pub into-snoc :

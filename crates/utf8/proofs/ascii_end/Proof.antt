@@ -5,7 +5,7 @@ use Prim.Native.Nat.{ℕ, _+_, _≤_, _-_}
 use denote.Ref.{now}
 use lib.ListN.{length}
 use Rattle.utf8.specs.Utf8.{Ascii}
-use Rattle.utf8.proofs.RunLaws.{ascii-join, ascii-one}
+use Rattle.utf8.proofs.PlaceLaws.{ascii-join, ascii-one}
 use Rattle.utf8.proofs.ascii_end.Statement.{statement}
 use Rattle.utf8.proofs.ascii_end.Tie as tie
 

@@ -6,7 +6,7 @@ use Prim.Native.Nat.{ℕ, _+_, _≤_, _<_, _-_}
 use lib.ListN.{getD}
 use denote.Ref.{now}
 use borrow.Author.Tests.{ltb-true}
-use Rattle.utf8.proofs.RunLaws.{AtMost, at-most-more}
+use Rattle.utf8.proofs.PlaceLaws.{AtMost, at-most-more}
 use Rattle.utf8.proofs.is_ascii_block.Statement.{statement}
 use Rattle.utf8.proofs.is_ascii_block.Tie as tie
 

@@ -1,47 +1,52 @@
--- What the reader still says of the rest is what the definition says of the whole text. Assumes nothing.
+-- The rest from the place on is UTF-8 where the whole text is. Assumes nothing.
 use borrow.Author.Needs.{needs}
 use native.Mathlib.Omega.{arith}
-use mathlib.Core.Path.{_≡_, sym, ap, _∙_}
-use Prim.Native.Nat.{ℕ, _+_, _≤_, _-_}
+use mathlib.Core.Path.{_≡_, refl, sym, ap, _∙_}
+use mathlib.Core.Option.{some}
+use Prim.Native.Nat.{ℕ, _+_, _≤_, _<_, _-_}
 use denote.Ref.{now}
 use lib.ListN.{length, drop}
 use Rattle.format.specs.Utf8.{isUtf8}
-use Rattle.utf8.specs.declared.Utf8.{Utf8}
-use Rattle.utf8.proofs.TableLaws.{accepts, run-is-utf8}
-use Rattle.utf8.proofs.RunLaws.{ascii-join, ascii-one, accepts-on, accepts-end, accepts-ascii}
+use Rattle.utf8.specs.Chars.{charOf}
+use Rattle.utf8.proofs.CharLaws.{char-inside}
+use Rattle.utf8.proofs.PlaceLaws.{ascii-join, ascii-one, utf8-end, utf8-bad, utf8-on, utf8-ascii}
 use Rattle.utf8.proofs.is_utf8.Statement.{statement}
 use Rattle.utf8.proofs.is_utf8.Tie as tie
 
 abbrev Inv-loop : tie.InvT-loop
-Inv-loop s state₀ i₀ state i = (i ≤ length s) × (accepts state (drop i s) ≡ isUtf8 s)
+Inv-loop s i₀ i = (i ≤ length s) × (isUtf8 (drop i s) ≡ isUtf8 s)
 
 abbrev μ-loop : tie.MeasureT-loop
-μ-loop s state₀ i₀ state i = length s - i
-
-loop-holds : tie.Need-loop-holds Inv-loop μ-loop
-loop-holds c = let s = now (c .before .before .args .s) in (omega arith, ap (λ (u : Utf8). accepts u s) (c .new .ensures) ∙ run-is-utf8 s)
+μ-loop s i₀ i = length s - i
 
 loop-again : tie.Need-loop-again Inv-loop μ-loop
 loop-again c =
-    let s = now (c .before .before .before .before .before .before .before .before .args .s) in
-    let loop = c .before .before .before .before .before .loop in
-    let i = loop .i in
+    let s = now (c .before .before .before .before .before .before .args .s) in
+    let loop = c .before .before .before .before .loop in
     let end = c .ascii-end .result in
-    let all = ascii-join s i (i + 1) end (ascii-one s i (c .before .if2 .taken)) (c .ascii-end .ensures .2) in
-    (c .ascii-end .ensures .1, accepts-ascii (loop .state) s i end (c .before .before .if1 .taken) (omega (arith, c .ascii-end .ensures .0)) (c .ascii-end .ensures .1) all ∙ loop .inv .1)
+    let all = ascii-join s (loop .i) (loop .i + 1) end (ascii-one s (loop .i) (c .before .if1 .taken)) (c .ascii-end .ensures .2) in
+    (c .ascii-end .ensures .1, utf8-ascii s (loop .i) end (omega (arith, c .ascii-end .ensures .0)) (c .ascii-end .ensures .1) all ∙ loop .inv .1)
+
+returns : tie.Need-returns Inv-loop μ-loop
+returns c =
+    utf8-bad _ _ (c .before .before .before .before .before .loop-test .taken) (sym (ap charOf (c .enum-told .given .1)) ∙ c .before .before .char-at .ensures)
+    ∙ c .before .before .before .before .before .before .loop .inv .1
+
+-- the character lies in the text
+char-lies : (c : tie.After-known-told Inv-loop μ-loop) → c .before .before .before .before .before .before .before .loop .i + c .before .more .given .0 .1 .0 < length (now (c .before .before .before .before .before .before .before .before .before .args .s))
+char-lies c =
+    char-inside (now (c .before .before .before .before .before .before .before .before .before .args .s)) (c .before .before .before .before .before .before .before .loop .i) (c .before .more .given .0 .0) (c .before .more .given .0 .1 .0)
+    (sym (c .before .before .before .char-at .ensures) ∙ ap charOf (c .before .more .given .1))
 
 loop-again-2 : tie.Need-loop-again-2 Inv-loop μ-loop
 loop-again-2 c =
-    let s = now (c .before .before .before .before .before .before .before .args .s) in
-    let loop = c .before .before .before .before .loop in (
-      omega arith,
-      ap (λ (u : Utf8). accepts u (drop (loop .i + 1) s)) (c .step .ensures) ∙ accepts-on (loop .state) s (loop .i) (c .before .before .before .loop-test .taken) ∙ loop .inv .1,
+    let loop = c .before .before .before .before .before .before .before .loop in (
+      omega (arith, char-lies c),
+      utf8-on _ _ (c .before .before .before .before .before .before .loop-test .taken) (c .before .more .given .0 .0) (c .before .more .given .0 .1 .0) (sym (ap charOf (c .before .more .given .1)) ∙ c .before .before .before .char-at .ensures)
+          ∙ loop .inv .1,
     )
-
-returns : tie.Need-returns Inv-loop μ-loop
-returns c = c .is-whole .ensures ∙ sym (accepts-end _ _ _ (c .before .loop-test .left)) ∙ c .before .before .loop .inv .1
 
 pub is-utf8-spec : {M : Type 1} → statement M
 is-utf8-spec =
     tie.close
-    (tie.spec Inv-loop μ-loop (λ c κs. search needs) loop-holds (λ c. omega arith) (λ c. omega arith) (λ c κs. omega arith) (λ c. omega arith) loop-again (λ c κs. search needs) (λ c. omega arith) loop-again-2 (λ c κs. search needs) returns)
+    (tie.spec Inv-loop μ-loop (λ c. (omega arith, refl)) (λ c. omega arith) (λ c. omega arith) (λ c κs. omega arith) (λ c. omega (arith, c .ascii-end .ensures .0)) loop-again (λ c κs. search needs) (λ c. search needs) (λ c. search needs) returns (λ c. omega (arith, char-lies c)) (λ c. omega (arith, char-lies c)) (λ c. omega (arith, char-lies c)) loop-again-2 (λ c. utf8-end _ _ (c .loop-test .left) ∙ c .before .loop .inv .1))

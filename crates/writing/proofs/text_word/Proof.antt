@@ -16,7 +16,9 @@ returns-3 : tie.Need-returns-3
 returns-3 c = omega (arith, word-two (now (c .before .before .before .before .before .before .before .before .args .s)) (c .if3 .taken))
 
 returns-4 : tie.Need-returns-4
-returns-4 c = omega (arith, word-three (now (c .before .before .before .before .before .before .before .before .before .before .args .s)) (omega arith))
+returns-4 c =
+    let s = now (c .before .before .before .before .before .before .before .before .before .before .args .s) in
+    omega (arith, word-three s (omega arith))
 
 pub text-word-spec : {M : Type 1} → statement M
 text-word-spec =

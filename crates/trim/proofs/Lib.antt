@@ -1,0 +1,3 @@
+pub mod WhiteLaws
+pub mod TrimLaws
+pub mod SpanLaws

@@ -1,0 +1,151 @@
+// White_Space and trimming, in place on the bytes of a text.
+ghost use mathlib.Core.Path.{_≡_};
+ghost use Prim.Native.Nat.{ℕ, _≤_};
+ghost use lib.ListN.{length, take, drop};
+ghost use Rattle.format.specs.Utf8.{isWhiteSpace, trimStart, trimEnd, trim, isBlank};
+ghost use Rattle.trim.specs.Span.{part, clipped, trimStartSpan, trimEndSpan, trimSpan, Trimmed};
+ghost use Rattle.trim.specs.WhiteSpace.{whiteAt, endsWhite, whiteBefore};
+use utf8::Char;
+
+// From a byte to a byte, the second left out.
+pub struct Span {
+    pub start: usize,
+    pub end: usize,
+}
+
+// The Unicode property White_Space.
+pub fn is_white_space(c: u32) -> bool
+    ensures { λ r. ⌜ r ≡ isWhiteSpace c ⌝ }
+{
+    match c {
+        0x20 | 0x85 | 0xA0 | 0x1680 | 0x2028 | 0x2029 | 0x202F | 0x205F | 0x3000 => true,
+        0x9..=0xD => true,
+        0x2000..=0x200A => true,
+        _ => false,
+    }
+}
+
+// How many bytes the White_Space character at a place has; 0 if none begins there.
+pub fn white_at(s: &[u8], at: usize) -> usize
+    ensures { λ r. ⌜ r ≡ whiteAt (now (s .entry)) at ⌝ }
+{
+    let Char::Scalar { value, more } = utf8::char_at(s, at) else {
+        return 0;
+    };
+    if is_white_space(value) {
+        return more + 1;
+    }
+    0
+}
+
+// Whether a White_Space character of n bytes ends at a place.
+fn ends_white(s: &[u8], end: usize, n: usize) -> bool
+    ensures { λ r. ⌜ r ≡ endsWhite (now (s .entry)) end n ⌝ }
+{
+    if end < n {
+        return false;
+    }
+    white_at(s, end - n) == n
+}
+
+// How many bytes the White_Space character has that ends at a place; 0 if none ends there.
+fn white_before(s: &[u8], end: usize) -> usize
+    ensures { λ r. ⌜ r ≡ whiteBefore (now (s .entry)) end ⌝ }
+{
+    if ends_white(s, end, 1) {
+        return 1;
+    }
+    if ends_white(s, end, 2) {
+        return 2;
+    }
+    if ends_white(s, end, 3) {
+        return 3;
+    }
+    0
+}
+
+// Where a text goes on after the White_Space at its start.
+fn white_start(s: &[u8]) -> usize
+    ensures { λ r. ⌜ (r ≤ length (now (s .entry))) × (drop r (now (s .entry)) ≡ trimStart (now (s .entry))) ⌝ }
+{
+    let mut at = 0;
+    loop {
+        let n = white_at(s, at);
+        if n == 0 {
+            return at;
+        }
+        at += n;
+    }
+}
+
+// Where the White_Space at the end of a text begins: back from the end, a character at a time.
+fn white_end(s: &[u8]) -> usize
+    ensures { λ r. ⌜ (r ≤ length (now (s .entry))) × (take r (now (s .entry)) ≡ trimEnd (now (s .entry))) ⌝ }
+{
+    let mut end = s.len();
+    loop {
+        let n = white_before(s, end);
+        if n == 0 {
+            return end;
+        }
+        end -= n;
+    }
+}
+
+// A range within a text: what lies past its end is left out.
+fn clip(s: &[u8], start: usize, end: usize) -> Span
+    ensures { λ r. ⌜ r ≡ clipped (length (now (s .entry))) start end ⌝ }
+{
+    let n = s.len();
+    let e = if end < n { end } else { n };
+    let a = if start < e { start } else { e };
+    Span { start: a, end: e }
+}
+
+// A range less the White_Space at its start.
+pub fn trim_start(s: &[u8], start: usize, end: usize) -> Span
+    ensures { λ r. ⌜ Trimmed trimStart trimStartSpan (now (s .entry)) start end r ⌝ }
+{
+    let c = clip(s, start, end);
+    let a = c.start;
+    let e = c.end;
+    let n = white_start(&s[a..e]);
+    Span {
+        start: a + n,
+        end: e,
+    }
+}
+
+// A range less the White_Space at its end.
+pub fn trim_end(s: &[u8], start: usize, end: usize) -> Span
+    ensures { λ r. ⌜ Trimmed trimEnd trimEndSpan (now (s .entry)) start end r ⌝ }
+{
+    let c = clip(s, start, end);
+    let a = c.start;
+    let e = c.end;
+    let n = white_end(&s[a..e]);
+    Span {
+        start: a,
+        end: a + n,
+    }
+}
+
+// A range less the White_Space at both ends.
+pub fn trim(s: &[u8], start: usize, end: usize) -> Span
+    ensures { λ r. ⌜ Trimmed trim trimSpan (now (s .entry)) start end r ⌝ }
+{
+    let c = trim_start(s, start, end);
+    let a = c.start;
+    let e = c.end;
+    trim_end(s, a, e)
+}
+
+// Whether a range is White_Space alone.
+pub fn is_blank(s: &[u8], start: usize, end: usize) -> bool
+    ensures { λ r. ⌜ r ≡ isBlank (part start end (now (s .entry))) ⌝ }
+{
+    let c = trim_start(s, start, end);
+    let a = c.start;
+    let e = c.end;
+    a == e
+}
