@@ -2,3 +2,4 @@ pub mod LineLaws
 pub mod RecordLaws
 pub mod SourceLaws
 pub mod TableLaws
+pub mod TrimLaws

@@ -7,8 +7,8 @@ use native.Mathlib.Omega.{arith}
 use Rattle.format.specs.Basics.{Outcome, refused, given, _>>=_, need}
 use Rattle.format.specs.ObjectFile.{ObjectFile}
 use Rattle.format.specs.Words.{objectOf}
-use Rattle.format.specs.Source.{Span, Position, newlines, lineCount, rawLineSpan, getPosPair}
-use Rattle.format.specs.Calls.{Value, refusalOf, checked, sourceIn, valueAnswer, spanAnswer, positionAnswer, queryCountLines, queryRawLineSpan, queryPosPair}
+use Rattle.format.specs.Source.{Span, Position, newlines, lineCount, rawLineSpan, trimmed, lineSpan, getPosPair}
+use Rattle.format.specs.Calls.{Value, refusalOf, checked, sourceIn, valueAnswer, spanAnswer, positionAnswer, queryCountLines, queryRawLineSpan, queryLineSpan, queryPosPair}
 use native.Mathlib.Numerals.{add-one}
 
 -- the source of an object, as bytes
@@ -49,6 +49,10 @@ module _ (ws : List ℕ) (n : ℕ) (e : refused n ≡ sourceOf ws) where
   unfolding queryRawLineSpan spanAnswer
   raw-refused line = ap spanAnswer (through ws (refused n) (λ s. rawLineSpan s line) e)
 
+  pub line-refused : (line : ℕ) → record { number = n; start = 0; end = 0 } ≡ queryLineSpan ws line
+  unfolding queryLineSpan spanAnswer
+  line-refused line = ap spanAnswer (through ws (refused n) (λ s. lineSpan s line) e)
+
   pub pair-refused : (i : ℕ) → record { number = n; line = 0; column = 0 } ≡ queryPosPair ws i
   unfolding queryPosPair positionAnswer
   pair-refused i = ap positionAnswer (through ws (refused n) (λ s. given (getPosPair s i)) e)
@@ -66,6 +70,17 @@ module _ (ws s : List ℕ) (e : given s ≡ sourceOf ws) where
   pub raw-past : (line : ℕ) → refused 5 ≡ rawLineSpan s line → record { number = 5; start = 0; end = 0 } ≡ queryRawLineSpan ws line
   unfolding queryRawLineSpan spanAnswer
   raw-past line q = ap spanAnswer (q ∙ through ws (given s) (λ t. rawLineSpan t line) e)
+
+  pub line-given :
+      (line : ℕ) (r t : Span) → given r ≡ rawLineSpan s line → t ≡ trimmed s r → record { number = 0; start = t .start; end = t .end } ≡ queryLineSpan ws line
+  unfolding queryLineSpan spanAnswer lineSpan
+  line-given line r t q u =
+      ap (λ x. spanAnswer (given x)) u ∙ ap (λ o. spanAnswer (o >>= λ x. given (trimmed s x))) q
+      ∙ ap spanAnswer (through ws (given s) (λ t. lineSpan t line) e)
+
+  pub line-past : (line : ℕ) → refused 5 ≡ rawLineSpan s line → record { number = 5; start = 0; end = 0 } ≡ queryLineSpan ws line
+  unfolding queryLineSpan spanAnswer lineSpan
+  line-past line q = ap (λ o. spanAnswer (o >>= λ x. given (trimmed s x))) q ∙ ap spanAnswer (through ws (given s) (λ t. lineSpan t line) e)
 
   pub pair-given : (i : ℕ) (p : Position) → p ≡ getPosPair s i → record { number = 0; line = p .line; column = p .column } ≡ queryPosPair ws i
   unfolding queryPosPair positionAnswer

@@ -3,8 +3,9 @@ use mathlib.Core.Path.{_≡_}
 use mathlib.Core.Logic.{_⊎_}
 use mathlib.Core.List.{List}
 use mathlib.Core.Option.{none, some}
-use Prim.Native.Nat.{ℕ, _+_, _*_, _≤_}
-use lib.ListN.{length, drop}
+use Prim.Native.Nat.{ℕ, _+_, _-_, _*_, _≤_}
+use lib.ListN.{length, take, drop}
+use Rattle.format.specs.Utf8.{trimStart, trimEnd}
 use Rattle.format.specs.Basics.{Outcome, refused, given, _>>=_}
 use Rattle.format.specs.ObjectFile.{ObjectFile}
 use Rattle.format.specs.Words.{objectOf}
@@ -57,6 +58,22 @@ SourceIs ws r = (sourceBytes ws r ≡ (sourceIn ws >>= λ x. given (x .1))) × S
 abbrev pub spanIn : RawLine → Outcome Span
 spanIn (raw.Bytes a e) = given (record { start = a; end = e })
 spanIn raw.Past = refused 5
+
+-- a line lies within the first n bytes
+abbrev pub Within : ℕ → RawLine → Type 0
+Within n (raw.Bytes a e) = (a ≤ e) × (e ≤ n)
+Within n raw.Past = Unit {0}
+
+-- where the White_Space at the start of s from a byte on ends, and where that at its end begins
+pub record TrimsStart (s : List ℕ) (start end r : ℕ) : Type 0 where
+  pub low : start ≤ r
+  pub high : r ≤ end
+  pub rest : drop r s ≡ trimStart (drop start s)
+
+pub record TrimsEnd (s : List ℕ) (start end r : ℕ) : Type 0 where
+  pub low : start ≤ r
+  pub high : r ≤ end
+  pub rest : take (r - start) (drop start s) ≡ trimEnd (drop start s)
 
 abbrev pub pairIn : Pair → Position
 pairIn p = record { line = p .line; column = p .column }

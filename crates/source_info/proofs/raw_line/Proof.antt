@@ -16,7 +16,7 @@ use Rattle.source_info.proofs.raw_line.Tie as tie
 
 abbrev Inv-loop : tie.InvT-loop
 Inv-loop ws at n line left₀ start₀ i₀ left start i =
-    (i ≤ n) × (spanFrom start i left (drop i (textBytes ws at n)) ≡ rawLineSpan (textBytes ws at n) line)
+    (i ≤ n) × (start ≤ i) × (spanFrom start i left (drop i (textBytes ws at n)) ≡ rawLineSpan (textBytes ws at n) line)
 
 abbrev μ-loop : tie.MeasureT-loop
 μ-loop ws at n line left₀ start₀ i₀ left start i = n - i
@@ -39,12 +39,15 @@ module _ (c : tie.After-text-byte Inv-loop μ-loop) where
   byte = c .text-byte .ensures ∙ byte-is (now (begin .args .ws)) (begin .args .at) (begin .args .n) i (c .before .loop-test .taken)
 
 loop-holds : tie.Need-loop-holds Inv-loop μ-loop
-loop-holds c = (omega arith, span-start _ _)
+loop-holds c = (omega arith, omega arith, span-start _ _)
 
 returns : tie.Need-returns Inv-loop μ-loop
 returns c =
     let t = c .before .before in
-    span-stop _ _ _ (text t) (within t) (sym (byte t) ∙ c .before .if1 .taken) (c .if2 .taken) ∙ t .before .before .loop .inv .1
+    let inv = t .before .before .loop .inv in (
+      span-stop _ _ _ (text t) (within t) (sym (byte t) ∙ c .before .if1 .taken) (c .if2 .taken) ∙ inv .2,
+      (omega (arith, inv .1), omega (arith, t .before .loop-test .taken)),
+    )
 
 loop-again : tie.Need-loop-again Inv-loop μ-loop
 loop-again c =
@@ -54,13 +57,15 @@ loop-again c =
     ⊎-elim
     (λ w. (
       omega (arith, t .before .loop-test .taken),
+      omega (arith, w .3),
       ap (λ k. spanFrom k (i t + 1) (c .if1 .left) rest) (w .3) ∙ ap (λ k. spanFrom (i t + 1) (i t + 1) k rest) (w .2)
-          ∙ span-pass (loop .start) (i t) (loop .left) (text t) (within t) (sym (byte t) ∙ w .0 .taken) (w .1 .left) ∙ loop .inv .1,
+          ∙ span-pass (loop .start) (i t) (loop .left) (text t) (within t) (sym (byte t) ∙ w .0 .taken) (w .1 .left) ∙ loop .inv .2,
     ))
     (λ w. (
       omega (arith, t .before .loop-test .taken),
+      omega (arith, w .2, loop .inv .1),
       ap (λ k. spanFrom k (i t + 1) (c .if1 .left) rest) (w .2) ∙ ap (λ k. spanFrom (loop .start) (i t + 1) k rest) (w .1)
-          ∙ span-other (loop .start) (i t) (loop .left) (text t) (within t) (λ z. w .0 .left (byte t ∙ z)) ∙ loop .inv .1,
+          ∙ span-other (loop .start) (i t) (loop .left) (text t) (within t) (λ z. w .0 .left (byte t ∙ z)) ∙ loop .inv .2,
     ))
     (c .if1 .came)
 
@@ -77,10 +82,10 @@ returns-2 c =
     let l = c .before in
     let loop = l .before .loop in
     let e : top l .args .n ≡ loop .i = omega (arith, l .loop-test .left, loop .inv .0) in
-    ap (λ k. given (record { start = loop .start; end = k })) e ∙ span-end _ _ _ _ (size l) (c .if3 .taken) ∙ loop .inv .1
+    (ap (λ k. given (record { start = loop .start; end = k })) e ∙ span-end _ _ _ _ (size l) (c .if3 .taken) ∙ loop .inv .2, (omega (arith, e, loop .inv .1), omega arith))
 
 returns-3 : tie.Need-returns-3 Inv-loop μ-loop
-returns-3 c = let l = c .before in span-past _ _ _ _ (size l) (c .if3 .left) ∙ l .before .loop .inv .1
+returns-3 c = let l = c .before in (span-past _ _ _ _ (size l) (c .if3 .left) ∙ l .before .loop .inv .2, tt)
 
 pub raw-line-spec : {M : Type 1} → statement M
 raw-line-spec =

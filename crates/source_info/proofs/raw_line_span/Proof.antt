@@ -19,12 +19,12 @@ returns : tie.Need-returns
 returns c =
     let a = c .before in
     let m = a .before .before in
-    raw-given _ _ (there (m .before .before) .0) _ _ _ (ap spanIn (sym (a .a .given .1)) ∙ m .raw-line .ensures)
+    raw-given _ _ (there (m .before .before) .0) _ _ _ (ap spanIn (sym (a .a .given .1)) ∙ m .raw-line .ensures .0)
 
 returns-2 : tie.Need-returns-2
 returns-2 c =
     let m = c .before .before in
-    raw-past _ _ (there (m .before .before) .0) _ (ap spanIn (sym (c .enum-told .given .1)) ∙ m .raw-line .ensures)
+    raw-past _ _ (there (m .before .before) .0) _ (ap spanIn (sym (c .enum-told .given .1)) ∙ m .raw-line .ensures .0)
 
 returns-3 : tie.Need-returns-3
 returns-3 c =
