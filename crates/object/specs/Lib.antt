@@ -1,0 +1,5 @@
+pub mod Run
+pub mod Bodies
+pub mod Texts
+pub mod Access
+pub mod Steps

@@ -1,0 +1,5 @@
+pub mod LineLaws
+pub mod RecordLaws
+pub mod SourceLaws
+pub mod TableLaws
+pub mod TrimLaws

@@ -1,0 +1,106 @@
+-- A line less White_Space, by the bytes of a text in words. Assumes nothing.
+use mathlib.Core.Path.{_≡_, refl, sym, _∙_, ap, ap₂}
+use mathlib.Core.Bool.{Bool, true, false, _&&_}
+use mathlib.Core.List.{List, [], _∷_}
+use Prim.Native.Nat.{ℕ, zero, suc, _+_, _-_, _≤_, _<_}
+use native.Mathlib.Omega.{arith}
+use lib.ListN.{length, take, drop, getD, length-drop, drop-of-length-le, List·getD-eq-default}
+use lib.Seq.{drop-drop, getD-drop, drop-cons}
+use lib.Dec.{leb, ltb, eqb}
+use borrow.Author.Tests.{le-leb, lt-leb}
+use Rattle.format.specs.Basics.{Outcome, given, if_then_else_}
+use Rattle.format.specs.Utf8.{charAt, follow, whiteSpaceLength, trimStart, trimEnd}
+use Rattle.format.specs.Source.{Span, spanBytes, trimmed}
+use Rattle.format.proofs.Utf8Laws.{char-ascii}
+use Rattle.trim.specs.WhiteSpace.{whiteAt, endsWhite, whiteBefore}
+use Rattle.object.specs.Texts.{textByte, bytesFrom, textBytes}
+use Rattle.object.proofs.ByteLaws.{bytes-length}
+use Rattle.source_info.specs.Sources.{TrimsStart, TrimsEnd}
+use Rattle.source_info.proofs.LineLaws.{byte-is, size-is}
+
+-- a character is known by four bytes, 0 past the end
+four : (b : ℕ) (bs : List ℕ) → charAt (b ∷ getD bs 0 0 ∷ getD bs 1 0 ∷ getD bs 2 0 ∷ []) ≡ charAt (b ∷ bs)
+unfolding charAt follow
+four b [] = char-ascii b [] (0 ∷ 0 ∷ []) 0 (omega arith)
+four b (c ∷ []) = char-ascii b (c ∷ []) (0 ∷ []) 0 (omega arith)
+four b (c ∷ d ∷ []) = char-ascii b (c ∷ d ∷ []) [] 0 (omega arith)
+four b (c ∷ d ∷ e ∷ rest) = refl
+
+pub char-four : (s : List ℕ) (p : ℕ) → p < length s
+    → charAt (getD s p 0 ∷ getD s (p + 1) 0 ∷ getD s (p + 2) 0 ∷ getD s (p + 3) 0 ∷ []) ≡ charAt (drop p s)
+char-four s p h =
+    let bs = drop (suc p) s in
+    let e0 : suc p + 0 ≡ p + 1 = omega arith in
+    let e1 : suc p + 1 ≡ p + 2 = omega arith in
+    let e2 : suc p + 2 ≡ p + 3 = omega arith in
+    let g : (k j : ℕ) → suc p + k ≡ j → getD s j 0 ≡ getD bs k 0 = λ k j e. sym (getD-drop (suc p) s k 0 ∙ ap (λ i. getD s i 0) e) in
+    ap (λ x. charAt (getD s p 0 ∷ x ∷ getD s (p + 2) 0 ∷ getD s (p + 3) 0 ∷ [])) (g 0 (p + 1) e0)
+    ∙ ap (λ x. charAt (getD s p 0 ∷ getD bs 0 0 ∷ x ∷ getD s (p + 3) 0 ∷ [])) (g 1 (p + 2) e1)
+    ∙ ap (λ x. charAt (getD s p 0 ∷ getD bs 0 0 ∷ getD bs 1 0 ∷ x ∷ [])) (g 2 (p + 3) e2)
+    ∙ four (getD s p 0) bs ∙ ap charAt (sym (drop-cons s p 0 h))
+
+pub white-out : (s : List ℕ) (p : ℕ) → length s ≤ p → 0 ≡ whiteAt s p
+unfolding charAt
+white-out s p h = sym (ap (λ t. whiteSpaceLength (charAt t)) (drop-of-length-le s h))
+
+pub byte-out : (s : List ℕ) (p : ℕ) → length s ≤ p → 0 ≡ getD s p 0
+byte-out s p h = sym (List·getD-eq-default s 0 h)
+
+-- a place of a line
+pub white-line : (s : List ℕ) (start i p : ℕ) → start + i ≡ p → whiteAt (drop start s) i ≡ whiteAt s p
+white-line s start i p e = ap (λ t. whiteSpaceLength (charAt t)) (drop-drop i start s ∙ ap (λ k. drop k s) e)
+
+pub ends-short : (s : List ℕ) (k n : ℕ) → k < n → false ≡ endsWhite s k n
+ends-short s k n h = rw (lt-leb n k h)
+
+pub ends-long : (s : List ℕ) (k n : ℕ) → n ≤ k → eqb (whiteAt s (k - n)) n ≡ endsWhite s k n
+ends-long s k n h = sym (rw (le-leb n k h))
+
+-- parts of a text
+bytes-drop : (ws : List ℕ) (at j i m : ℕ) → i ≤ m → drop i (bytesFrom ws at j m) ≡ bytesFrom ws at (j + i) (m - i)
+unfolding bytesFrom
+bytes-drop ws at j zero m h = let e : j ≡ j + 0 = omega arith in let f : m ≡ m - 0 = omega arith in ap₂ (bytesFrom ws at) e f
+bytes-drop ws at j (suc i) zero h = absurd (omega arith)
+bytes-drop ws at j (suc i) (suc m) h =
+    let e : suc j + i ≡ j + suc i = omega arith in
+    let f : m - i ≡ suc m - suc i = omega arith in
+    bytes-drop ws at (suc j) i m (omega arith) ∙ ap₂ (bytesFrom ws at) e f
+
+bytes-take : (ws : List ℕ) (at j k m : ℕ) → k ≤ m → take k (bytesFrom ws at j m) ≡ bytesFrom ws at j k
+unfolding bytesFrom
+bytes-take ws at j zero m h = refl
+bytes-take ws at j (suc k) zero h = absurd (omega arith)
+bytes-take ws at j (suc k) (suc m) h = ap (λ t. textByte ws at j ∷ t) (bytes-take ws at (suc j) k m (omega arith))
+
+-- the bytes from a to e, of e or more
+part-is : (ws : List ℕ) (at a e n : ℕ) → a ≤ e → e ≤ n → take (e - a) (drop a (textBytes ws at n)) ≡ drop a (textBytes ws at e)
+part-is ws at a e n h k =
+    ap (take (e - a)) (bytes-drop ws at 0 a n (omega arith)) ∙ bytes-take ws at (0 + a) (e - a) (n - a) (omega arith)
+    ∙ sym (bytes-drop ws at 0 a e h)
+
+-- THE TRIMMED LINE
+pub line-trimmed :
+    (ws : List ℕ) (at n a e end start : ℕ) → a ≤ e → e ≤ n → TrimsEnd (textBytes ws at e) a e end → TrimsStart (textBytes ws at end) a end start
+    → record { start = start; end = end } ≡ trimmed (textBytes ws at n) (record { start = a; end = e })
+unfolding trimmed
+line-trimmed ws at n a e end start h k x y =
+    let s = textBytes ws at n in
+    let line = trimEnd (spanBytes s (record { start = a; end = e })) in
+    let m = drop a (textBytes ws at end) in
+    let q : line ≡ m =
+    ap trimEnd (part-is ws at a e n h k) ∙ sym (x .rest) ∙ part-is ws at a end e (x .low) (x .high) in
+    let l1 : length line ≡ end - a = ap length q ∙ length-drop a (textBytes ws at end) ∙ ap (λ z. z - a) (size-is ws at end) in
+    let l2 : length (trimStart line) ≡ end - start =
+    ap (λ t. length (trimStart t)) q ∙ ap length (sym (y .rest)) ∙ length-drop start (textBytes ws at end) ∙ ap (λ z. z - start) (size-is ws at end) in
+    let p1 : start ≡ a + (length line - length (trimStart line)) = omega (arith, l1, l2, y .low, y .high, x .low) in
+    let p2 : end ≡ a + length line = omega (arith, l1, x .low) in
+    ap₂ (λ (u v : ℕ). record { start = u; end = v }) p1 p2
+
+-- the first of three lengths that passes
+module _ (s : List ℕ) (k : ℕ) where
+  abbrev pick : Bool → Bool → Bool → ℕ
+  pick a b c = if a then 1 else if b then 2 else if c then 3 else 0
+
+  pub before-is : (a b c : Bool) → a ≡ endsWhite s k 1 → b ≡ endsWhite s k 2 → c ≡ endsWhite s k 3 → pick a b c ≡ whiteBefore s k
+  unfolding whiteBefore
+  before-is a b c x y z = ap (λ t. pick t b c) x ∙ ap (λ t. pick (endsWhite s k 1) t c) y ∙ ap (λ t. pick (endsWhite s k 1) (endsWhite s k 2) t) z

@@ -1,0 +1,26 @@
+use borrow.Author.Needs.{needs}
+use native.Mathlib.Omega.{arith}
+use mathlib.Core.Path.{_≡_, _∙_}
+use Prim.Native.Nat.{_≤_, _<_}
+use lib.ListN.{length}
+use denote.Ref.{now}
+use Rattle.object.specs.Texts.{textBytes}
+use Rattle.source_info.proofs.LineLaws.{byte-is, size-is}
+use Rattle.source_info.proofs.TrimLaws.{byte-out}
+use Rattle.source_info.proofs.byte_in.Statement.{statement}
+use Rattle.source_info.proofs.byte_in.Tie as tie
+
+returns : tie.Need-returns
+returns c =
+    let a = c .before .before .args in
+    let h : length (textBytes (now (a .ws)) (a .at) (a .end)) ≤ a .p = omega (arith, size-is (now (a .ws)) (a .at) (a .end), c .if1 .taken) in
+    byte-out (textBytes (now (a .ws)) (a .at) (a .end)) (a .p) h
+
+returns-2 : tie.Need-returns-2
+returns-2 c =
+    let a = c .before .before .before .args in
+    let h : a .p < a .end = omega (arith, c .before .if1 .left) in
+    c .text-byte .ensures ∙ byte-is (now (a .ws)) (a .at) (a .end) (a .p) h
+
+pub byte-in-spec : {M : Type 1} → statement M
+byte-in-spec = tie.close (tie.spec returns (λ c κs. search needs) returns-2)

@@ -1,0 +1,3 @@
+pub mod Passing
+pub mod Sources
+pub mod Tables
