@@ -89,7 +89,8 @@ addresses-are : (ws : List ℕ) (xs : List ℕ) → addressesOf ws ≡ given xs 
 unfolding addressesOf
 addresses-are [] xs e = sym (given-same e)
 addresses-are (w ∷ ws) xs e =
-    let f = bind-given (bitsOf 1 (2 ^ 17) w) (λ x. ask 1 (leb (2 ^ 16) x) >>= λ _. addressesOf ws >>= λ ys. given ((x - 2 ^ 16) ∷ ys)) xs e in
+    let f = bind-given (bitsOf 1 (2 ^ 17) w) (λ x. ask 1 (leb (2 ^ 16) x) >>= λ _. addressesOf ws >>= λ ys. given ((x - 2 ^ 16) ∷ ys)) xs
+    e in
     let x = f .0 in
     let a = ask-given 1 (leb (2 ^ 16) x) (addressesOf ws >>= λ ys. given ((x - 2 ^ 16) ∷ ys)) xs (f .2) in
     let g = bind-given (addressesOf ws) (λ ys. given ((x - 2 ^ 16) ∷ ys)) xs (a .1) in
@@ -146,7 +147,8 @@ module _ (ws : List ℕ) (at : ℕ) (r : Record) (e : recordFrom (getD ws at 0, 
   pub label-is : kindAt ws at ≡ 2 → (r ≡ label (labelAt ws at)) × Text (bodyAt ws (at + 1 + 3))
   unfolding recordFrom
   label-is k =
-      let make : ℕ → ℕ → List ℕ → Record = λ x n t. label (record { name = t; address = x % 2 ^ 16; external = leb (2 ^ 16) x; start = n }) in
+      let make : ℕ → ℕ → List ℕ → Record = λ x n t. label (record
+      { name = t; address = x % 2 ^ 16; external = leb (2 ^ 16) x; start = n }) in
       let q : (bitsOf 2 (2 ^ 17) w >>= λ x. numberFrom body >>= λ n. textFrom (n .1) >>= λ t. given (make x (n .0) t)) ≡ given r
       = simp (ne-eqb (w / 2 ^ 29) 0 (λ z. omega arith), eq-eqb (w / 2 ^ 29) 2 k) at e in
       let f = bind-given (bitsOf 2 (2 ^ 17) w) (λ x. numberFrom body >>= λ n. textFrom (n .1) >>= λ t. given (make x (n .0) t)) r q in
@@ -159,8 +161,15 @@ module _ (ws : List ℕ) (at : ℕ) (r : Record) (e : recordFrom (getD ws at 0, 
       let t = text-is ws (at + 1 + 3) (d .0) (d .1) in
       let b = bits-is 2 (2 ^ 17) w x (f .1) in
       let v : w % 2 ^ 29 % 2 ^ 16 ≡ w % 2 ^ 16 = omega arith in (
-        sym (given-same (d .2)) ∙ ap (make x (numberAt ws (at + 1))) (t .0) ∙ ap (λ y. make y (numberAt ws (at + 1)) (textAt ws (at + 1 + 3))) (b .0)
-            ∙ ap (λ a. label (record { name = textAt ws (at + 1 + 3); address = a; external = leb (2 ^ 16) (w % 2 ^ 29); start = numberAt ws (at + 1) })) v,
+        sym (given-same (d .2)) ∙ ap (make x (numberAt ws (at + 1))) (t .0)
+            ∙ ap (λ y. make y (numberAt ws (at + 1)) (textAt ws (at + 1 + 3))) (b .0)
+            ∙ ap (λ a. label (record {
+              name = textAt ws (at + 1 + 3);
+              address = a;
+              external = leb (2 ^ 16) (w % 2 ^ 29);
+              start = numberAt
+                  ws (at + 1);
+            })) v,
         t .1,
       )
 
@@ -182,7 +191,12 @@ module _ (ws : List ℕ) (at : ℕ) (r : Record) (e : recordFrom (getD ws at 0, 
   unfolding recordFrom
   source-is k =
       let q : (bitsOf 4 1 w >>= λ _. textFrom body >>= λ t. given (source t)) ≡ given r
-      = simp (ne-eqb (w / 2 ^ 29) 0 (λ z. omega arith), ne-eqb (w / 2 ^ 29) 2 (λ z. omega arith), ne-eqb (w / 2 ^ 29) 3 (λ z. omega arith), eq-eqb (w / 2 ^ 29) 4 k) at e in
+      = simp (
+        ne-eqb (w / 2 ^ 29) 0 (λ z. omega arith),
+        ne-eqb (w / 2 ^ 29) 2 (λ z. omega arith),
+        ne-eqb (w / 2 ^ 29) 3 (λ z. omega arith),
+        eq-eqb (w / 2 ^ 29) 4 k,
+      ) at e in
       let f = bind-given (bitsOf 4 1 w) (λ _. textFrom body >>= λ t. given (source t)) r q in
       let g = bind-given (textFrom body) (λ t. given (source t)) r (f .2) in
       let t = text-is ws (at + 1) (g .0) (g .1) in
@@ -193,7 +207,12 @@ module _ (ws : List ℕ) (at : ℕ) (r : Record) (e : recordFrom (getD ws at 0, 
   relocation-is k =
       let make : ℕ → List ℕ → Record = λ a t. relocation (record { address = a; name = t }) in
       let q : (bitsOf 5 (2 ^ 16) w >>= λ a. textFrom body >>= λ t. given (make a t)) ≡ given r
-      = simp (ne-eqb (w / 2 ^ 29) 0 (λ z. omega arith), ne-eqb (w / 2 ^ 29) 2 (λ z. omega arith), ne-eqb (w / 2 ^ 29) 3 (λ z. omega arith), ne-eqb (w / 2 ^ 29) 4 (λ z. omega arith)) at e in
+      = simp (
+        ne-eqb (w / 2 ^ 29) 0 (λ z. omega arith),
+        ne-eqb (w / 2 ^ 29) 2 (λ z. omega arith),
+        ne-eqb (w / 2 ^ 29) 3 (λ z. omega arith),
+        ne-eqb (w / 2 ^ 29) 4 (λ z. omega arith),
+      ) at e in
       let f = bind-given (bitsOf 5 (2 ^ 16) w) (λ a. textFrom body >>= λ t. given (make a t)) r q in
       let g = bind-given (textFrom body) (λ t. given (make (f .0) t)) r (f .2) in
       let t = text-is ws (at + 1) (g .0) (g .1) in
@@ -214,4 +233,5 @@ module _ (ws : List ℕ) (at : ℕ) (r : Record) (e : recordFrom (getD ws at 0, 
       (λ t3. line-is (eqb-true k 3 t3) ∙ sym (simp (t0, t2, t3)))
       (λ t3. by-test (eqb k 4)
       (λ t4. source-is (eqb-true k 4 t4) .0 ∙ sym (simp (t0, t2, t3, t4)))
-      (λ t4. relocation-is (head-kind w (head-at ws at l h) (eqb-false k 0 t0) (eqb-false k 2 t2) (eqb-false k 3 t3) (eqb-false k 4 t4)) .0 ∙ sym (simp (t0, t2, t3, t4))))))
+      (λ t4. relocation-is (head-kind w (head-at ws at l h) (eqb-false k 0 t0) (eqb-false k 2 t2) (eqb-false k 3 t3) (eqb-false k 4 t4))
+      .0 ∙ sym (simp (t0, t2, t3, t4))))))

@@ -58,7 +58,8 @@ module _ (ws : List ℕ) (i : ℕ) where
 
   pub body-stops : i < length ws → isHead (getD ws i 0) ≡ true → bodyAt ws i ≡ []
   unfolding bodyAt
-  body-stops h e = ap (λ xs. partsAt isHead xs .before) (drop-cons ws i 0 h) ∙ ap (λ p. p .before) (head-parts (getD ws i 0) (drop (suc i) ws) e)
+  body-stops h e = ap (λ xs. partsAt isHead xs .before) (drop-cons ws i 0 h)
+      ∙ ap (λ p. p .before) (head-parts (getD ws i 0) (drop (suc i) ws) e)
 
   pub body-goes : i < length ws → isHead (getD ws i 0) ≡ false → bodyAt ws i ≡ getD ws i 0 ∷ bodyAt ws (i + 1)
   unfolding bodyAt
@@ -74,11 +75,13 @@ module _ (ws : List ℕ) (i : ℕ) where
 
   pub after-body : bodyAt ws (i + length (bodyAt ws i)) ≡ []
   unfolding bodyAt
-  after-body = ap (λ xs. partsAt isHead xs .before) (sym (drop-drop (length (bodyAt ws i)) i ws)) ∙ ap (λ p. p .before) (parts-after (drop i ws))
+  after-body = ap (λ xs. partsAt isHead xs .before) (sym (drop-drop (length (bodyAt ws i)) i ws))
+      ∙ ap (λ p. p .before) (parts-after (drop i ws))
 
   pub after-groups : groupsAt ws (i + length (bodyAt ws i)) ≡ groupsAt ws i
   unfolding bodyAt groupsAt
-  after-groups = ap (λ xs. partsAt isHead xs .groups) (sym (drop-drop (length (bodyAt ws i)) i ws)) ∙ ap (λ p. p .groups) (parts-after (drop i ws))
+  after-groups = ap (λ xs. partsAt isHead xs .groups) (sym (drop-drop (length (bodyAt ws i)) i ws))
+      ∙ ap (λ p. p .groups) (parts-after (drop i ws))
 
   pub body-fits : i ≤ length ws → i + length (bodyAt ws i) ≤ length ws
   unfolding bodyAt
@@ -103,4 +106,5 @@ module _ (ws : List ℕ) (i : ℕ) where
 
 -- whether a place begins a record
 pub head-at : (ws : List ℕ) (i : ℕ) → i < length ws → bodyAt ws i ≡ [] → isHead (getD ws i 0) ≡ true
-head-at ws i h e = by-test (isHead (getD ws i 0)) (λ t. t) (λ t. let p = body-goes ws i h t in let z : _≡_ {A = ℕ} 0 1 = cc in absurd (omega arith))
+head-at ws i h e = by-test (isHead (getD ws i 0)) (λ t. t) (λ t. let p = body-goes ws i h t in let z : _≡_ {A = ℕ} 0 1 = cc in absurd
+    (omega arith))

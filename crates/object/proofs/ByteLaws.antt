@@ -27,9 +27,11 @@ before-at k [] h = refl
 before-at k (x ∷ xs) h =
     by-test (isHead x)
     (λ e. let q = ap (λ p. p .before) (head-parts x xs e) in absurd (omega (arith, ap length q)))
-    (λ e. let q = ap (λ p. p .before) (body-parts x xs e) in ap (λ l. getD l k 0) q ∙ go k (subst (λ l. k < length l) q h) (λ j. before-at j xs))
+    (λ e. let q = ap (λ p. p .before) (body-parts x xs e) in ap (λ l. getD l k 0) q
+    ∙ go k (subst (λ l. k < length l) q h) (λ j. before-at j xs))
   where
-    go : (k : ℕ) → k < length (x ∷ partsAt isHead xs .before) → ((j : ℕ) → j < length (partsAt isHead xs .before) → getD (partsAt isHead xs .before) j 0 ≡ getD xs j 0)
+    go : (k : ℕ) → k < length (x ∷ partsAt isHead xs .before)
+        → ((j : ℕ) → j < length (partsAt isHead xs .before) → getD (partsAt isHead xs .before) j 0 ≡ getD xs j 0)
         → getD (x ∷ partsAt isHead xs .before) k 0 ≡ getD (x ∷ xs) k 0
     go zero h ih = refl
     go (suc k) h ih = ih k (omega arith)
@@ -46,7 +48,8 @@ body-within ws at k h =
 
 -- a text's length
 split-size : (w : ℕ) (xs : List ℕ) (s : Split w xs) → length (bytesIn (w ∷ xs)) ≡ s .count + length (bytesIn xs)
-split-size w xs s = ap length (s .bytes) ∙ length-append (digitsOf 8 (s .count) w) (bytesIn xs) ∙ ap (λ n. n + length (bytesIn xs)) (digits-length 8 (s .count) w)
+split-size w xs s = ap length (s .bytes) ∙ length-append (digitsOf 8 (s .count) w) (bytesIn xs)
+    ∙ ap (λ n. n + length (bytesIn xs)) (digits-length 8 (s .count) w)
 
 -- a word that others follow is full
 full : (w x : ℕ) (xs : List ℕ) (h : Text (w ∷ x ∷ xs)) (s : Split w (x ∷ xs)) → s .count ≡ 3
@@ -69,7 +72,8 @@ unfolding textFrom
 no-text = refl
 
 -- a text's bytes
-first-bytes : (w n d : ℕ) (rest : List ℕ) → Word w n rest → d < 3 → d < length (digitsOf 8 n w ++ rest) → getD (digitsOf 8 n w ++ rest) d 0 ≡ getD (digitsOf 8 3 w) d 0
+first-bytes : (w n d : ℕ) (rest : List ℕ) → Word w n rest → d < 3 → d < length (digitsOf 8 n w ++ rest)
+    → getD (digitsOf 8 n w ++ rest) d 0 ≡ getD (digitsOf 8 3 w) d 0
 unfolding digitsOf
 first-bytes w zero d rest a l h = absurd (omega (arith, a .some))
 first-bytes w (suc zero) zero rest a l h = refl
@@ -90,7 +94,8 @@ byte-at zero d (w ∷ xs) l t h =
     let s = split w xs t in
     let e : 3 * 0 + d ≡ d = omega arith in (
       omega arith,
-      ap (λ i. getD (bytesIn (w ∷ xs)) i 0) e ∙ ap (λ l. getD l d 0) (s .bytes) ∙ first-bytes w (s .count) d (bytesIn xs) (s .word) l (omega (arith, ap length (s .bytes))),
+      ap (λ i. getD (bytesIn (w ∷ xs)) i 0) e ∙ ap (λ l. getD l d 0) (s .bytes)
+          ∙ first-bytes w (s .count) d (bytesIn xs) (s .word) l (omega (arith, ap length (s .bytes))),
     )
 byte-at (suc k) d (w ∷ xs) l t h =
     let s = split w xs t in
@@ -102,7 +107,8 @@ byte-at (suc k) d (w ∷ xs) l t h =
     let e : 3 * suc k + d ≡ length ds + (3 * k + d) = omega (arith, three, digits-length 8 (s .count) w) in
     let ih = byte-at k d xs l (s .rest) (omega (arith, split-size w xs s, three)) in (
       omega (arith, ih .0),
-      ap (λ i. getD (bytesIn (w ∷ xs)) i 0) e ∙ ap (λ l. getD l (length ds + (3 * k + d)) 0) (s .bytes) ∙ getD-append-add ds (bytesIn xs) (3 * k + d) 0 ∙ ih .1,
+      ap (λ i. getD (bytesIn (w ∷ xs)) i 0) e ∙ ap (λ l. getD l (length ds + (3 * k + d)) 0) (s .bytes)
+          ∙ getD-append-add ds (bytesIn xs) (3 * k + d) 0 ∙ ih .1,
     )
 
 -- byte i of the text at a place: in word i / 3, at i % 3
@@ -156,7 +162,8 @@ pub len-out : (ws : List ℕ) (at end : ℕ) → at < end → length ws < end �
 unfolding textLen
 len-out ws at end h k = rw (lt-ltb at end h, lt-leb end (length ws) k)
 
-pub len-some : (ws : List ℕ) (at end : ℕ) → at < end → end ≤ length ws → textLen ws at end ≡ (end - 1 - at) * 3 + getD ws (end - 1) 0 / 2 ^ 24 % 4
+pub len-some : (ws : List ℕ) (at end : ℕ) → at < end → end ≤ length ws → textLen ws at end
+    ≡ (end - 1 - at) * 3 + getD ws (end - 1) 0 / 2 ^ 24 % 4
 unfolding textLen
 len-some ws at end h k = rw (lt-ltb at end h, le-leb end (length ws) k)
 
@@ -183,13 +190,15 @@ pub bytes-at : (ws : List ℕ) (at i n j : ℕ) → j < n → getD (bytesFrom ws
 unfolding bytesFrom
 bytes-at ws at i zero j h = absurd (omega arith)
 bytes-at ws at i (suc n) zero h = let e : i ≡ i + 0 = omega arith in ap (textByte ws at) e
-bytes-at ws at i (suc n) (suc j) h = let e : suc i + j ≡ i + suc j = omega arith in bytes-at ws at (suc i) n j (omega arith) ∙ ap (textByte ws at) e
+bytes-at ws at i (suc n) (suc j) h = let e : suc i + j ≡ i + suc j = omega arith in bytes-at ws at (suc i) n j (omega arith)
+    ∙ ap (textByte ws at) e
 
 -- what is left from byte i on, for loops
 pub bytes-here : (ws : List ℕ) (at i n : ℕ) → i < n → bytesFrom ws at i (n - i) ≡ textByte ws at i ∷ bytesFrom ws at (i + 1) (n - (i + 1))
 unfolding bytesFrom
 bytes-here ws at i n h =
-    let e : n - i ≡ suc (n - (i + 1)) = omega arith in ap (bytesFrom ws at i) e ∙ ap (λ k. textByte ws at i ∷ bytesFrom ws at k (n - (i + 1))) (sym (add-one i))
+    let e : n - i ≡ suc (n - (i + 1)) = omega arith in ap (bytesFrom ws at i) e
+    ∙ ap (λ k. textByte ws at i ∷ bytesFrom ws at k (n - (i + 1))) (sym (add-one i))
 
 pub bytes-end : (ws : List ℕ) (at i n : ℕ) → n ≤ i → bytesFrom ws at i (n - i) ≡ []
 unfolding bytesFrom

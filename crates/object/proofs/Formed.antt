@@ -60,12 +60,12 @@ held ws h e =
 
 -- an object by its number
 pub record Formed (ws : List ℕ) : Type 0 where
-  pub holding : ObjectFile
-  pub is : objectOf ws ≡ given holding
+  pub object : ObjectFile
+  pub is : objectOf ws ≡ given object
 
 pub formed : (ws : List ℕ) → checked ws ≡ 0 → Formed ws
 formed ws z = go (objectOf ws) refl
   where
     go : (o : Outcome ObjectFile) → objectOf ws ≡ o → Formed ws
     go (refused n) e = absurd (omega (arith, z, refusal-of ws ∙ ap (λ o. cond (isGiven o) 0 1) e))
-    go (given h) e = record { holding = h; is = e }
+    go (given h) e = record { object = h; is = e }

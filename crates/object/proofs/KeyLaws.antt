@@ -43,7 +43,8 @@ module _ (ws : List ℕ) (a b : Key) where
       (λ t. sym (ap (λ x. before x (keyIn ws b)) (key-none ws a (eqb-true (a .part) 0 t)) ∙ ap (before []) q))
       (λ t. let n = eqb-false (a .part) 0 t in
       sym (ap (λ x. before x (keyIn ws b)) (key-some ws a n) ∙ ap (before ((a .part - 1) ∷ tailIn ws a)) q
-      ∙ stage (a .part - 1) (b .part - 1) (a .part) (b .part) (tailIn ws a) (tailIn ws b) (λ h. omega arith) (λ h. omega arith) (λ e. absurd (omega arith))
+      ∙ stage (a .part - 1) (b .part - 1) (a .part) (b .part) (tailIn ws a) (tailIn ws b) (λ h. omega arith) (λ h. omega arith)
+      (λ e. absurd (omega arith))
       ∙ lt-ltb (a .part) (b .part) h))
 
   pub key-higher : b .part < a .part → false ≡ before (keyIn ws a) (keyIn ws b)
@@ -54,7 +55,8 @@ module _ (ws : List ℕ) (a b : Key) where
       (λ t. sym (ap (λ x. before x (keyIn ws b)) p ∙ ap (before ((a .part - 1) ∷ tailIn ws a)) (key-none ws b (eqb-true (b .part) 0 t))))
       (λ t. let n = eqb-false (b .part) 0 t in
       sym (ap (λ x. before x (keyIn ws b)) p ∙ ap (before ((a .part - 1) ∷ tailIn ws a)) (key-some ws b n)
-      ∙ stage (a .part - 1) (b .part - 1) (a .part) (b .part) (tailIn ws a) (tailIn ws b) (λ h. omega arith) (λ h. omega arith) (λ e. absurd (omega arith))
+      ∙ stage (a .part - 1) (b .part - 1) (a .part) (b .part) (tailIn ws a) (tailIn ws b) (λ h. omega arith) (λ h. omega arith)
+      (λ e. absurd (omega arith))
       ∙ le-ltb (a .part) (b .part) (omega arith)))
 
   module _ (same : a .part ≡ b .part) where
@@ -83,7 +85,8 @@ module _ (ws : List ℕ) (a b : Key) where
         let g = ap (before (tailIn ws a)) (tail-source ws b (sym same ∙ e)) in
         sym (tails (λ z. omega arith) 0 0 (g ∙ f))
 
-    pub key-values : (a .part ≡ 0 → ⊥) → (a .part ≡ 2 → ⊥) → (a .part ≡ 4 → ⊥) → ltb (a .value) (b .value) ≡ before (keyIn ws a) (keyIn ws b)
+    pub key-values : (a .part ≡ 0 → ⊥) → (a .part ≡ 2 → ⊥) → (a .part ≡ 4 → ⊥) → ltb (a .value) (b .value)
+        ≡ before (keyIn ws a) (keyIn ws b)
     unfolding order
     key-values n0 n2 n4 =
         let x = a .value in

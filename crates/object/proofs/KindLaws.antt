@@ -20,7 +20,9 @@ use Rattle.object.specs.Bodies.{bodyAt, goodMemory, goodAddresses, goodT
 use Rattle.object.specs.Steps.{keyIn, pastIn, Known, groupAt, Advanced}
 use Rattle.object.specs.declared.Key.{Key}
 use Rattle.object.specs.declared.Seen.{Seen}
-use Rattle.object.proofs.StepLaws.{Good, good, given-it, not-read, falls, unsound, near, bad-body, fitting, block-head, block-read, label-head, label-number, label-read, line-head, line-number, line-read, source-head, source-read, relocation-head, relocation-read, memories-length, addresses-length, number-length}
+use Rattle.object.proofs.StepLaws.{Good, good, given-it, not-read, falls, unsound, near, bad-body, fitting, block-head, block-read}
+use Rattle.object.proofs.StepLaws.{label-head, label-number, label-read, line-head, line-number, line-read, source-head, source-read}
+use Rattle.object.proofs.StepLaws.{relocation-head, relocation-read, memories-length, addresses-length, number-length}
 
 abbrev pub keyed : ℕ → ℕ → ℕ → Key
 keyed p v n = record { part = p; value = v; name = n }
@@ -82,19 +84,24 @@ module _ (ws : List ℕ) (at : ℕ) (s : Seen) where
 
         pub block-3 : 65535 < length body → Refused
         unfolding soundRecord
-        block-3 l = unsound (groupAt ws at) (pastIn ws s) (made (memories .it)) reads (lt-leb (length (memories .it)) 65535 (omega (arith, size)))
+        block-3 l = unsound (groupAt ws at) (pastIn ws s) (made (memories .it)) reads
+            (lt-leb (length (memories .it)) 65535 (omega (arith, size)))
 
         pub block-4 : (v : ℕ) → v ≡ w → rising (keyed 1 v 0) ≡ false → Refused
         unfolding pastIn
-        block-4 v e r = falls (groupAt ws at) (pastIn ws s) (made (memories .it)) reads (ap (λ x. isLess (order (keyIn ws (s .key)) x)) (sym (key-is v e)) ∙ r)
+        block-4 v e r = falls (groupAt ws at) (pastIn ws s) (made (memories .it)) reads
+            (ap (λ x. isLess (order (keyIn ws (s .key)) x)) (sym (key-is v e)) ∙ r)
 
-        pub block-next : (v n : ℕ) → v ≡ w → length body ≤ 65535 → rising (keyed 1 v 0) ≡ true → n ≡ at + 1 + length body → Advanced ws at s n (moved s (keyed 1 v 0))
+        pub block-next : (v n : ℕ) → v ≡ w → length body ≤ 65535 → rising (keyed 1 v 0) ≡ true → n ≡ at + 1 + length body
+            → Advanced ws at s n (moved s (keyed 1 v 0))
         unfolding pastIn soundRecord apartFrom after
         block-next v n e l r p =
             record {
               read = made (memories .it);
               reading = reads;
-              fitting = fitting (pastIn ws s) (made (memories .it)) (ap (λ x. isLess (order (keyIn ws (s .key)) x)) (sym (key-is v e)) ∙ r) (le-leb (length (memories .it)) 65535 (omega (arith, size))) refl;
+              fitting = fitting (pastIn ws s) (made (memories .it))
+                  (ap (λ x. isLess (order (keyIn ws (s .key)) x)) (sym (key-is v e)) ∙ r)
+                  (le-leb (length (memories .it)) 65535 (omega (arith, size))) refl;
               past = ap (λ x. record { key = x; end = s .first + s .count; lined = s .lined; sourced = s .sourced }) (key-is v e);
               known = λ z. absurd (omega arith);
               place = p;
@@ -118,7 +125,8 @@ module _ (ws : List ℕ) (at : ℕ) (s : Seen) where
       module _ (key : Key) (key-is : keyIn ws key ≡ recordKey (make (text .it))) where
         pub text-2 : rising key ≡ false → Refused
         unfolding pastIn
-        text-2 r = falls (groupAt ws at) (pastIn ws s) (make (text .it)) text-reads (ap (λ x. isLess (order (keyIn ws (s .key)) x)) (sym key-is) ∙ r)
+        text-2 r = falls (groupAt ws at) (pastIn ws s) (make (text .it)) text-reads
+            (ap (λ x. isLess (order (keyIn ws (s .key)) x)) (sym key-is) ∙ r)
 
         pub text-next : (n : ℕ) (t : Seen) → rising key ≡ true → pastIn ws t ≡ after (pastIn ws s) (make (text .it)) → Known ws (t .key)
             → n ≡ at + 1 + length body → Advanced ws at s n t
@@ -127,7 +135,8 @@ module _ (ws : List ℕ) (at : ℕ) (s : Seen) where
             record {
               read = make (text .it);
               reading = text-reads;
-              fitting = fitting (pastIn ws s) (make (text .it)) (ap (λ x. isLess (order (keyIn ws (s .key)) x)) (sym key-is) ∙ r) (is-sound (text .it) ∙ text .passes) (is-apart (s .first + s .count) (text .it));
+              fitting = fitting (pastIn ws s) (make (text .it)) (ap (λ x. isLess (order (keyIn ws (s .key)) x)) (sym key-is) ∙ r)
+                  (is-sound (text .it) ∙ text .passes) (is-apart (s .first + s .count) (text .it));
               past = q;
               known = known;
               place = p;
@@ -164,11 +173,13 @@ module _ (ws : List ℕ) (at : ℕ) (s : Seen) where
           unfolding goodText
           label-known z = ap isGiven (good (textFrom (bodyAt ws more)) isUtf8 g .gives)
 
-          pub label-next : (n : ℕ) → rising (keyed 2 0 more) ≡ true → n ≡ more + length (bodyAt ws more) → Advanced ws at s n (moved s (keyed 2 0 more))
+          pub label-next : (n : ℕ) → rising (keyed 2 0 more) ≡ true → n ≡ more + length (bodyAt ws more)
+              → Advanced ws at s n (moved s (keyed 2 0 more))
           unfolding soundRecord apartFrom pastIn after
           label-next n r p =
               let q = label-key _ (text labelled more (label-read w body k v (bodyAt ws more) h e) (λ t. refl) (λ d t. refl) g .gives) in
-              text-next labelled more (label-read w body k v (bodyAt ws more) h e) (λ t. refl) (λ d t. refl) g (keyed 2 0 more) q n (moved s (keyed 2 0 more)) r
+              text-next labelled more (label-read w body k v (bodyAt ws more) h e) (λ t. refl) (λ d t. refl) g (keyed 2 0 more) q n
+              (moved s (keyed 2 0 more)) r
               (ap (λ x. record { key = x; end = s .first + s .count; lined = s .lined; sourced = s .sourced }) q) label-known
               (omega (arith, p, number-length body (bodyAt ws more) v e))
 
@@ -196,7 +207,8 @@ module _ (ws : List ℕ) (at : ℕ) (s : Seen) where
         source-next n r p =
             text-next source (at + 1) (source-read w body k h) (λ t. refl) (λ d t. refl) g (keyed 4 0 0) (source-key _) n
             (record { key = keyed 4 0 0; first = s .first; count = s .count; lined = s .lined; sourced = true }) r
-            (ap (λ x. record { key = x; end = s .first + s .count; lined = s .lined; sourced = true }) (source-key _)) (λ z. absurd (omega arith)) p
+            (ap (λ x. record { key = x; end = s .first + s .count; lined = s .lined; sourced = true }) (source-key _))
+            (λ z. absurd (omega arith)) p
 
   module _ (k : w / 2 ^ 29 ≡ 5) where
     pub relocation-1 : (w / 2 ^ 16 ≡ 0xA000 → ⊥) → Refused
@@ -217,13 +229,16 @@ module _ (ws : List ℕ) (at : ℕ) (s : Seen) where
       module _ (g : goodText body ≡ true) (v : ℕ) (e : v ≡ w % 2 ^ 16) where
         pub relocation-3 : rising (keyed 5 v 0) ≡ false → Refused
         unfolding soundRecord apartFrom
-        relocation-3 r = text-2 relocated (at + 1) (relocation-read w body k h) (λ t. refl) (λ d t. refl) g (keyed 5 v 0) (relocation-key _ v e) r
+        relocation-3 r = text-2 relocated (at + 1) (relocation-read w body k h) (λ t. refl) (λ d t. refl) g (keyed 5 v 0)
+            (relocation-key _ v e) r
 
         pub relocation-next : (n : ℕ) → rising (keyed 5 v 0) ≡ true → n ≡ at + 1 + length body → Advanced ws at s n (moved s (keyed 5 v 0))
         unfolding soundRecord apartFrom pastIn after
         relocation-next n r p =
-            text-next relocated (at + 1) (relocation-read w body k h) (λ t. refl) (λ d t. refl) g (keyed 5 v 0) (relocation-key _ v e) n (moved s (keyed 5 v 0)) r
-            (ap (λ x. record { key = x; end = s .first + s .count; lined = s .lined; sourced = s .sourced }) (relocation-key _ v e)) (λ z. absurd (omega arith)) p
+            text-next relocated (at + 1) (relocation-read w body k h) (λ t. refl) (λ d t. refl) g (keyed 5 v 0) (relocation-key _ v e) n
+            (moved s (keyed 5 v 0)) r
+            (ap (λ x. record { key = x; end = s .first + s .count; lined = s .lined; sourced = s .sourced }) (relocation-key _ v e))
+            (λ z. absurd (omega arith)) p
 
   module _ (k : w / 2 ^ 29 ≡ 3) where
     pub line-1 : (w ≡ 0x6000_0000 → ⊥) → Refused
@@ -243,7 +258,8 @@ module _ (ws : List ℕ) (at : ℕ) (s : Seen) where
 
         pub line-3 : goodAddresses (bodyAt ws more) ≡ false → Refused
         unfolding goodAddresses soundRecord
-        line-3 g = bad-body (groupAt ws at) (pastIn ws s) (addressesOf (bodyAt ws more)) neverFall lined (λ t. refl) (line-read w body k v (bodyAt ws more) h e) g
+        line-3 g = bad-body (groupAt ws at) (pastIn ws s) (addressesOf (bodyAt ws more)) neverFall lined (λ t. refl)
+            (line-read w body k v (bodyAt ws more) h e) g
 
         module _ (g : goodAddresses (bodyAt ws more) ≡ true) where
           addresses : Good (addressesOf (bodyAt ws more)) neverFall
@@ -251,7 +267,8 @@ module _ (ws : List ℕ) (at : ℕ) (s : Seen) where
           addresses = good (addressesOf (bodyAt ws more)) neverFall g
 
           line-reads : recordFrom (groupAt ws at) ≡ given (lined (addresses .it))
-          line-reads = line-read w body k v (bodyAt ws more) h e ∙ then (addressesOf (bodyAt ws more)) lined (addresses .it) (addresses .gives)
+          line-reads = line-read w body k v (bodyAt ws more) h e
+              ∙ then (addressesOf (bodyAt ws more)) lined (addresses .it) (addresses .gives)
 
           pub line-4 : v < s .first + s .count → Refused
           unfolding apartFrom pastIn
@@ -259,9 +276,11 @@ module _ (ws : List ℕ) (at : ℕ) (s : Seen) where
 
           pub line-5 : rising (keyed 3 v 0) ≡ false → Refused
           unfolding pastIn
-          line-5 r = falls (groupAt ws at) (pastIn ws s) (lined (addresses .it)) line-reads (ap (λ x. isLess (order (keyIn ws (s .key)) x)) (sym (line-key (addresses .it))) ∙ r)
+          line-5 r = falls (groupAt ws at) (pastIn ws s) (lined (addresses .it)) line-reads
+              (ap (λ x. isLess (order (keyIn ws (s .key)) x)) (sym (line-key (addresses .it))) ∙ r)
 
-          pub line-next : (n c : ℕ) → s .first + s .count ≤ v → rising (keyed 3 v 0) ≡ true → n ≡ more + length (bodyAt ws more) → c ≡ n - more
+          pub line-next : (n c : ℕ) → s .first + s .count ≤ v → rising (keyed 3 v 0) ≡ true → n ≡ more + length (bodyAt ws more) → c
+              ≡ n - more
               → Advanced ws at s n (record { key = keyed 3 v 0; first = v; count = c; lined = true; sourced = s .sourced })
           unfolding pastIn apartFrom soundRecord after
           line-next n c l r p q =
@@ -270,8 +289,11 @@ module _ (ws : List ℕ) (at : ℕ) (s : Seen) where
               record {
                 read = lined (addresses .it);
                 reading = line-reads;
-                fitting = fitting (pastIn ws s) (lined (addresses .it)) (ap (λ x. isLess (order (keyIn ws (s .key)) x)) (sym (line-key (addresses .it))) ∙ r) (addresses .passes) (le-leb (s .first + s .count) v l);
-                past = ap (λ x. record { key = x; end = v + c; lined = true; sourced = s .sourced }) (line-key (addresses .it)) ∙ ap (λ x. record { key = recordKey (lined (addresses .it)); end = x; lined = true; sourced = s .sourced }) d;
+                fitting = fitting (pastIn ws s) (lined (addresses .it))
+                    (ap (λ x. isLess (order (keyIn ws (s .key)) x)) (sym (line-key (addresses .it))) ∙ r) (addresses .passes)
+                    (le-leb (s .first + s .count) v l);
+                past = ap (λ x. record { key = x; end = v + c; lined = true; sourced = s .sourced }) (line-key (addresses .it))
+                    ∙ ap (λ x. record { key = recordKey (lined (addresses .it)); end = x; lined = true; sourced = s .sourced }) d;
                 known = λ z. absurd (omega arith);
                 place = omega (arith, p, number-length body (bodyAt ws more) v e);
               }

@@ -88,7 +88,8 @@ module _ (ws : List ℕ) (i : ℕ) (h : i + 3 ≤ length ws) where
   c = getD ws (i + 2) 0
 
   -- the word at a place stands first in what goes on there, or nothing does
-  at-place : (j : ℕ) → j < length ws → (k : List ℕ → Outcome (ℕ × List ℕ)) → k [] ≡ refused 1 → k (getD ws j 0 ∷ bodyAt ws (j + 1)) ≡ refused 1 → k (bodyAt ws j) ≡ refused 1
+  at-place : (j : ℕ) → j < length ws → (k : List ℕ → Outcome (ℕ × List ℕ)) → k [] ≡ refused 1 → k (getD ws j 0 ∷ bodyAt ws (j + 1))
+      ≡ refused 1 → k (bodyAt ws j) ≡ refused 1
   at-place j l k e f = by-test (isHead (getD ws j 0)) (λ t. ap k (body-stops ws j l t) ∙ e) (λ t. ap k (body-goes ws j l t) ∙ f)
 
   pub number-1 : (a / 2 ^ 24 ≡ 0xC0 → ⊥) → numberFrom (bodyAt ws i) ≡ refused 1
@@ -104,12 +105,14 @@ module _ (ws : List ℕ) (i : ℕ) (h : i + 3 ≤ length ws) where
   body-2 e = body-goes ws (i + 1) (omega arith) (six-goes b (omega arith)) ∙ ap (λ n. b ∷ bodyAt ws n) two
 
   body-3 : c / 2 ^ 16 ≡ 0xC000 → bodyAt ws (i + 2) ≡ c ∷ bodyAt ws (i + 3)
-  body-3 e = let q : i + 2 + 1 ≡ i + 3 = omega arith in body-goes ws (i + 2) (omega arith) (six-goes c (omega arith)) ∙ ap (λ n. c ∷ bodyAt ws n) q
+  body-3 e = let q : i + 2 + 1 ≡ i + 3 = omega arith in body-goes ws (i + 2) (omega arith) (six-goes c (omega arith))
+      ∙ ap (λ n. c ∷ bodyAt ws n) q
 
   pub number-2 : a / 2 ^ 24 ≡ 0xC0 → (b / 2 ^ 24 ≡ 0xC0 → ⊥) → numberFrom (bodyAt ws i) ≡ refused 1
   number-2 e n =
       ap numberFrom (body-1 e)
-      ∙ at-place (i + 1) (omega arith) (λ xs. numberFrom (a ∷ xs)) (few (a ∷ []) (omega arith)) (bad-2 a b (a % 2 ^ 24) (bodyAt ws (i + 1 + 1)) (wide-given a e) (wide-refused b n))
+      ∙ at-place (i + 1) (omega arith) (λ xs. numberFrom (a ∷ xs)) (few (a ∷ []) (omega arith))
+      (bad-2 a b (a % 2 ^ 24) (bodyAt ws (i + 1 + 1)) (wide-given a e) (wide-refused b n))
 
   pub number-3 : a / 2 ^ 24 ≡ 0xC0 → b / 2 ^ 24 ≡ 0xC0 → (c / 2 ^ 16 ≡ 0xC000 → ⊥) → numberFrom (bodyAt ws i) ≡ refused 1
   number-3 e f n =

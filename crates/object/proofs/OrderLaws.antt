@@ -20,7 +20,8 @@ use Rattle.object.proofs.Tests.{clash}
 use Rattle.object.proofs.TextLaws.{part-1, part-2, part-3, part-long, part-other}
 
 -- the first of two lists, and two numbers that are in order as the lists are
-pub stage : (x y r s : ℕ) (p q : List ℕ) → (x < y → r < s) → (y < x → s ≤ r) → (x ≡ y → isLess (order p q) ≡ ltb r s) → isLess (order (x ∷ p) (y ∷ q)) ≡ ltb r s
+pub stage : (x y r s : ℕ) (p q : List ℕ) → (x < y → r < s) → (y < x → s ≤ r) → (x ≡ y → isLess (order p q) ≡ ltb r s)
+    → isLess (order (x ∷ p) (y ∷ q)) ≡ ltb r s
 unfolding order
 stage x y r s p q below above same = go (compare x y) refl
   where
@@ -142,7 +143,8 @@ module _ (v w : ℕ) (differ : v ≡ w → ⊥) (s t : List ℕ) where
   by-bytes (suc (suc (suc zero))) (suc (suc (suc (suc m)))) a b = absurd (omega (arith, b .few))
   by-bytes (suc zero) (suc zero) a b =
       same-1 (b0 v) (b1 v) (b2 v) 1 (b0 w) (b1 w) (b2 w) 1 (bytes-of v 1 (a .few)) (bytes-of w 1 (b .few)) s t
-      (λ p. differ (same-word v w (a .top ∙ sym (b .top)) p (pad-1 v (a .one (omega arith)) ∙ sym (pad-1 w (b .one (omega arith)))) (pad-2 v (a .two (omega arith)) ∙ sym (pad-2 w (b .two (omega arith))))))
+      (λ p. differ (same-word v w (a .top ∙ sym (b .top)) p (pad-1 v (a .one (omega arith)) ∙ sym (pad-1 w (b .one (omega arith))))
+      (pad-2 v (a .two (omega arith)) ∙ sym (pad-2 w (b .two (omega arith))))))
   by-bytes (suc zero) (suc (suc zero)) a b =
       short-1 (b0 v) (b1 v) (b2 v) 1 (b0 w) (b1 w) (b2 w) 2 (bytes-of v 1 (a .few)) (bytes-of w 2 (b .few)) s t
       (pad-1 v (a .one (omega arith))) (pad-2 v (a .two (omega arith))) (omega arith) (a .last (omega arith)) t
@@ -169,7 +171,8 @@ module _ (v w : ℕ) (differ : v ≡ w → ⊥) (s t : List ℕ) where
       (λ p q r. differ (same-word v w (a .top ∙ sym (b .top)) p q r))
 
   -- two words that differ settle the order
-  pub word-order : (n m : ℕ) → Word v n s → Word w m t → isLess (order (digitsOf 8 n v ++ s) (digitsOf 8 m w ++ t)) ≡ ltb (rankOf v) (rankOf w)
+  pub word-order : (n m : ℕ) → Word v n s → Word w m t → isLess (order (digitsOf 8 n v ++ s) (digitsOf 8 m w ++ t))
+      ≡ ltb (rankOf v) (rankOf w)
   word-order n m a b = rw (rank-bytes v n (a .few) (a .top), rank-bytes w m (b .few) (b .top)) (by-bytes n m a b)
 
 -- equal words leave it to the rest
@@ -198,12 +201,29 @@ part-of : (w : ℕ) → isGiven (textPart w) ≡ true → Part w
 part-of w g =
     by-test (eqb (w / 2 ^ 24) 0xE3)
     (λ a. let e = eqb-true (w / 2 ^ 24) 0xE3 a in
-    record { count = 3; part = part-3 w e; some = omega arith; few = omega arith; top = e; one = λ h. absurd (omega arith); two = λ h. absurd (omega arith) })
+    record {
+      count = 3;
+      part = part-3 w e;
+      some = omega arith;
+      few = omega arith;
+      top = e;
+      one = λ h. absurd (omega arith);
+      two = λ
+          h. absurd (omega arith);
+    })
     (λ a. by-test (eqb (w / 2 ^ 24) 0xE2)
     (λ b. let e = eqb-true (w / 2 ^ 24) 0xE2 b in
     by-test (ltb (w % 2 ^ 24) (2 ^ 16))
     (λ d. let h = ltb-true (w % 2 ^ 24) (2 ^ 16) d in
-    record { count = 2; part = part-2 w e h; some = omega arith; few = omega arith; top = e; one = λ h. absurd (omega arith); two = λ k. h })
+    record {
+      count = 2;
+      part = part-2 w e h;
+      some = omega arith;
+      few = omega arith;
+      top = e;
+      one = λ h. absurd (omega arith);
+      two = λ k. h;
+    })
     (λ d. clash g (ap isGiven (part-long w 2 e (omega arith) (omega arith) (ltb-false (w % 2 ^ 24) (2 ^ 16) d)))))
     (λ b. by-test (eqb (w / 2 ^ 24) 0xE1)
     (λ c. let e = eqb-true (w / 2 ^ 24) 0xE1 c in
@@ -211,7 +231,8 @@ part-of w g =
     (λ d. let h = ltb-true (w % 2 ^ 24) (2 ^ 8) d in
     record { count = 1; part = part-1 w e h; some = omega arith; few = omega arith; top = e; one = λ k. h; two = λ k. omega arith })
     (λ d. clash g (ap isGiven (part-long w 1 e (omega arith) (omega arith) (ltb-false (w % 2 ^ 24) (2 ^ 8) d)))))
-    (λ c. clash g (ap isGiven (part-other w (eqb-false (w / 2 ^ 24) 0xE3 a) (eqb-false (w / 2 ^ 24) 0xE2 b) (eqb-false (w / 2 ^ 24) 0xE1 c))))))
+    (λ c. clash g (ap isGiven (part-other w (eqb-false (w / 2 ^ 24) 0xE3 a) (eqb-false (w / 2 ^ 24) 0xE2 b)
+    (eqb-false (w / 2 ^ 24) 0xE1 c))))))
 
 word-of : (w : ℕ) (rest : List ℕ) (p : Part w) → (p .count < 3 → rest ≡ []) → Word w (p .count) rest
 word-of w rest p l = record { some = p .some; few = p .few; top = p .top; one = p .one; two = p .two; last = l }
@@ -229,7 +250,13 @@ pub split : (w : ℕ) (xs : List ℕ) → isGiven (textFrom (w ∷ xs)) ≡ true
 unfolding textFrom
 split w [] g =
     let p = part-of w g in
-    record { count = p .count; word = word-of w [] p (λ h. refl); rest = refl; bytes = ap (λ o. givenOr o []) (p .part) ∙ sym (append-nil (digitsOf 8 (p .count) w)) }
+    record {
+      count = p .count;
+      word = word-of w [] p (λ h. refl);
+      rest = refl;
+      bytes = ap (λ o. givenOr o []) (p .part)
+          ∙ sym (append-nil (digitsOf 8 (p .count) w));
+    }
 split w (x ∷ xs) g =
     let p = part-of w (given-first (textPart w) _ g) in
     go p (eqb (p .count) 3) refl (textFrom (x ∷ xs)) refl (text-cons w x xs p) g
@@ -252,13 +279,15 @@ abbrev pub bytesIn : List ℕ → List ℕ
 bytesIn xs = givenOr (textFrom xs) []
 
 -- two texts by their first words
-pub texts-differ : (v w : ℕ) (xs ys : List ℕ) → Text (v ∷ xs) → Text (w ∷ ys) → (v ≡ w → ⊥) → isLess (order (bytesIn (v ∷ xs)) (bytesIn (w ∷ ys))) ≡ ltb (rankOf v) (rankOf w)
+pub texts-differ : (v w : ℕ) (xs ys : List ℕ) → Text (v ∷ xs) → Text (w ∷ ys) → (v ≡ w → ⊥)
+    → isLess (order (bytesIn (v ∷ xs)) (bytesIn (w ∷ ys))) ≡ ltb (rankOf v) (rankOf w)
 texts-differ v w xs ys p q d =
     let a = split v xs p in
     let b = split w ys q in
     rw (a .bytes, b .bytes) (word-order v w d (bytesIn xs) (bytesIn ys) (a .count) (b .count) (a .word) (b .word))
 
-pub texts-same : (v w : ℕ) (xs ys : List ℕ) → Text (v ∷ xs) → Text (w ∷ ys) → v ≡ w → order (bytesIn (v ∷ xs)) (bytesIn (w ∷ ys)) ≡ order (bytesIn xs) (bytesIn ys)
+pub texts-same : (v w : ℕ) (xs ys : List ℕ) → Text (v ∷ xs) → Text (w ∷ ys) → v ≡ w → order (bytesIn (v ∷ xs)) (bytesIn (w ∷ ys))
+    ≡ order (bytesIn xs) (bytesIn ys)
 texts-same v w xs ys p q e =
     let a = split v xs p in
     let b = split w ys q in

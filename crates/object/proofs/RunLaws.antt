@@ -14,7 +14,8 @@ use Rattle.format.proofs.SortedLaws.{order-trans}
 use Rattle.format.specs.Tokens.{Parts, partsAt}
 use Rattle.format.specs.Utf8.{isUtf8, scalarsFrom}
 use Rattle.format.specs.Basics.{isGiven}
-use Rattle.format.specs.ObjectFile.{Block, Label, LineBlock, Relocation, ObjectFile, lineEnd, neverFall, apart, namesOf, sourceText, consistent}
+use Rattle.format.specs.ObjectFile.{Block, Label, LineBlock, Relocation, ObjectFile, lineEnd, neverFall, apart, namesOf, sourceText}
+use Rattle.format.specs.ObjectFile.{consistent}
 use Rattle.format.specs.Basics.{isSome}
 use Rattle.format.specs.Records.{Record, block, label, lineBlock, source, relocation, recordKey, placed, emptyObject, withRelocations}
 use Rattle.format.specs.Words.{isHead, recordFrom, recordsFrom, objectOf}
@@ -63,7 +64,7 @@ apart-from (l ∷ ls) = apart-cons l ls ∙ rw (leb-zero (l .first))
     leb-zero : (n : ℕ) → leb 0 n ≡ true
     leb-zero n = le-leb 0 n (omega arith)
 
--- what is left to ask of a holding, after a past
+-- what is left to ask of an object, after a past
 abbrev blocksOk : ObjectFile → Bool
 blocksOk h = every (λ b. leb (length (b .words)) 65535) (h .blocks)
 
@@ -91,7 +92,8 @@ and-right true true true true e f = refl
 
 sound-from : (h : ObjectFile) → consistent h ≡ soundFrom start h
 unfolding consistent
-sound-from h = rw (apart-from (h .lineBlocks)) (and-right (blocksOk h) (apartAll 0 (h .lineBlocks)) (linesOk h) (isEmpty (h .lineBlocks) || isSome (h .source)) (namesOk h) (textOk h))
+sound-from h = rw (apart-from (h .lineBlocks)) (and-right (blocksOk h) (apartAll 0 (h .lineBlocks)) (linesOk h)
+    (isEmpty (h .lineBlocks) || isSome (h .source)) (namesOk h) (textOk h))
 
 -- Bools of the walk and of the definition, regrouped
 of-block : (k r b e x : Bool) → ((k && r) && ((b && e) && x)) ≡ ((k && (b && true)) && (r && (e && x)))
@@ -101,7 +103,8 @@ of-block true false true e x = refl
 of-block true true false e x = refl
 of-block true true true e x = refl
 
-of-name : (k r b a n d u x t : Bool) → ((k && r) && (b && (a && (n && (d && ((u && x) && t)))))) ≡ ((k && (u && true)) && (r && (b && (a && (n && (d && (x && t)))))))
+of-name : (k r b a n d u x t : Bool) → ((k && r) && (b && (a && (n && (d && ((u && x) && t))))))
+    ≡ ((k && (u && true)) && (r && (b && (a && (n && (d && (x && t)))))))
 of-name false r b a n d u x t = refl
 of-name true r b a n d true x t = refl
 of-name true false b a n d false x t = refl
@@ -112,7 +115,8 @@ of-name true true true true true false false x t = refl
 of-name true true true true true true false x t = refl
 
 of-line : (k r b f a v n o s x : Bool)
-    → ((k && r) && (b && ((f && a) && ((v && n) && (((o && false) || s) && x))))) ≡ ((k && (v && f)) && (r && (b && (a && (n && ((false || s) && x))))))
+    → ((k && r) && (b && ((f && a) && ((v && n) && (((o && false) || s) && x)))))
+    ≡ ((k && (v && f)) && (r && (b && (a && (n && ((false || s) && x))))))
 of-line false r b f a v n o s x = refl
 of-line true false b true a true n o s x = refl
 of-line true false b true a false n o s x = refl
@@ -129,7 +133,8 @@ of-line true true true true false false n o s x = refl
 of-line true true true true true false n o s x = refl
 
 of-source : (k b a n l o u t : Bool)
-    → ((k && true) && (b && (a && (n && ((l || (o || true)) && (u && t)))))) ≡ ((k && (t && true)) && (true && (b && (a && (n && ((l || (true || false)) && (u && true)))))))
+    → ((k && true) && (b && (a && (n && ((l || (o || true)) && (u && t))))))
+    ≡ ((k && (t && true)) && (true && (b && (a && (n && ((l || (true || false)) && (u && true)))))))
 of-source false b a n l o u t = refl
 of-source true false a n l o u true = refl
 of-source true false a n l o u false = refl
@@ -182,7 +187,8 @@ no-source k (r ∷ rs) h e = go r (λ q. no-source (recordKey q) rs) (and-left (
         (λ t. clash (ap isLess (order-trans k (recordKey q) (3 ∷ []) (is-lt _ a) (is-lt _ t))) h)
         (λ t. t)
 
-    go : (q : Record) → ((q : Record) → isLess (order (recordKey q) (3 ∷ [])) ≡ false → risesFrom (recordKey q) rs ≡ true → placed rs .source ≡ none)
+    go : (q : Record) → ((q : Record) → isLess (order (recordKey q) (3 ∷ [])) ≡ false → risesFrom (recordKey q) rs ≡ true
+        → placed rs .source ≡ none)
         → (isLess (order k (recordKey q)) ≡ true) × (risesFrom (recordKey q) rs ≡ true) → placed (q ∷ rs) .source ≡ none
     go (block b) ih w = ih (block b) (later (block b) (w .0)) (w .1)
     go (label l) ih w = ih (label l) (later (label l) (w .0)) (w .1)
@@ -199,7 +205,8 @@ every-append t (x ∷ xs) ys = rw (every-append t xs ys) (assoc (t x) (every t x
     assoc true b c = refl
     assoc false b c = refl
 
-names-split : (h : ObjectFile) → every isUtf8 (namesOf h) ≡ (every isUtf8 (map (λ l. l .name) (h .labels)) && every isUtf8 (map (λ r. r .name) (h .relocations)))
+names-split : (h : ObjectFile) → every isUtf8 (namesOf h) ≡ (every isUtf8 (map (λ l. l .name) (h .labels)) && every isUtf8
+    (map (λ r. r .name) (h .relocations)))
 unfolding namesOf
 names-split h = every-append isUtf8 (map (λ l. l .name) (h .labels)) (map (λ r. r .name) (h .relocations))
 
@@ -233,13 +240,15 @@ agrees p (block b ∷ rs) =
 agrees p (label l ∷ rs) =
     let h = placed rs in
     let r = label l in
-    of-name (isLess (order (p .key) (recordKey r))) (risesFrom (recordKey r) rs) (blocksOk h) (apartAll (p .end) (h .lineBlocks)) (linesOk h) (sourceOk p h)
+    of-name (isLess (order (p .key) (recordKey r))) (risesFrom (recordKey r) rs) (blocksOk h) (apartAll (p .end) (h .lineBlocks))
+    (linesOk h) (sourceOk p h)
     (soundRecord r) (namesOk h) (textOk h)
     ∙ ap (λ t. fits p r && t) (agrees (after p r) rs)
 agrees p (lineBlock l ∷ rs) =
     let h = placed rs in
     let r = lineBlock l in
-    of-line (isLess (order (p .key) (recordKey r))) (risesFrom (recordKey r) rs) (blocksOk h) (leb (p .end) (l .first)) (apartAll (lineEnd l) (h .lineBlocks))
+    of-line (isLess (order (p .key) (recordKey r))) (risesFrom (recordKey r) rs) (blocksOk h) (leb (p .end) (l .first))
+    (apartAll (lineEnd l) (h .lineBlocks))
     (soundRecord r) (linesOk h) (not (p .lined)) (p .sourced || isSome (h .source)) (namesOk h && textOk h)
     ∙ ap (λ t. fits p r && t) (agrees (after p r) rs)
 agrees p (source s ∷ rs) =
@@ -252,7 +261,8 @@ agrees p (source s ∷ rs) =
     ap (λ t. (k && t) && soundFrom p (placed (r ∷ rs))) e
     ∙ of-source k (blocksOk h) (apartAll (p .end) (h .lineBlocks)) (linesOk h) l (p .sourced) (namesOk h) (isUtf8 s)
     ∙ ap (λ t. fits p r && t) (sym (ap (λ t. t && soundFrom (after p r) h) e
-    ∙ ap (λ (o : Option (List ℕ)). true && (blocksOk h && (apartAll (p .end) (h .lineBlocks) && (linesOk h && ((l || (true || isSome o)) && (namesOk h && isUtf8 (sourceText o))))))) n))
+    ∙ ap (λ (o : Option (List ℕ)). true && (blocksOk h && (apartAll (p .end) (h .lineBlocks) &&
+    (linesOk h && ((l || (true || isSome o)) && (namesOk h && isUtf8 (sourceText o))))))) n))
     ∙ ap (λ t. fits p r && t) (agrees (after p r) rs))
     (λ e. ap (λ t. (k && t) && soundFrom p (placed (r ∷ rs))) e
     ∙ of-fallen k (isUtf8 s) (soundFrom p (placed (r ∷ rs)))
@@ -262,7 +272,8 @@ agrees p (relocation q ∷ rs) =
     let h = placed rs in
     let r = relocation q in
     let k = isLess (order (p .key) (recordKey r)) in
-    ap (λ t. (k && risesFrom (recordKey r) rs) && (blocksOk h && (apartAll (p .end) (h .lineBlocks) && (linesOk h && (sourceOk p h && (t && textOk h)))))) (names-more h q)
+    ap (λ t. (k && risesFrom (recordKey r) rs) && (blocksOk h &&
+    (apartAll (p .end) (h .lineBlocks) && (linesOk h && (sourceOk p h && (t && textOk h)))))) (names-more h q)
     ∙ of-name k (risesFrom (recordKey r) rs) (blocksOk h) (apartAll (p .end) (h .lineBlocks)) (linesOk h) (sourceOk p h)
     (soundRecord r) (namesOk h) (textOk h)
     ∙ ap (λ t. fits p r && t) (agrees (after p r) rs)
@@ -280,7 +291,8 @@ groups-agree p (g ∷ gs) = go (recordFrom g) (λ r. groups-agree (after p r) gs
     front true o f = refl
     front false o f = none-pass o
 
-    lift : (o : Outcome (List Record)) (r : Record) → allows (o >>= λ rs. given (r ∷ rs)) (along p) ≡ allows o (λ rs. fits p r && along (after p r) rs)
+    lift : (o : Outcome (List Record)) (r : Record) → allows (o >>= λ rs. given (r ∷ rs)) (along p)
+        ≡ allows o (λ rs. fits p r && along (after p r) rs)
     lift (refused n) r = refl
     lift (given rs) r = refl
 
@@ -292,19 +304,22 @@ groups-agree p (g ∷ gs) = go (recordFrom g) (λ r. groups-agree (after p r) gs
 -- THE BRIDGE: an object is well formed where its first word is a head and the walk passes
 pub walk-agrees : (ws : List ℕ) → isGiven (objectOf ws) ≡ (isEmpty (partsAt isHead ws .before) && walk start (partsAt isHead ws .groups))
 unfolding objectOf
-walk-agrees ws = first (isEmpty (partsAt isHead ws .before)) ∙ ap (λ t. isEmpty (partsAt isHead ws .before) && t) (groups-agree start (partsAt isHead ws .groups))
+walk-agrees ws = first (isEmpty (partsAt isHead ws .before)) ∙ ap (λ t. isEmpty (partsAt isHead ws .before) && t)
+    (groups-agree start (partsAt isHead ws .groups))
   where
     last : (a b : Bool) (h : ObjectFile) → isGiven (ask 1 a >>= λ _. ask 1 b >>= λ _. given h) ≡ (a && b)
     last true true h = refl
     last true false h = refl
     last false b h = refl
 
-    then : (o : Outcome (List Record)) → isGiven (o >>= λ rs. ask 1 (rises recordKey rs) >>= λ _. ask 1 (consistent (placed rs)) >>= λ _. given (placed rs)) ≡ allows o (along start)
+    then : (o : Outcome (List Record)) → isGiven (o >>= λ rs. ask 1 (rises recordKey rs) >>= λ _. ask 1 (consistent (placed rs)) >>= λ
+        _. given (placed rs)) ≡ allows o (along start)
     then (refused n) = refl
     then (given rs) = last (rises recordKey rs) (consistent (placed rs)) (placed rs) ∙ records-agree rs
 
     first : (t : Bool)
-        → isGiven (ask 1 t >>= λ _. recordsFrom (partsAt isHead ws .groups) >>= λ rs. ask 1 (rises recordKey rs) >>= λ _. ask 1 (consistent (placed rs)) >>= λ _. given (placed rs))
+        → isGiven (ask 1 t >>= λ _. recordsFrom (partsAt isHead ws .groups) >>= λ rs. ask 1 (rises recordKey rs) >>= λ _. ask 1
+        (consistent (placed rs)) >>= λ _. given (placed rs))
         ≡ (t && allows (recordsFrom (partsAt isHead ws .groups)) (along start))
     first true = then (recordsFrom (partsAt isHead ws .groups))
     first false = refl

@@ -75,12 +75,14 @@ module _ (g : ℕ × List ℕ) (p : Past) where
     near h = ap (λ o. allows o (fits p)) e ∙ and-last (isLess (order (p .key) (recordKey r))) (soundRecord r) (apartFrom (p .end) r) h
 
   -- a body that is not as it should be: not read, or not sound
-  pub bad-body : {A : Type 0} (o : Outcome A) (q : A → Bool) (make : A → Record) → ((a : A) → soundRecord (make a) ≡ q a) → recordFrom g ≡ (o >>= λ a. given (make a))
+  pub bad-body : {A : Type 0} (o : Outcome A) (q : A → Bool) (make : A → Record) → ((a : A) → soundRecord (make a) ≡ q a) → recordFrom g
+      ≡ (o >>= λ a. given (make a))
       → allows o q ≡ false → Refused
   bad-body (refused n) q make s e h = not-read e
   bad-body (given a) q make s e h = unsound (make a) e (s a ∙ h)
 
-pub fitting : (p : Past) (r : Record) → isLess (order (p .key) (recordKey r)) ≡ true → soundRecord r ≡ true → apartFrom (p .end) r ≡ true → fits p r ≡ true
+pub fitting : (p : Past) (r : Record) → isLess (order (p .key) (recordKey r)) ≡ true → soundRecord r ≡ true → apartFrom (p .end) r ≡ true
+    → fits p r ≡ true
 unfolding fits
 fitting p r a b c = and-3 (isLess (order (p .key) (recordKey r))) (soundRecord r) (apartFrom (p .end) r) a b c
 
@@ -98,56 +100,109 @@ module _ (w : ℕ) (xs : List ℕ) where
   module _ (k : w / 2 ^ 29 ≡ 2) where
     pub label-head : (w / 2 ^ 17 ≡ 0x2000 → ⊥) → recordFrom (w, xs) ≡ refused 1
     unfolding recordFrom
-    label-head n = simp (ne-eqb (w / 2 ^ 29) 0 (λ z. omega arith), eq-eqb (w / 2 ^ 29) 2 k, bits-refused 2 (2 ^ 17) w (λ p q. n (omega arith)))
+    label-head n = simp (
+      ne-eqb (w / 2 ^ 29) 0 (λ z. omega arith),
+      eq-eqb (w / 2 ^ 29) 2 k,
+      bits-refused 2 (2 ^ 17) w (λ p q. n (omega arith)),
+    )
 
     pub label-number : w / 2 ^ 17 ≡ 0x2000 → numberFrom xs ≡ refused 1 → recordFrom (w, xs) ≡ refused 1
     unfolding recordFrom
     label-number e n = simp (ne-eqb (w / 2 ^ 29) 0 (λ z. omega arith), eq-eqb (w / 2 ^ 29) 2 k, bits-given 2 (2 ^ 17) w k (omega arith), n)
 
     pub label-read : (v : ℕ) (ys : List ℕ) → w / 2 ^ 17 ≡ 0x2000 → numberFrom xs ≡ given (v, ys)
-        → recordFrom (w, xs) ≡ (textFrom ys >>= λ t. given (label (record { name = t; address = w % 2 ^ 29 % 2 ^ 16; external = leb (2 ^ 16) (w % 2 ^ 29); start = v })))
+        → recordFrom (w, xs) ≡ (textFrom ys >>= λ t. given (label
+        (record { name = t; address = w % 2 ^ 29 % 2 ^ 16; external = leb (2 ^ 16) (w % 2 ^ 29); start = v })))
     unfolding recordFrom
-    label-read v ys e n = simp (ne-eqb (w / 2 ^ 29) 0 (λ z. omega arith), eq-eqb (w / 2 ^ 29) 2 k, bits-given 2 (2 ^ 17) w k (omega arith), n)
+    label-read v ys e n = simp (
+      ne-eqb (w / 2 ^ 29) 0 (λ z. omega arith),
+      eq-eqb (w / 2 ^ 29) 2 k,
+      bits-given 2 (2 ^ 17) w k (omega arith),
+      n,
+    )
 
   module _ (k : w / 2 ^ 29 ≡ 3) where
     pub line-head : (w ≡ 0x6000_0000 → ⊥) → recordFrom (w, xs) ≡ refused 1
     unfolding recordFrom
     line-head n =
-        simp (ne-eqb (w / 2 ^ 29) 0 (λ z. omega arith), ne-eqb (w / 2 ^ 29) 2 (λ z. omega arith), eq-eqb (w / 2 ^ 29) 3 k, bits-refused 3 1 w (λ p q. n (omega arith)))
+        simp (
+          ne-eqb (w / 2 ^ 29) 0 (λ z. omega arith),
+          ne-eqb (w / 2 ^ 29) 2 (λ z. omega arith),
+          eq-eqb (w / 2 ^ 29) 3 k,
+          bits-refused 3 1 w (λ p q. n (omega arith)),
+        )
 
     pub line-number : w ≡ 0x6000_0000 → numberFrom xs ≡ refused 1 → recordFrom (w, xs) ≡ refused 1
     unfolding recordFrom
     line-number e n =
-        simp (ne-eqb (w / 2 ^ 29) 0 (λ z. omega arith), ne-eqb (w / 2 ^ 29) 2 (λ z. omega arith), eq-eqb (w / 2 ^ 29) 3 k, bits-given 3 1 w k (omega arith), n)
+        simp (
+          ne-eqb (w / 2 ^ 29) 0 (λ z. omega arith),
+          ne-eqb (w / 2 ^ 29) 2 (λ z. omega arith),
+          eq-eqb (w / 2 ^ 29) 3 k,
+          bits-given 3 1 w k (omega arith),
+          n,
+        )
 
     pub line-read : (v : ℕ) (ys : List ℕ) → w ≡ 0x6000_0000 → numberFrom xs ≡ given (v, ys)
         → recordFrom (w, xs) ≡ (addressesOf ys >>= λ ns. given (lineBlock (record { first = v; addresses = ns })))
     unfolding recordFrom
     line-read v ys e n =
-        simp (ne-eqb (w / 2 ^ 29) 0 (λ z. omega arith), ne-eqb (w / 2 ^ 29) 2 (λ z. omega arith), eq-eqb (w / 2 ^ 29) 3 k, bits-given 3 1 w k (omega arith), n)
+        simp (
+          ne-eqb (w / 2 ^ 29) 0 (λ z. omega arith),
+          ne-eqb (w / 2 ^ 29) 2 (λ z. omega arith),
+          eq-eqb (w / 2 ^ 29) 3 k,
+          bits-given 3 1 w k (omega arith),
+          n,
+        )
 
   module _ (k : w / 2 ^ 29 ≡ 4) where
     pub source-head : (w ≡ 0x8000_0000 → ⊥) → recordFrom (w, xs) ≡ refused 1
     unfolding recordFrom
     source-head n =
-        simp (ne-eqb (w / 2 ^ 29) 0 (λ z. omega arith), ne-eqb (w / 2 ^ 29) 2 (λ z. omega arith), ne-eqb (w / 2 ^ 29) 3 (λ z. omega arith), eq-eqb (w / 2 ^ 29) 4 k, bits-refused 4 1 w (λ p q. n (omega arith)))
+        simp (
+          ne-eqb (w / 2 ^ 29) 0 (λ z. omega arith),
+          ne-eqb (w / 2 ^ 29) 2 (λ z. omega arith),
+          ne-eqb (w / 2 ^ 29) 3 (λ z. omega arith),
+          eq-eqb (w / 2 ^ 29) 4 k,
+          bits-refused 4 1 w (λ p q. n (omega arith)),
+        )
 
     pub source-read : w ≡ 0x8000_0000 → recordFrom (w, xs) ≡ (textFrom xs >>= λ t. given (source t))
     unfolding recordFrom
     source-read e =
-        simp (ne-eqb (w / 2 ^ 29) 0 (λ z. omega arith), ne-eqb (w / 2 ^ 29) 2 (λ z. omega arith), ne-eqb (w / 2 ^ 29) 3 (λ z. omega arith), eq-eqb (w / 2 ^ 29) 4 k, bits-given 4 1 w k (omega arith))
+        simp (
+          ne-eqb (w / 2 ^ 29) 0 (λ z. omega arith),
+          ne-eqb (w / 2 ^ 29) 2 (λ z. omega arith),
+          ne-eqb (w / 2 ^ 29) 3 (λ z. omega arith),
+          eq-eqb (w / 2 ^ 29) 4 k,
+          bits-given 4 1 w k (omega arith),
+        )
 
   module _ (k : w / 2 ^ 29 ≡ 5) where
     pub relocation-head : (w / 2 ^ 16 ≡ 0xA000 → ⊥) → recordFrom (w, xs) ≡ refused 1
     unfolding recordFrom
     relocation-head n =
-        simp (ne-eqb (w / 2 ^ 29) 0 (λ z. omega arith), ne-eqb (w / 2 ^ 29) 2 (λ z. omega arith), ne-eqb (w / 2 ^ 29) 3 (λ z. omega arith), ne-eqb (w / 2 ^ 29) 4 (λ z. omega arith), bits-refused 5 (2 ^ 16) w (λ p q. n (omega arith)))
+        simp (
+          ne-eqb (w / 2 ^ 29) 0 (λ z. omega arith),
+          ne-eqb (w / 2 ^ 29) 2 (λ z. omega arith),
+          ne-eqb (w / 2 ^ 29) 3 (λ z. omega arith),
+          ne-eqb (w / 2 ^ 29) 4 (λ z. omega arith),
+          bits-refused 5 (2 ^ 16) w (λ p q. n (omega arith)),
+        )
 
-    pub relocation-read : w / 2 ^ 16 ≡ 0xA000 → recordFrom (w, xs) ≡ (textFrom xs >>= λ t. given (relocation (record { address = w % 2 ^ 16; name = t })))
+    pub relocation-read : w / 2 ^ 16 ≡ 0xA000 → recordFrom (w, xs)
+        ≡ (textFrom xs >>= λ t. given (relocation (record { address = w % 2 ^ 16; name = t })))
     unfolding recordFrom
     relocation-read e =
         let v : w % 2 ^ 29 ≡ w % 2 ^ 16 = omega arith in
-        simp (ne-eqb (w / 2 ^ 29) 0 (λ z. omega arith), ne-eqb (w / 2 ^ 29) 2 (λ z. omega arith), ne-eqb (w / 2 ^ 29) 3 (λ z. omega arith), ne-eqb (w / 2 ^ 29) 4 (λ z. omega arith), bits-given 5 (2 ^ 16) w k (omega arith), v)
+        simp (
+          ne-eqb (w / 2 ^ 29) 0 (λ z. omega arith),
+          ne-eqb (w / 2 ^ 29) 2 (λ z. omega arith),
+          ne-eqb (w / 2 ^ 29) 3 (λ z. omega arith),
+          ne-eqb (w / 2 ^ 29) 4 (λ z. omega arith),
+          bits-given 5 (2 ^ 16) w k (omega arith),
+          v,
+        )
 
 -- how long the parts are
 pub memories-length : (xs : List ℕ) (ms : List (Option ℕ)) → memoriesOf xs ≡ given ms → length ms ≡ length xs

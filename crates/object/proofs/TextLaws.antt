@@ -72,7 +72,8 @@ module _ (w : ℕ) where
       by-test (eqb (w / 2 ^ 29) 7)
       (λ a. let k = eqb-true (w / 2 ^ 29) 7 a in
       by-test (ltb (w % 2 ^ 29) (2 ^ 26))
-      (λ b. let l = ltb-true (w % 2 ^ 29) (2 ^ 26) b in let z : w % 2 ^ 29 / 2 ^ 24 ≡ 0 = omega arith in simp (bits-given 7 (2 ^ 26) w k l, z))
+      (λ b. let l = ltb-true (w % 2 ^ 29) (2 ^ 26) b in let z : w % 2 ^ 29 / 2 ^ 24
+      ≡ 0 = omega arith in simp (bits-given 7 (2 ^ 26) w k l, z))
       (λ b. let l = ltb-false (w % 2 ^ 29) (2 ^ 26) b in rw (bits-refused 7 (2 ^ 26) w (λ p q. omega arith))))
       (λ a. let m = eqb-false (w / 2 ^ 29) 7 a in rw (bits-refused 7 (2 ^ 26) w (λ p q. m p)))
 
@@ -106,7 +107,8 @@ text-agrees u [] = refl
 text-agrees u (w ∷ []) = refl
 text-agrees u (w ∷ v ∷ ws) = go (textPart w) (λ bs. text-agrees (run u bs) (v ∷ ws))
   where
-    later : (bs : List ℕ) (o : Outcome (List ℕ)) → allows o (λ t. eqb (run (run u bs) t .need) 0) ≡ allows (o >>= λ cs. given (bs ++ cs)) (λ t. eqb (run u t .need) 0)
+    later : (bs : List ℕ) (o : Outcome (List ℕ)) → allows o (λ t. eqb (run (run u bs) t .need) 0)
+        ≡ allows (o >>= λ cs. given (bs ++ cs)) (λ t. eqb (run u t .need) 0)
     later bs (refused n) = refl
     later bs (given cs) = ap (λ (s : Utf8). eqb (s .need) 0) (sym (run-append u bs cs))
 
@@ -115,7 +117,8 @@ text-agrees u (w ∷ v ∷ ws) = go (textPart w) (λ bs. text-agrees (run u bs) 
     full bs true ih = ih ∙ later bs (textFrom (v ∷ ws))
     full bs false ih = refl
 
-    go : (o : Outcome (List ℕ)) → ((bs : List ℕ) → textOn (run u bs) true (v ∷ ws) ≡ allows (textFrom (v ∷ ws)) (λ t. eqb (run (run u bs) t .need) 0))
+    go : (o : Outcome (List ℕ)) → ((bs : List ℕ) → textOn (run u bs) true (v ∷ ws)
+        ≡ allows (textFrom (v ∷ ws)) (λ t. eqb (run (run u bs) t .need) 0))
         → allows o (λ bs. textOn (run u bs) (eqb (length bs) 3) (v ∷ ws))
         ≡ allows (o >>= λ bs. ask 1 (eqb (length bs) 3) >>= λ _. textFrom (v ∷ ws) >>= λ cs. given (bs ++ cs)) (λ t. eqb (run u t .need) 0)
     go (refused n) ih = refl
@@ -142,6 +145,7 @@ module _ (u : Utf8) (w : ℕ) (ws : List ℕ) where
   unfolding textOn
   text-bad full e p = rw (e, p)
 
-  pub text-next : (full : Bool) (n : ℕ) → full ≡ true → textPart w ≡ given (digitsOf 8 n w) → textOn u full (w ∷ ws) ≡ textOn (run u (digitsOf 8 n w)) (eqb n 3) ws
+  pub text-next : (full : Bool) (n : ℕ) → full ≡ true → textPart w ≡ given (digitsOf 8 n w) → textOn u full (w ∷ ws)
+      ≡ textOn (run u (digitsOf 8 n w)) (eqb n 3) ws
   unfolding textOn
   text-next full n e p = rw (e, p, digits-length 8 n w)

@@ -34,7 +34,8 @@ module _ (ws : List ℕ) (at : ℕ) (s : Seen) (h : at < length ws) (e : bodyAt 
   unfolding walk
   walk-stop r = ap (walk (pastIn ws s)) here ∙ go (recordFrom (groupAt ws at)) r
     where
-      go : (o : Outcome Record) → allows o (fits (pastIn ws s)) ≡ false → allows o (λ q. fits (pastIn ws s) q && walk (after (pastIn ws s) q) (groupsAt ws (at + 1))) ≡ false
+      go : (o : Outcome Record) → allows o (fits (pastIn ws s)) ≡ false
+          → allows o (λ q. fits (pastIn ws s) q && walk (after (pastIn ws s) q) (groupsAt ws (at + 1))) ≡ false
       go (refused n) r = refl
       go (given q) r = ap (λ b. b && walk (after (pastIn ws s) q) (groupsAt ws (at + 1))) r
 
@@ -44,8 +45,10 @@ module _ (ws : List ℕ) (at : ℕ) (s : Seen) (h : at < length ws) (e : bodyAt 
     walk-on =
         let p = pastIn ws s in
         let gs = groupsAt ws (at + 1) in
-        sym (ap (walk p) here ∙ ap (λ o. allows o (λ q. fits p q && walk (after p q) gs)) (a .reading) ∙ ap (λ b. b && walk (after p (a .read)) gs) (a .fitting)
-        ∙ ap (λ q. walk q gs) (sym (a .past)) ∙ ap (walk (pastIn ws t)) (sym (after-groups ws (at + 1)) ∙ ap (groupsAt ws) (sym (a .place))))
+        sym (ap (walk p) here ∙ ap (λ o. allows o (λ q. fits p q && walk (after p q) gs)) (a .reading)
+        ∙ ap (λ b. b && walk (after p (a .read)) gs) (a .fitting)
+        ∙ ap (λ q. walk q gs) (sym (a .past)) ∙ ap (walk (pastIn ws t))
+        (sym (after-groups ws (at + 1)) ∙ ap (groupsAt ws) (sym (a .place))))
 
     pub body-on : bodyAt ws n ≡ []
     body-on = ap (bodyAt ws) (a .place) ∙ after-body ws (at + 1)

@@ -30,11 +30,18 @@ head-other w ne = go (w / 2 ^ 29) ne
     go : (k : ℕ) → (k ≡ 1 → ⊥) → ltb k 6 ≡ (eqb k 0 || isBetween 2 5 k)
     go k ne =
         by-test (ltb k 6)
-        (λ e. let h : k < 6 = ltb-true k 6 e in by-test (eqb k 0) (λ z. simp (e, z)) (λ z. let nz = eqb-false k 0 z in simp (e, z, le-leb 2 k (omega arith), le-leb k 5 (omega arith))))
-        (λ e. let h : 6 ≤ k = ltb-false k 6 e in simp (e, ne-eqb k 0 (λ z. omega arith), le-leb 2 k (omega arith), lt-leb k 5 (omega arith)))
+        (λ e. let h : k < 6 = ltb-true k 6 e in by-test (eqb k 0) (λ z. simp (e, z))
+        (λ z. let nz = eqb-false k 0 z in simp (e, z, le-leb 2 k (omega arith), le-leb k 5 (omega arith))))
+        (λ e. let h : 6 ≤ k = ltb-false k 6 e in simp (
+          e,
+          ne-eqb k 0 (λ z. omega arith),
+          le-leb 2 k (omega arith),
+          lt-leb k 5 (omega arith),
+        ))
 
 -- a head of none of the other kinds is a relocation
-pub head-kind : (w : ℕ) → isHead w ≡ true → (w / 2 ^ 29 ≡ 0 → ⊥) → (w / 2 ^ 29 ≡ 2 → ⊥) → (w / 2 ^ 29 ≡ 3 → ⊥) → (w / 2 ^ 29 ≡ 4 → ⊥) → w / 2 ^ 29 ≡ 5
+pub head-kind : (w : ℕ) → isHead w ≡ true → (w / 2 ^ 29 ≡ 0 → ⊥) → (w / 2 ^ 29 ≡ 2 → ⊥) → (w / 2 ^ 29 ≡ 3 → ⊥) → (w / 2 ^ 29 ≡ 4 → ⊥)
+    → w / 2 ^ 29 ≡ 5
 head-kind w h n0 n2 n3 n4 =
     by-test (eqb (w / 2 ^ 29) 1)
     (λ t. clash h (sym (head-one w (eqb-true (w / 2 ^ 29) 1 t))))
@@ -49,7 +56,8 @@ module _ (kind limit w : ℕ) where
   unfolding bitsOf
   bits-refused n =
       by-test (eqb (w / 2 ^ 29) kind)
-      (λ a. by-test (ltb (w % 2 ^ 29) limit) (λ b. absurd (n (eqb-true (w / 2 ^ 29) kind a) (ltb-true (w % 2 ^ 29) limit b))) (λ b. simp (a, b)))
+      (λ a. by-test (ltb (w % 2 ^ 29) limit) (λ b. absurd (n (eqb-true (w / 2 ^ 29) kind a) (ltb-true (w % 2 ^ 29) limit b)))
+      (λ b. simp (a, b)))
       (λ a. simp a)
 
 -- memory words
@@ -59,7 +67,11 @@ memory-none w e = rw e
 
 pub memory-some : (w : ℕ) → w / 2 ^ 16 ≡ 0x2001 → isGiven (memoryOf w) ≡ true
 unfolding memoryOf
-memory-some w e = simp (bits-given 1 (2 ^ 17) w (omega arith) (omega arith), ne-eqb (w % 2 ^ 29) 0 (λ z. omega arith), le-leb (2 ^ 16) (w % 2 ^ 29) (omega arith))
+memory-some w e = simp (
+  bits-given 1 (2 ^ 17) w (omega arith) (omega arith),
+  ne-eqb (w % 2 ^ 29) 0 (λ z. omega arith),
+  le-leb (2 ^ 16) (w % 2 ^ 29) (omega arith),
+)
 
 pub memory-bad : (w : ℕ) → (w ≡ 0x2000_0000 → ⊥) → (w / 2 ^ 16 ≡ 0x2001 → ⊥) → isGiven (memoryOf w) ≡ false
 unfolding memoryOf
@@ -73,7 +85,8 @@ memory-bad w nz ns =
     (λ a. let n = eqb-false (w / 2 ^ 29) 1 a in rw (bits-refused 1 (2 ^ 17) w (λ p q. n p)))
   where
     below : w % 2 ^ 29 < 2 ^ 17 → w / 2 ^ 29 ≡ 1 → w % 2 ^ 29 < 2 ^ 16
-    below l k = by-test (ltb (w % 2 ^ 29) (2 ^ 16)) (λ t. ltb-true (w % 2 ^ 29) (2 ^ 16) t) (λ t. let g = ltb-false (w % 2 ^ 29) (2 ^ 16) t in absurd (ns (omega arith)))
+    below l k = by-test (ltb (w % 2 ^ 29) (2 ^ 16)) (λ t. ltb-true (w % 2 ^ 29) (2 ^ 16) t)
+        (λ t. let g = ltb-false (w % 2 ^ 29) (2 ^ 16) t in absurd (ns (omega arith)))
 
 pub memory-other : (w : ℕ) → (w ≡ 0x2000_0000 → ⊥) → eqb (w / 2 ^ 16) 0x2001 ≡ isGiven (memoryOf w)
 memory-other w nz =
@@ -85,7 +98,8 @@ pub memory-cons : (w : ℕ) (ws : List ℕ) → goodMemory (w ∷ ws) ≡ (isGiv
 unfolding goodMemory memoriesOf
 memory-cons w ws = go (memoryOf w) (memoriesOf ws)
   where
-    go : (o : Outcome (Option ℕ)) (p : Outcome (List (Option ℕ))) → isGiven (o >>= λ m. p >>= λ ms. given (m ∷ ms)) ≡ (isGiven o && isGiven p)
+    go : (o : Outcome (Option ℕ)) (p : Outcome (List (Option ℕ))) → isGiven (o >>= λ m. p >>= λ ms. given (m ∷ ms))
+        ≡ (isGiven o && isGiven p)
     go (refused n) p = refl
     go (given m) (refused n) = refl
     go (given m) (given ms) = refl
@@ -108,7 +122,8 @@ unfolding addressesOf chain
 addresses-end last = refl
 
 module _ (last w : ℕ) (ws : List ℕ) where
-  address : w / 2 ^ 16 ≡ 0x2001 → (o : Outcome (List ℕ)) → addressesOf ws ≡ o → addressesOf (w ∷ ws) ≡ (o >>= λ xs. given ((w % 2 ^ 16) ∷ xs))
+  address : w / 2 ^ 16 ≡ 0x2001 → (o : Outcome (List ℕ)) → addressesOf ws ≡ o → addressesOf (w ∷ ws)
+      ≡ (o >>= λ xs. given ((w % 2 ^ 16) ∷ xs))
   unfolding addressesOf
   address e o q =
       let v : w % 2 ^ 29 - 2 ^ 16 ≡ w % 2 ^ 16 = omega arith in
@@ -125,7 +140,8 @@ module _ (last w : ℕ) (ws : List ℕ) where
       (λ a. let m = eqb-false (w / 2 ^ 29) 1 a in rw (bits-refused 1 (2 ^ 17) w (λ p q. m p)))
     where
       below : w % 2 ^ 29 < 2 ^ 17 → w / 2 ^ 29 ≡ 1 → w % 2 ^ 29 < 2 ^ 16
-      below l k = by-test (ltb (w % 2 ^ 29) (2 ^ 16)) (λ t. ltb-true (w % 2 ^ 29) (2 ^ 16) t) (λ t. let g = ltb-false (w % 2 ^ 29) (2 ^ 16) t in absurd (n (omega arith)))
+      below l k = by-test (ltb (w % 2 ^ 29) (2 ^ 16)) (λ t. ltb-true (w % 2 ^ 29) (2 ^ 16) t)
+          (λ t. let g = ltb-false (w % 2 ^ 29) (2 ^ 16) t in absurd (n (omega arith)))
 
   pub address-falls : w / 2 ^ 16 ≡ 0x2001 → w % 2 ^ 16 < last → addressesOn last (w ∷ ws) ≡ false
   unfolding chain
@@ -139,6 +155,7 @@ module _ (last w : ℕ) (ws : List ℕ) where
   unfolding chain
   address-next e h = ap (λ o. allows o (λ xs. neverFall (last ∷ xs))) (address e (addressesOf ws) refl) ∙ go (addressesOf ws)
     where
-      go : (o : Outcome (List ℕ)) → allows (o >>= λ xs. given ((w % 2 ^ 16) ∷ xs)) (λ xs. neverFall (last ∷ xs)) ≡ allows o (λ xs. neverFall ((w % 2 ^ 16) ∷ xs))
+      go : (o : Outcome (List ℕ)) → allows (o >>= λ xs. given ((w % 2 ^ 16) ∷ xs)) (λ xs. neverFall (last ∷ xs))
+          ≡ allows o (λ xs. neverFall ((w % 2 ^ 16) ∷ xs))
       go (refused n) = refl
       go (given xs) = rw (le-leb last (w % 2 ^ 16) h)

@@ -1,18 +1,19 @@
-// An object is a slice of 32-bit words that hold a program (document 01, "The holding"): whether it is well formed, and where its records and their parts stand.
+// An object is a slice of 32-bit words (document 01, "The holding"): whether it is well formed, and access to its records, numbers
+// and texts.
 ghost use mathlib.Core.Path.{_≡_};
 ghost use mathlib.Core.Bool.{true, not};
 ghost use Prim.Native.Nat.{_+_, _/_, _^_, _≤_, _<_};
 ghost use lib.ListN.{length, getD};
 ghost use lib.Dec.{leb};
-ghost use Rattle.format.specs.Basics.{isEmpty};
+ghost use Rattle.format.specs.Basics.{isEmpty, isGiven};
 ghost use Rattle.format.specs.Digits.{digitsOf};
 ghost use Rattle.format.specs.Sorted.{order, isLess};
-ghost use Rattle.format.specs.Basics.{isGiven};
-ghost use Rattle.format.specs.Words.{isHead, objectOf, memoryOf, textFrom, textPart};
+ghost use Rattle.format.specs.Words.{isHead, memoryOf, textPart};
 ghost use Rattle.writing.specs.Written.{Put};
 ghost use Rattle.utf8.specs.Utf8.{run};
 ghost use Rattle.format.specs.Calls.{checked};
-ghost use Rattle.object.specs.Bodies.{bodyAt, counted, goodMemory, goodText, goodAddresses, textAt, Text, rankOf, numberAt, Numbered, Walked};
+ghost use Rattle.object.specs.Bodies.{bodyAt, counted, goodMemory, goodText, goodAddresses, textAt, Text, rankOf, numberAt, Numbered};
+ghost use Rattle.object.specs.Bodies.{Walked};
 ghost use Rattle.object.specs.Texts.{textLen, textByte, textBytes};
 ghost use Rattle.object.specs.Steps.{keyIn, Known, At, Stepped};
 use utf8::Utf8;

@@ -72,7 +72,8 @@ module _ (ws : List ℕ) (at : ℕ) (rs : List Record) where
   unfolding recordAt placed
   source-other n =
       by-test (eqb k 0) (λ t. simp t)
-      (λ t. by-test (eqb k 2) (λ t2. simp (t, t2)) (λ t2. by-test (eqb k 3) (λ t3. simp (t, t2, t3)) (λ t3. simp (t, t2, t3, ne-eqb k 4 n))))
+      (λ t. by-test (eqb k 2) (λ t2. simp (t, t2)) (λ t2. by-test (eqb k 3) (λ t3. simp (t, t2, t3))
+      (λ t3. simp (t, t2, t3, ne-eqb k 4 n))))
 
   pub lines-here : k ≡ 3 → placed (recordAt ws at ∷ rs) .lineBlocks ≡ lineBlockAt ws at ∷ placed rs .lineBlocks
   unfolding recordAt placed
@@ -82,8 +83,10 @@ module _ (ws : List ℕ) (at : ℕ) (rs : List Record) where
   unfolding recordAt placed
   lines-other n =
       by-test (eqb k 0) (λ t. simp t)
-      (λ t. by-test (eqb k 2) (λ t2. simp (t, t2)) (λ t2. by-test (eqb k 4) (λ t3. simp (t, t2, ne-eqb k 3 n, t3)) (λ t3. simp (t, t2, ne-eqb k 3 n, t3))))
+      (λ t. by-test (eqb k 2) (λ t2. simp (t, t2)) (λ t2. by-test (eqb k 4) (λ t3. simp (t, t2, ne-eqb k 3 n, t3))
+      (λ t3. simp (t, t2, ne-eqb k 3 n, t3))))
 
 -- the text of a source record
-pub source-text : {A : Type 0} (ws : List ℕ) (F : ObjectFile → A) (at : ℕ) (v : A) → Here ws at F v → kindAt ws at ≡ 4 → Text (bodyAt ws (at + 1))
+pub source-text : {A : Type 0} (ws : List ℕ) (F : ObjectFile → A) (at : ℕ) (v : A) → Here ws at F v → kindAt ws at ≡ 4
+    → Text (bodyAt ws (at + 1))
 source-text ws F at v a e = source-is ws at (recordAt ws at) (a .head) e .1

@@ -8,7 +8,8 @@ use Rattle.format.specs.Basics.{Outcome, refused, given, _>>=_, need}
 use Rattle.format.specs.ObjectFile.{ObjectFile}
 use Rattle.format.specs.Words.{objectOf}
 use Rattle.format.specs.Source.{Span, Position, newlines, lineCount, rawLineSpan, trimmed, lineSpan, getPosPair}
-use Rattle.format.specs.Calls.{Value, refusalOf, checked, sourceIn, valueAnswer, spanAnswer, positionAnswer, queryCountLines, queryRawLineSpan, queryLineSpan, queryPosPair}
+use Rattle.format.specs.Calls.{Value, refusalOf, checked, sourceIn, valueAnswer, spanAnswer, positionAnswer, queryCountLines}
+use Rattle.format.specs.Calls.{queryRawLineSpan, queryLineSpan, queryPosPair}
 use native.Mathlib.Numerals.{add-one}
 
 -- the source of an object, as bytes
@@ -32,7 +33,8 @@ unfolding sourceIn
 source-some ws h t u e s q = rw (e, s) (ap given q)
 
 -- a question on the bytes alone
-through : {B : Type 0} (ws : List ℕ) (o : Outcome (List ℕ)) (f : List ℕ → Outcome B) → o ≡ sourceOf ws → (o >>= f) ≡ (sourceIn ws >>= λ x. f (x .1))
+through : {B : Type 0} (ws : List ℕ) (o : Outcome (List ℕ)) (f : List ℕ → Outcome B) → o ≡ sourceOf ws → (o >>= f)
+    ≡ (sourceIn ws >>= λ x. f (x .1))
 through ws o f e = ap (λ p. p >>= f) e ∙ go (sourceIn ws)
   where
     go : (o : Outcome (ObjectFile × List ℕ)) → ((o >>= λ x. given (x .1)) >>= f) ≡ (o >>= λ x. f (x .1))
@@ -63,7 +65,8 @@ module _ (ws s : List ℕ) (e : given s ≡ sourceOf ws) where
   count-given c q =
       ap (λ v. record { number = 0; value = v }) (add-one c ∙ ap suc q) ∙ ap valueAnswer (through ws (given s) (λ t. given (lineCount t)) e)
 
-  pub raw-given : (line a b : ℕ) → given (record { start = a; end = b }) ≡ rawLineSpan s line → record { number = 0; start = a; end = b } ≡ queryRawLineSpan ws line
+  pub raw-given : (line a b : ℕ) → given (record { start = a; end = b }) ≡ rawLineSpan s line → record { number = 0; start = a; end = b }
+      ≡ queryRawLineSpan ws line
   unfolding queryRawLineSpan spanAnswer
   raw-given line a b q = ap spanAnswer (q ∙ through ws (given s) (λ t. rawLineSpan t line) e)
 
@@ -72,7 +75,8 @@ module _ (ws s : List ℕ) (e : given s ≡ sourceOf ws) where
   raw-past line q = ap spanAnswer (q ∙ through ws (given s) (λ t. rawLineSpan t line) e)
 
   pub line-given :
-      (line : ℕ) (r t : Span) → given r ≡ rawLineSpan s line → t ≡ trimmed s r → record { number = 0; start = t .start; end = t .end } ≡ queryLineSpan ws line
+      (line : ℕ) (r t : Span) → given r ≡ rawLineSpan s line → t ≡ trimmed s r → record { number = 0; start = t .start; end = t .end }
+      ≡ queryLineSpan ws line
   unfolding queryLineSpan spanAnswer lineSpan
   line-given line r t q u =
       ap (λ x. spanAnswer (given x)) u ∙ ap (λ o. spanAnswer (o >>= λ x. given (trimmed s x))) q
@@ -82,6 +86,7 @@ module _ (ws s : List ℕ) (e : given s ≡ sourceOf ws) where
   unfolding queryLineSpan spanAnswer lineSpan
   line-past line q = ap (λ o. spanAnswer (o >>= λ x. given (trimmed s x))) q ∙ ap spanAnswer (through ws (given s) (λ t. lineSpan t line) e)
 
-  pub pair-given : (i : ℕ) (p : Position) → p ≡ getPosPair s i → record { number = 0; line = p .line; column = p .column } ≡ queryPosPair ws i
+  pub pair-given : (i : ℕ) (p : Position) → p ≡ getPosPair s i → record { number = 0; line = p .line; column = p .column }
+      ≡ queryPosPair ws i
   unfolding queryPosPair positionAnswer
   pair-given i p q = ap (λ x. positionAnswer (given x)) q ∙ ap positionAnswer (through ws (given s) (λ t. given (getPosPair t i)) e)

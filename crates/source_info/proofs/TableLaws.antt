@@ -87,7 +87,8 @@ module _ (l : LineBlock) (ls : List LineBlock) (a : ℕ) where
 pub line-some : (l : LineBlock) (a i f v : ℕ) → f ≡ l .first → some i ≡ offsetOf a (l .addresses) → v ≡ (f + i) % 2 ^ 64
     → record { number = 0; value = v } ≡ answered (lineBy l a)
 line-some l a i f v e o q =
-    answered-some v ∙ ap (λ x. answered (some x)) (q ∙ ap (λ k. (k + i) % 2 ^ 64) e) ∙ ap (λ p. answered (andThen p λ k. some ((l .first + k) % 2 ^ 64))) o
+    answered-some v ∙ ap (λ x. answered (some x)) (q ∙ ap (λ k. (k + i) % 2 ^ 64) e)
+    ∙ ap (λ p. answered (andThen p λ k. some ((l .first + k) % 2 ^ 64))) o
 
 pub line-none : (l : LineBlock) (a : ℕ) → none ≡ offsetOf a (l .addresses) → record { number = 6; value = 0 } ≡ answered (lineBy l a)
 line-none l a o = answered-none ∙ ap (λ p. answered (andThen p λ k. some ((l .first + k) % 2 ^ 64))) o
@@ -96,7 +97,8 @@ line-none l a o = answered-none ∙ ap (λ p. answered (andThen p λ k. some ((l
 abbrev pub findIn : ℕ → ObjectFile → Option ℕ
 findIn a h = findLine (h .lineBlocks) a
 
-pub find-done : (ws : List ℕ) (a at : ℕ) (v : Option ℕ) → length ws ≤ at → Left ws at (findIn a) v → record { number = 6; value = 0 } ≡ answered v
+pub find-done : (ws : List ℕ) (a at : ℕ) (v : Option ℕ) → length ws ≤ at → Left ws at (findIn a) v → record { number = 6; value = 0 }
+    ≡ answered v
 unfolding emptyObject
 find-done ws a at v l f = find-none a ∙ ap answered (finish ws (findIn a) at v l f)
 
@@ -113,7 +115,8 @@ module _ (ws : List ℕ) (a at : ℕ) (v : Option ℕ) (f : Here ws at (findIn a
     pub find-skip : (n : ℕ) → n ≡ at + 1 + length (bodyAt ws (at + 1)) → (r .number ≡ 0 → ⊥) → Left ws n (findIn a) v
     find-skip n p z =
         on ws (findIn a) (findIn a) at n v f p
-        (find-next (lineBlockAt ws at) tail a (λ q. z (ap (λ x. x .number) e ∙ q)) ∙ ap (λ xs. findLine xs a) (sym (lines-here ws at (f .rest) k)))
+        (find-next (lineBlockAt ws at) tail a (λ q. z (ap (λ x. x .number) e ∙ q))
+        ∙ ap (λ xs. findLine xs a) (sym (lines-here ws at (f .rest) k)))
 
   pub find-other : (n : ℕ) → n ≡ at + 1 + length (bodyAt ws (at + 1)) → (kindAt ws at ≡ 3 → ⊥) → Left ws n (findIn a) v
   find-other n p k = on ws (findIn a) (findIn a) at n v f p (ap (λ xs. findLine xs a) (lines-other ws at (f .rest) k))
@@ -163,7 +166,8 @@ last-start ws line h e =
     let q = ap (λ b. lastWith line b h) (block-none ws (length ws) (le-refl _)) ∙ last-none line h in
     subst (λ v. Left ws 0 F v) q (start ws F h e)
 
-pub last-done : (ws : List ℕ) (line best at : ℕ) (v : Option LineBlock) → length ws ≤ at → Left ws at (lastWith line (blockIn ws best)) v → blockIn ws best ≡ v
+pub last-done : (ws : List ℕ) (line best at : ℕ) (v : Option LineBlock) → length ws ≤ at → Left ws at (lastWith line (blockIn ws best)) v
+    → blockIn ws best ≡ v
 unfolding emptyObject lastStarting orElse
 last-done ws line best at v l a = finish ws (lastWith line (blockIn ws best)) at v l a
 
@@ -184,10 +188,12 @@ module _ (ws : List ℕ) (line at n : ℕ) (v : Option LineBlock) (best : ℕ) (
   pub last-skip : kindAt ws at ≡ 3 → (numberAt ws (at + 1) ≤ line → ⊥) → Left ws n (F best) v
   last-skip k h =
       on ws (F best) (F best) at n v a e
-      (last-later line (blockIn ws best) (lineBlockAt ws at) ls h ∙ ap (λ xs. orElse (lastStarting line xs) (blockIn ws best)) (sym (lines-here ws at (a .rest) k)))
+      (last-later line (blockIn ws best) (lineBlockAt ws at) ls h
+      ∙ ap (λ xs. orElse (lastStarting line xs) (blockIn ws best)) (sym (lines-here ws at (a .rest) k)))
 
   pub last-other : (kindAt ws at ≡ 3 → ⊥) → Left ws n (F best) v
-  last-other k = on ws (F best) (F best) at n v a e (ap (λ xs. orElse (lastStarting line xs) (blockIn ws best)) (lines-other ws at (a .rest) k))
+  last-other k = on ws (F best) (F best) at n v a e (ap (λ xs. orElse (lastStarting line xs) (blockIn ws best))
+      (lines-other ws at (a .rest) k))
 
 -- an address word by its place
 pub elem-some : (xs : List ℕ) (i : ℕ) → i < length xs → getElem? (map addressIn xs) i ≡ some (addressIn (getD xs i 0))
@@ -214,7 +220,8 @@ source-object ws s e =
     let d = bind-given (need 4 (g .0 .source)) (λ t. given (g .0, t)) (f .0) (g .2) in
     record { both = f .0; source = f .1; is = g .1 ∙ ap (λ (x : ObjectFile × List ℕ). given (x .0)) (given-same (d .2)) }
 
-refused-first : {B : Type 0} (ws : List ℕ) (n : ℕ) (f : ObjectFile × List ℕ → Outcome B) → refused n ≡ sourceOf ws → (sourceIn ws >>= f) ≡ refused n
+refused-first : {B : Type 0} (ws : List ℕ) (n : ℕ) (f : ObjectFile × List ℕ → Outcome B) → refused n ≡ sourceOf ws → (sourceIn ws >>= f)
+    ≡ refused n
 refused-first ws n f e = go (sourceIn ws) e
   where
     go : (o : Outcome (ObjectFile × List ℕ)) → refused n ≡ (o >>= λ x. given (x .1)) → (o >>= f) ≡ refused n

@@ -80,7 +80,8 @@ part-is ws at a e n h k =
 
 -- THE TRIMMED LINE
 pub line-trimmed :
-    (ws : List ℕ) (at n a e end start : ℕ) → a ≤ e → e ≤ n → TrimsEnd (textBytes ws at e) a e end → TrimsStart (textBytes ws at end) a end start
+    (ws : List ℕ) (at n a e end start : ℕ) → a ≤ e → e ≤ n → TrimsEnd (textBytes ws at e) a e end
+    → TrimsStart (textBytes ws at end) a end start
     → record { start = start; end = end } ≡ trimmed (textBytes ws at n) (record { start = a; end = e })
 unfolding trimmed
 line-trimmed ws at n a e end start h k x y =
@@ -91,7 +92,8 @@ line-trimmed ws at n a e end start h k x y =
     ap trimEnd (part-is ws at a e n h k) ∙ sym (x .rest) ∙ part-is ws at a end e (x .low) (x .high) in
     let l1 : length line ≡ end - a = ap length q ∙ length-drop a (textBytes ws at end) ∙ ap (λ z. z - a) (size-is ws at end) in
     let l2 : length (trimStart line) ≡ end - start =
-    ap (λ t. length (trimStart t)) q ∙ ap length (sym (y .rest)) ∙ length-drop start (textBytes ws at end) ∙ ap (λ z. z - start) (size-is ws at end) in
+    ap (λ t. length (trimStart t)) q ∙ ap length (sym (y .rest)) ∙ length-drop start (textBytes ws at end)
+    ∙ ap (λ z. z - start) (size-is ws at end) in
     let p1 : start ≡ a + (length line - length (trimStart line)) = omega (arith, l1, l2, y .low, y .high, x .low) in
     let p2 : end ≡ a + length line = omega (arith, l1, x .low) in
     ap₂ (λ (u v : ℕ). record { start = u; end = v }) p1 p2
@@ -103,4 +105,5 @@ module _ (s : List ℕ) (k : ℕ) where
 
   pub before-is : (a b c : Bool) → a ≡ endsWhite s k 1 → b ≡ endsWhite s k 2 → c ≡ endsWhite s k 3 → pick a b c ≡ whiteBefore s k
   unfolding whiteBefore
-  before-is a b c x y z = ap (λ t. pick t b c) x ∙ ap (λ t. pick (endsWhite s k 1) t c) y ∙ ap (λ t. pick (endsWhite s k 1) (endsWhite s k 2) t) z
+  before-is a b c x y z = ap (λ t. pick t b c) x ∙ ap (λ t. pick (endsWhite s k 1) t c) y
+      ∙ ap (λ t. pick (endsWhite s k 1) (endsWhite s k 2) t) z

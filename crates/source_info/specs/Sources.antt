@@ -85,4 +85,5 @@ pub record Passes (s : List ℕ) (n index : ℕ) (p r : Passed) : Type 0 where
   pub starts : r .start ≤ r .i
   pub reached : (n ≤ r .i) ⊎ (index ≤ r .i)
   pub back : p .i ≤ index → r .i ≤ index
-  pub same : (j : ℕ) → index ≤ j → posFrom j (r .line) (r .start) (r .i) (drop (r .i) s) ≡ posFrom j (p .line) (p .start) (p .i) (drop (p .i) s)
+  pub same : (j : ℕ) → index ≤ j → posFrom j (r .line) (r .start) (r .i) (drop (r .i) s)
+      ≡ posFrom j (p .line) (p .start) (p .i) (drop (p .i) s)

@@ -22,7 +22,8 @@ use Rattle.object.proofs.check.Tie as tie
 -- the same answer from here
 abbrev Inv-loop : tie.InvT-loop
 Inv-loop object seen₀ at₀ seen at =
-    (bodyAt object at ≡ []) × Known object (seen .key) × (walk (pastIn object seen) (groupsAt object at) ≡ walk start (groupsAt object 0)) × (bodyAt object 0 ≡ [])
+    (bodyAt object at ≡ []) × Known object (seen .key) × (walk (pastIn object seen) (groupsAt object at) ≡ walk start (groupsAt object 0))
+    × (bodyAt object 0 ≡ [])
 
 abbrev μ-loop : tie.MeasureT-loop
 μ-loop object seen₀ at₀ seen at = length object - at
@@ -59,13 +60,19 @@ returns-2 c =
     let ws = now (t .before .before .before .before .before .args .object) in
     let loop = t .before .loop in
     answer ws false (loop .inv .3)
-    (sym (loop .inv .2) ∙ walk-stop ws (loop .at) (loop .seen) (t .loop-test .taken) (loop .inv .0) (subst (Stepped ws (loop .at) (loop .seen)) (c .enum-told .given .1) (m .advance .ensures)))
+    (sym (loop .inv .2) ∙ walk-stop ws (loop .at) (loop .seen) (t .loop-test .taken) (loop .inv .0)
+    (subst (Stepped ws (loop .at) (loop .seen)) (c .enum-told .given .1) (m .advance .ensures)))
 
 loop-less : tie.Need-loop-less Inv-loop μ-loop
 loop-less c =
     let n = c .before in
     let t = turn n in
-    omega (arith, place-on (ws n) (t .before .loop .at) (t .before .loop .seen) (t .loop-test .taken) (t .before .loop .inv .0) (n .n .given .0 .0) (n .n .given .0 .1 .0) (stepped n), t .loop-test .taken)
+    omega (
+      arith,
+      place-on (ws n) (t .before .loop .at) (t .before .loop .seen) (t .loop-test .taken) (t .before .loop .inv .0)
+          (n .n .given .0 .0) (n .n .given .0 .1 .0) (stepped n),
+      t .loop-test .taken,
+    )
 
 loop-again : tie.Need-loop-again Inv-loop μ-loop
 loop-again c =
@@ -74,7 +81,8 @@ loop-again c =
     let loop = t .before .loop in (
       body-on (ws n) (loop .at) (loop .seen) (t .loop-test .taken) (loop .inv .0) (n .n .given .0 .0) (n .n .given .0 .1 .0) (stepped n),
       stepped n .known,
-      walk-on (ws n) (loop .at) (loop .seen) (t .loop-test .taken) (loop .inv .0) (n .n .given .0 .0) (n .n .given .0 .1 .0) (stepped n) ∙ loop .inv .2,
+      walk-on (ws n) (loop .at) (loop .seen) (t .loop-test .taken) (loop .inv .0) (n .n .given .0 .0) (n .n .given .0 .1 .0) (stepped n)
+          ∙ loop .inv .2,
       loop .inv .3,
     )
 
@@ -85,7 +93,8 @@ module _ (c : tie.After-loop Inv-loop μ-loop) where
 
   ended : (t : Bool) → (not (c .before .loop .seen .lined) || c .before .loop .seen .sourced) ≡ t → cond t 0 1 ≡ checked whole
   ended t e =
-      answer whole t (c .before .loop .inv .3) (sym (c .before .loop .inv .2) ∙ walk-end whole (c .before .loop .at) (c .before .loop .seen) (c .loop-test .left) ∙ e)
+      answer whole t (c .before .loop .inv .3) (sym (c .before .loop .inv .2)
+      ∙ walk-end whole (c .before .loop .at) (c .before .loop .seen) (c .loop-test .left) ∙ e)
 
 returns-3 : tie.Need-returns-3 Inv-loop μ-loop
 returns-3 c = let l = c .before .before in ended l true (ap (λ b. b || l .before .loop .seen .sourced) (c .if2 .taken))

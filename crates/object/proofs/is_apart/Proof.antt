@@ -17,8 +17,10 @@ returns-2 c =
     let s = c .before .before .before .args .seen in
     let first = c .before .before .before .args .first in
     by-test (leb (s .count) (first - s .first))
-    (λ t. let h = leb-true (s .count) (first - s .first) t in t ∙ sym (le-leb (s .first + s .count) first (omega (arith, c .before .if1 .left))))
-    (λ t. let h = leb-false (s .count) (first - s .first) t in t ∙ sym (lt-leb (s .first + s .count) first (omega (arith, c .before .if1 .left))))
+    (λ t. let h = leb-true (s .count) (first - s .first) t in t
+    ∙ sym (le-leb (s .first + s .count) first (omega (arith, c .before .if1 .left))))
+    (λ t. let h = leb-false (s .count) (first - s .first) t in t
+    ∙ sym (lt-leb (s .first + s .count) first (omega (arith, c .before .if1 .left))))
 
 pub is-apart-spec : {M : Type 1} → statement M
 is-apart-spec = tie.close (tie.spec returns returns-2)

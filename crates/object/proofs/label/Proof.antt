@@ -17,7 +17,8 @@ module _ (c : tie.After-enum-told) where
   begin = c .before .before .before .before .before .before
 
   numbered : Numbered (now (begin .args .ws)) (begin .args .at + 1) (number.Is (c .enum-told .given .0 .0))
-  numbered = subst (Numbered (now (begin .args .ws)) (begin .args .at + 1)) (c .enum-told .given .1) (c .before .before .read-number .ensures)
+  numbered = subst (Numbered (now (begin .args .ws)) (begin .args .at + 1)) (c .enum-told .given .1)
+      (c .before .before .read-number .ensures)
 
 -- where the text ends
 module _ (c : tie.After-n) where
@@ -25,7 +26,8 @@ module _ (c : tie.After-n) where
   told = c .before .before .before
 
   ends : Walked goodText (now (begin told .args .ws)) (begin told .args .at + 1 + 3) (body.Ends (c .n .given .0 .0))
-  ends = subst (Walked goodText (now (begin told .args .ws)) (begin told .args .at + 1 + 3)) (c .n .given .1) (c .before .before .text-end .ensures)
+  ends = subst (Walked goodText (now (begin told .args .ws)) (begin told .args .at + 1 + 3)) (c .n .given .1)
+      (c .before .before .text-end .ensures)
 
 returns : tie.Need-returns
 returns c = let s = c .before .before .before in label-1 (now (s .args .ws)) (s .args .at) (s .args .seen) (s .pre .1) (c .if1 .taken)
@@ -45,7 +47,8 @@ returns-3 c =
     let m = c .before .before in
     let t = m .before in
     let s = begin t in
-    label-3 (now (s .args .ws)) (s .args .at) (s .args .seen) (s .pre .1) (t .before .before .before .if1 .left) (t .enum-told .given .0 .0) (numbered t .0)
+    label-3 (now (s .args .ws)) (s .args .at) (s .args .seen) (s .pre .1) (t .before .before .before .if1 .left)
+    (t .enum-told .given .0 .0) (numbered t .0)
     (subst (Walked goodText (now (s .args .ws)) (s .args .at + 1 + 3)) (c .enum-told3 .given .1) (m .text-end .ensures))
 
 rises-requires : tie.Need-rises-requires
@@ -54,7 +57,8 @@ rises-requires c κs =
     let m = told t in
     let s = begin m in (
       s .pre .2,
-      label-known (now (s .args .ws)) (s .args .at) (s .args .seen) (s .pre .1) (m .before .before .before .if1 .left) (m .enum-told .given .0 .0) (numbered m .0) (ends t .0),
+      label-known (now (s .args .ws)) (s .args .at) (s .args .seen) (s .pre .1) (m .before .before .before .if1 .left)
+          (m .enum-told .given .0 .0) (numbered m .0) (ends t .0),
     )
 
 returns-4 : tie.Need-returns-4
@@ -62,7 +66,8 @@ returns-4 c =
     let t = c .before .before .before .before in
     let m = told t in
     let s = begin m in
-    label-4 (now (s .args .ws)) (s .args .at) (s .args .seen) (s .pre .1) (m .before .before .before .if1 .left) (m .enum-told .given .0 .0) (numbered m .0) (ends t .0)
+    label-4 (now (s .args .ws)) (s .args .at) (s .args .seen) (s .pre .1) (m .before .before .before .if1 .left)
+    (m .enum-told .given .0 .0) (numbered m .0) (ends t .0)
     (sym (c .before .rises .ensures) ∙ not-true _ (c .if2 .taken))
 
 returns-5 : tie.Need-returns-5
@@ -70,7 +75,8 @@ returns-5 c =
     let t = c .before .before .before .before in
     let m = told t in
     let s = begin m in
-    label-next (now (s .args .ws)) (s .args .at) (s .args .seen) (s .pre .1) (m .before .before .before .if1 .left) (m .enum-told .given .0 .0) (numbered m .0) (ends t .0)
+    label-next (now (s .args .ws)) (s .args .at) (s .args .seen) (s .pre .1) (m .before .before .before .if1 .left)
+    (m .enum-told .given .0 .0) (numbered m .0) (ends t .0)
     (t .n .given .0 .0) (sym (c .before .rises .ensures) ∙ not-false _ (c .if2 .left)) (ends t .1)
 
 pub label-spec : {M : Type 1} → statement M

@@ -25,7 +25,8 @@ module _ (c : tie.After-n) where
   told = c .before .before .before .before
 
   ends : Walked goodAddresses (now (begin told .args .ws)) (begin told .args .at + 1 + 3) (body.Ends (c .n .given .0 .0))
-  ends = subst (Walked goodAddresses (now (begin told .args .ws)) (begin told .args .at + 1 + 3)) (c .n .given .1) (c .before .before .addresses-end .ensures)
+  ends = subst (Walked goodAddresses (now (begin told .args .ws)) (begin told .args .at + 1 + 3)) (c .n .given .1)
+      (c .before .before .addresses-end .ensures)
 
 returns : tie.Need-returns
 returns c = let s = c .before .before .before in line-1 (now (s .args .ws)) (s .args .at) (s .args .seen) (s .pre .1) (c .if1 .taken)
@@ -45,7 +46,8 @@ returns-3 c =
     let m = c .before .before in
     let t = m .before .before in
     let s = begin t in
-    line-3 (now (s .args .ws)) (s .args .at) (s .args .seen) (s .pre .1) (t .before .before .before .if1 .left) (t .first .given .0 .0) (numbered t .0)
+    line-3 (now (s .args .ws)) (s .args .at) (s .args .seen) (s .pre .1) (t .before .before .before .if1 .left) (t .first .given .0 .0)
+    (numbered t .0)
     (subst (Walked goodAddresses (now (s .args .ws)) (s .args .at + 1 + 3)) (c .enum-told2 .given .1) (m .addresses-end .ensures))
 
 returns-4 : tie.Need-returns-4
@@ -53,7 +55,8 @@ returns-4 c =
     let t = c .before .before .before in
     let m = told t in
     let s = begin m in
-    line-4 (now (s .args .ws)) (s .args .at) (s .args .seen) (s .pre .1) (m .before .before .before .if1 .left) (m .first .given .0 .0) (numbered m .0) (ends t .0)
+    line-4 (now (s .args .ws)) (s .args .at) (s .args .seen) (s .pre .1) (m .before .before .before .if1 .left) (m .first .given .0 .0)
+    (numbered m .0) (ends t .0)
     (leb-false _ _ (sym (c .before .is-apart .ensures) ∙ not-true _ (c .if2 .taken)))
 
 rises-requires : tie.Need-rises-requires
@@ -64,7 +67,8 @@ returns-5 c =
     let t = c .before .before .before .before .before .before in
     let m = told t in
     let s = begin m in
-    line-5 (now (s .args .ws)) (s .args .at) (s .args .seen) (s .pre .1) (m .before .before .before .if1 .left) (m .first .given .0 .0) (numbered m .0) (ends t .0)
+    line-5 (now (s .args .ws)) (s .args .at) (s .args .seen) (s .pre .1) (m .before .before .before .if1 .left) (m .first .given .0 .0)
+    (numbered m .0) (ends t .0)
     (sym (c .before .rises .ensures) ∙ not-true _ (c .if3 .taken))
 
 sub-t11 : tie.Need-sub-t11
@@ -76,8 +80,10 @@ returns-6 c =
     let t = a .before .before in
     let m = told t in
     let s = begin m in
-    line-next (now (s .args .ws)) (s .args .at) (s .args .seen) (s .pre .1) (m .before .before .before .if1 .left) (m .first .given .0 .0) (numbered m .0) (ends t .0)
-    (t .n .given .0 .0) (t .n .given .0 .0 - (s .args .at + 1 + 3)) (leb-true _ _ (sym (a .is-apart .ensures) ∙ not-false _ (c .before .before .before .if2 .left)))
+    line-next (now (s .args .ws)) (s .args .at) (s .args .seen) (s .pre .1) (m .before .before .before .if1 .left) (m .first .given .0 .0)
+    (numbered m .0) (ends t .0)
+    (t .n .given .0 .0) (t .n .given .0 .0 - (s .args .at + 1 + 3))
+    (leb-true _ _ (sym (a .is-apart .ensures) ∙ not-false _ (c .before .before .before .if2 .left)))
     (sym (c .before .rises .ensures) ∙ not-false _ (c .if3 .left)) (ends t .1) refl
 
 pub line-block-spec : {M : Type 1} → statement M

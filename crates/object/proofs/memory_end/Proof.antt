@@ -46,7 +46,8 @@ shared-slice-read-is-memory c = omega (arith, going (c .before) .0)
 returns : tie.Need-returns Inv-loop μ-loop
 returns c =
     let t = c .before .before .before in
-    sym (from-here t) ∙ memory-cons _ _ ∙ ap (λ b. b && goodMemory (bodyAt (ws t) (i t + 1))) (sym (c .before .is-memory .ensures) ∙ not-true _ (c .if2 .taken))
+    sym (from-here t) ∙ memory-cons _ _ ∙ ap (λ b. b && goodMemory (bodyAt (ws t) (i t + 1)))
+    (sym (c .before .is-memory .ensures) ∙ not-true _ (c .if2 .taken))
 
 add-i : tie.Need-add-i Inv-loop μ-loop
 add-i c = omega (arith, going (c .before .before .before) .0)
@@ -58,7 +59,8 @@ loop-again : tie.Need-loop-again Inv-loop μ-loop
 loop-again c =
     let t = c .before .before .before in (
       omega (arith, ap length (going t .1)),
-      sym (memory-cons _ _ ∙ ap (λ b. b && goodMemory (bodyAt (ws t) (i t + 1))) (sym (c .before .is-memory .ensures) ∙ not-false _ (c .if2 .left))) ∙ from-here t,
+      sym (memory-cons _ _ ∙ ap (λ b. b && goodMemory (bodyAt (ws t) (i t + 1)))
+          (sym (c .before .is-memory .ensures) ∙ not-false _ (c .if2 .left))) ∙ from-here t,
     )
 
 returns-2 : tie.Need-returns-2 Inv-loop μ-loop

@@ -9,7 +9,8 @@ returns : tie.Need-returns
 unfolding numberAt
 returns c =
     let s = c .before .before .before .before .before in
-    sym (ap valueIn (subst (Numbered (now (s .args .ws)) (s .args .at)) (c .before .v .given .1) (c .before .before .before .read-number .ensures) .0))
+    sym (ap valueIn (subst (Numbered (now (s .args .ws)) (s .args .at)) (c .before .v .given .1)
+    (c .before .before .before .read-number .ensures) .0))
 
 returns-2 : tie.Need-returns-2
 unfolding numberAt

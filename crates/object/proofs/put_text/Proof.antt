@@ -27,8 +27,11 @@ loop-holds c =
     let a = c .before .before .before .args in
     let e : a .n ≡ a .n - 0 = omega arith in
     let bs = textBytes (now (a .ws)) (a .at) (a .n) in
-    let h : length bs ≤ length (now (a .out)) = rw bytes-length (omega (arith, c .if1 .left)) in
-    (omega arith, subst (λ k. Emits bs (now (a .out)) (bytesFrom (now (a .ws)) (a .at) 0 k) (record { at = 0; out = now (a .out) })) e (begin bs (now (a .out)) h))
+    let h : length bs ≤ length (now (a .out)) = rw bytes-length (omega (arith, c .if1 .left)) in (
+      omega arith,
+      subst (λ k. Emits bs (now (a .out)) (bytesFrom (now (a .ws)) (a .at) 0 k) (record { at = 0; out = now (a .out) })) e
+          (begin bs (now (a .out)) h),
+    )
 
 -- the next byte
 module _ (c : tie.After-text-byte Inv-loop μ-loop) where
@@ -43,7 +46,8 @@ module _ (c : tie.After-text-byte Inv-loop μ-loop) where
       ≡ c .text-byte .result ∷ bytesFrom (now (s .args .ws)) (s .args .at) (i + 1) (s .args .n - (i + 1))
   next =
       let rest = bytesFrom (now (s .args .ws)) (s .args .at) (i + 1) (s .args .n - (i + 1)) in
-      bytes-here (now (s .args .ws)) (s .args .at) i (s .args .n) (c .before .loop-test .taken) ∙ ap (λ b. b ∷ rest) (sym (c .text-byte .ensures))
+      bytes-here (now (s .args .ws)) (s .args .at) i (s .args .n) (c .before .loop-test .taken)
+      ∙ ap (λ b. b ∷ rest) (sym (c .text-byte .ensures))
 
 text-byte-requires : tie.Need-text-byte-requires Inv-loop μ-loop
 text-byte-requires c κs = search needs

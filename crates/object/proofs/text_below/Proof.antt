@@ -16,7 +16,8 @@ use Rattle.object.proofs.text_below.Statement.{statement}
 use Rattle.object.proofs.text_below.Tie as tie
 
 abbrev Inv-loop : tie.InvT-loop
-Inv-loop ws a b i₀ j₀ i j = Text (bodyAt ws i) × Text (bodyAt ws j) × (order (textAt ws i) (textAt ws j) ≡ order (textAt ws a) (textAt ws b))
+Inv-loop ws a b i₀ j₀ i j = Text (bodyAt ws i) × Text (bodyAt ws j)
+    × (order (textAt ws i) (textAt ws j) ≡ order (textAt ws a) (textAt ws b))
 
 abbrev μ-loop : tie.MeasureT-loop
 μ-loop ws a b i₀ j₀ i j = length ws - j

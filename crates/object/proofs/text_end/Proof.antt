@@ -19,7 +19,8 @@ use Rattle.object.proofs.text_end.Statement.{statement}
 use Rattle.object.proofs.text_end.Tie as tie
 
 abbrev Inv-loop : tie.InvT-loop
-Inv-loop ws at u₀ full₀ i₀ u full i = (i + length (bodyAt ws i) ≡ at + length (bodyAt ws at)) × (textOn u full (bodyAt ws i) ≡ goodText (bodyAt ws at))
+Inv-loop ws at u₀ full₀ i₀ u full i = (i + length (bodyAt ws i) ≡ at + length (bodyAt ws at))
+    × (textOn u full (bodyAt ws i) ≡ goodText (bodyAt ws at))
 
 abbrev μ-loop : tie.MeasureT-loop
 μ-loop ws at u₀ full₀ i₀ u full i = length ws - i
@@ -63,7 +64,8 @@ returns-2 : tie.Need-returns-2 Inv-loop μ-loop
 returns-2 c =
     let t = c .before .before .before .before in
     sym (from-here t)
-    ∙ text-bad _ _ _ _ (not-false _ (c .before .before .before .if2 .left)) (c .before .text-count .ensures .1 ∙ ap (λ n. counted n (getD (ws t) (i t) 0)) (c .if3 .taken))
+    ∙ text-bad _ _ _ _ (not-false _ (c .before .before .before .if2 .left))
+    (c .before .text-count .ensures .1 ∙ ap (λ n. counted n (getD (ws t) (i t) 0)) (c .if3 .taken))
 
 text-step-requires : tie.Need-text-step-requires Inv-loop μ-loop
 text-step-requires c κs = (omega arith, c .before .text-count .ensures .0)
@@ -80,10 +82,12 @@ loop-again c =
     let n = c .before .before .text-count .result in
     let w = getD (ws t) (i t) 0 in
     let p : textPart w ≡ given (digitsOf 8 n w) =
-    c .before .before .text-count .ensures .1 ∙ ap (λ (b : Bool). cond b (refused 1) (given (digitsOf 8 n w))) (ne-eqb n 0 (c .before .if3 .left)) in (
+    c .before .before .text-count .ensures .1 ∙ ap (λ (b : Bool). cond b (refused 1) (given (digitsOf 8 n w)))
+    (ne-eqb n 0 (c .before .if3 .left)) in (
       omega (arith, ap length (going t .1)),
       ap (λ (v : Utf8). textOn v (eqb n 3) (bodyAt (ws t) (i t + 1))) (c .text-step .ensures)
-          ∙ sym (text-next (u t) w (bodyAt (ws t) (i t + 1)) (full t) n (not-false _ (c .before .before .before .before .if2 .left)) p) ∙ from-here t,
+          ∙ sym (text-next (u t) w (bodyAt (ws t) (i t + 1)) (full t) n (not-false _ (c .before .before .before .before .if2 .left)) p)
+          ∙ from-here t,
     )
 
 -- past the last word
@@ -91,8 +95,10 @@ module _ (c : tie.Else1 Inv-loop μ-loop) where
   ended : bodyAt (now (c .before .before .before .before .before .args .ws)) (c .before .before .loop .i) ≡ []
   ended = stops _ _ (sym (c .before .goes-on .ensures) ∙ c .if1 .left)
 
-  measured : goodText (bodyAt (now (c .before .before .before .before .before .args .ws)) (c .before .before .before .before .before .args .at)) ≡ eqb (c .before .before .loop .u .need) 0
-  measured = sym (c .before .before .loop .inv .1) ∙ ap (textOn (c .before .before .loop .u) (c .before .before .loop .full)) ended ∙ text-end _ _
+  measured : goodText (bodyAt (now (c .before .before .before .before .before .args .ws))
+      (c .before .before .before .before .before .args .at)) ≡ eqb (c .before .before .loop .u .need) 0
+  measured = sym (c .before .before .loop .inv .1) ∙ ap (textOn (c .before .before .loop .u) (c .before .before .loop .full)) ended
+      ∙ text-end _ _
 
 returns-3 : tie.Need-returns-3 Inv-loop μ-loop
 returns-3 c =

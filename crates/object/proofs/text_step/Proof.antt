@@ -23,7 +23,8 @@ returns-3 : tie.Need-returns-3
 returns-3 c =
     let a = c .before .before .before .before .before .args in
     let e : 3 ≡ a .n = omega arith in
-    c .step3 .ensures ∙ ap (λ u. step u (a .w / 65536 % 256)) (c .before .before .step2 .ensures ∙ ap (λ u. step u (a .w / 256 % 256)) (c .before .before .before .before .step .ensures))
+    c .step3 .ensures ∙ ap (λ u. step u (a .w / 65536 % 256))
+    (c .before .before .step2 .ensures ∙ ap (λ u. step u (a .w / 256 % 256)) (c .before .before .before .before .step .ensures))
     ∙ sym (run-3 (a .u) (a .w)) ∙ ap (λ n. run (a .u) (digitsOf 8 n (a .w))) e
 
 pub text-step-spec : {M : Type 1} → statement M

@@ -32,8 +32,16 @@ loop-again c =
     let inv = t .before .loop .inv in
     let byte = c .before .text-byte .ensures ∙ byte-is (now (a .ws)) (a .at) (a .n) i (t .loop-test .taken) in
     ⊎-elim
-    (λ w. (omega (arith, t .loop-test .taken), omega (arith, w .1, inv .1), omega (arith, w .1, inv .2, newlines-yes text i h (sym byte ∙ w .0 .taken))))
-    (λ w. (omega (arith, t .loop-test .taken), omega (arith, w .1, inv .1), omega (arith, w .1, inv .2, newlines-no text i h (λ z. w .0 .left (byte ∙ z)))))
+    (λ w. (
+      omega (arith, t .loop-test .taken),
+      omega (arith, w .1, inv .1),
+      omega (arith, w .1, inv .2, newlines-yes text i h (sym byte ∙ w .0 .taken)),
+    ))
+    (λ w. (
+      omega (arith, t .loop-test .taken),
+      omega (arith, w .1, inv .1),
+      omega (arith, w .1, inv .2, newlines-no text i h (λ z. w .0 .left (byte ∙ z))),
+    ))
     (c .if1 .came)
 
 returns : tie.Need-returns Inv-loop μ-loop

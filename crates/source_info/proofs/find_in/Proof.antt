@@ -85,7 +85,8 @@ loop-again c =
     let v = findLine (h .lineBlocks) (b .a) in
     let f = here ws (findIn (b .a)) at v (t .loop-test .taken) (t .before .loop .inv h q) in
     ⊎-elim
-    (λ w. find-skip ws (b .a) at v f (sym (k .kind .ensures) ∙ w .0 .taken) (lineAnswer (w .1 .result)) (w .1 .ensures) n (c .body-end .ensures) (w .3 .left))
+    (λ w. find-skip ws (b .a) at v f (sym (k .kind .ensures) ∙ w .0 .taken) (lineAnswer (w .1 .result)) (w .1 .ensures) n
+    (c .body-end .ensures) (w .3 .left))
     (λ w. find-other ws (b .a) at v f n (c .body-end .ensures) (λ z. w .left (k .kind .ensures ∙ z)))
     (c .before .if1 .came)
 

@@ -13,7 +13,8 @@ returns c =
     let a = t .before .before .before .before .args in
     let ws = now (a .object) in
     let o = source-object ws _ (subst (SourceIs ws) (t .enum-told .given .1) (t .before .before .source-of .ensures) .0) in
-    c .address-in .ensures ∙ ap (λ b. answered (addressBy b (a .line .0))) (c .before .last-starting .ensures .0 (o .both .0) (o .is)) ∙ get-is ws o (a .line .0)
+    c .address-in .ensures ∙ ap (λ b. answered (addressBy b (a .line .0))) (c .before .last-starting .ensures .0 (o .both .0) (o .is))
+    ∙ get-is ws o (a .line .0)
 
 returns-2 : tie.Need-returns-2
 returns-2 c =

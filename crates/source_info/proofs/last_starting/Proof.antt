@@ -20,7 +20,8 @@ use Rattle.source_info.proofs.last_starting.Tie as tie
 
 abbrev Inv-loop : tie.InvT-loop
 Inv-loop ws line best₀ at₀ best at =
-    ((h : ObjectFile) → objectOf ws ≡ given h → Left ws at (lastWith line (blockIn ws best)) (lastStarting line (h .lineBlocks))) × Begins ws best line
+    ((h : ObjectFile) → objectOf ws ≡ given h → Left ws at (lastWith line (blockIn ws best)) (lastStarting line (h .lineBlocks)))
+    × Begins ws best line
 
 abbrev μ-loop : tie.MeasureT-loop
 μ-loop ws line best₀ at₀ best at = length ws - at
@@ -48,11 +49,14 @@ module _ (c : tie.After-body-end Inv-loop μ-loop) where
   abbrev n : ℕ
   n = c .body-end .result
 
-  abbrev now-here : (h : ObjectFile) → objectOf ws ≡ given h → Here ws at (lastWith line (blockIn ws best)) (lastStarting line (h .lineBlocks))
-  now-here h q = here ws (lastWith line (blockIn ws best)) at (lastStarting line (h .lineBlocks)) (turn .loop-test .taken) (turn .before .loop .inv .0 h q)
+  abbrev now-here : (h : ObjectFile) → objectOf ws ≡ given h → Here ws at (lastWith line (blockIn ws best))
+      (lastStarting line (h .lineBlocks))
+  now-here h q = here ws (lastWith line (blockIn ws best)) at (lastStarting line (h .lineBlocks)) (turn .loop-test .taken)
+      (turn .before .loop .inv .0 h q)
 
   abbrev Goal : ℕ → Type 0
-  Goal b = ((h : ObjectFile) → objectOf ws ≡ given h → Left ws n (lastWith line (blockIn ws b)) (lastStarting line (h .lineBlocks))) × Begins ws b line
+  Goal b = ((h : ObjectFile) → objectOf ws ≡ given h → Left ws n (lastWith line (blockIn ws b)) (lastStarting line (h .lineBlocks)))
+      × Begins ws b line
 
   abbrev kind : c .before .before .kind .result ≡ kindAt ws at
   kind = c .before .before .kind .ensures
@@ -69,12 +73,18 @@ loop-again c =
     ⊎-elim
     (λ w. let m = sym (w .1 .ensures) in
     let l = w .2 .taken in
-    subst (Goal c) (sym (w .3))
-    ((λ h q. last-take (ws c) line at (n c) _ (best c) (now-here c h q) e (turn c .loop-test .taken) (sym (kind c) ∙ w .0 .taken) (omega (arith, m, l))), λ _. omega (arith, m, l)))
+    subst (Goal c) (sym (w .3)) (
+      (λ h q. last-take (ws c) line at (n c) _ (best c) (now-here c h q) e (turn c .loop-test .taken) (sym (kind c) ∙ w .0 .taken)
+          (omega (arith, m, l))),
+      λ _. omega (arith, m, l),
+    ))
     (⊎-elim
     (λ w. let m = w .1 .ensures in
-    subst (Goal c) (sym (w .3))
-    ((λ h q. last-skip (ws c) line at (n c) _ (best c) (now-here c h q) e (sym (kind c) ∙ w .0 .taken) (λ z. omega (arith, m, z, w .2 .left))), inv .1))
+    subst (Goal c) (sym (w .3)) (
+      (λ h q. last-skip (ws c) line at (n c) _ (best c) (now-here c h q) e (sym (kind c) ∙ w .0 .taken)
+          (λ z. omega (arith, m, z, w .2 .left))),
+      inv .1,
+    ))
     (λ w.
     subst (Goal c) (sym (w .1))
     ((λ h q. last-other (ws c) line at (n c) _ (best c) (now-here c h q) e (λ z. w .0 .left (kind c ∙ z))), inv .1)))

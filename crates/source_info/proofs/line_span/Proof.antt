@@ -44,9 +44,11 @@ returns : tie.Need-returns
 returns c =
     let l = c .before .before .before in
     let t = top l in
-    line-given _ _ (there t .0) _ (record { start = a l; end = e l }) (record { start = c .white-start .result; end = c .before .white-end .result })
+    line-given _ _ (there t .0) _ (record { start = a l; end = e l })
+    (record { start = c .white-start .result; end = c .before .white-end .result })
     (ap spanIn (sym (l .a .given .1)) ∙ l .before .before .raw-line .ensures .0)
-    (line-trimmed (now (begin t .args .object)) (t .at .given .0 .0) (t .at .given .0 .1 .0) (a l) (e l) (c .before .white-end .result) (c .white-start .result)
+    (line-trimmed (now (begin t .args .object)) (t .at .given .0 .0) (t .at .given .0 .1 .0) (a l) (e l) (c .before .white-end .result)
+    (c .white-start .result)
     (within l .0) (within l .1) (c .before .white-end .ensures) (c .white-start .ensures))
 
 returns-2 : tie.Need-returns-2

@@ -14,7 +14,8 @@ use Rattle.source_info.proofs.offset_of.Statement.{statement}
 use Rattle.source_info.proofs.offset_of.Tie as tie
 
 abbrev Inv-loop : tie.InvT-loop
-Inv-loop ws at a wanted i₀ i = (at ≤ i) × (offsetFrom (i - at) wanted (map addressIn (bodyAt ws i)) ≡ offsetOf a (map addressIn (bodyAt ws at)))
+Inv-loop ws at a wanted i₀ i = (at ≤ i) × (offsetFrom (i - at) wanted (map addressIn (bodyAt ws i))
+    ≡ offsetOf a (map addressIn (bodyAt ws at)))
 
 abbrev μ-loop : tie.MeasureT-loop
 μ-loop ws at a wanted i₀ i = length ws - i
@@ -36,7 +37,8 @@ module _ (c : tie.Then1 Inv-loop μ-loop) where
   going : (i < length ws) × (bodyAt ws i ≡ getD ws i 0 ∷ bodyAt ws (i + 1))
   going = goes ws i (sym (c .before .goes-on .ensures) ∙ c .if1 .taken)
 
-  from-here : offsetFrom passed (s .args .a) (addressIn (getD ws i 0) ∷ map addressIn (bodyAt ws (i + 1))) ≡ offsetOf (s .args .a) (map addressIn (bodyAt ws (s .args .at)))
+  from-here : offsetFrom passed (s .args .a) (addressIn (getD ws i 0) ∷ map addressIn (bodyAt ws (i + 1)))
+      ≡ offsetOf (s .args .a) (map addressIn (bodyAt ws (s .args .at)))
   from-here = ap (λ xs. offsetFrom passed (s .args .a) (map addressIn xs)) (sym (going .1)) ∙ c .before .before .loop .inv .1
 
 loop-holds : tie.Need-loop-holds Inv-loop μ-loop
@@ -55,7 +57,8 @@ shared-slice-read-if2 c = omega (arith, going (c .before) .0)
 returns : tie.Need-returns Inv-loop μ-loop
 returns c =
     let t = c .before .before in
-    sym (offset-here (passed t) (s t .args .a) (addressIn (getD (ws t) (i t) 0)) (map addressIn (bodyAt (ws t) (i t + 1))) (c .if2 .taken)) ∙ from-here t
+    sym (offset-here (passed t) (s t .args .a) (addressIn (getD (ws t) (i t) 0)) (map addressIn (bodyAt (ws t) (i t + 1)))
+    (c .if2 .taken)) ∙ from-here t
 
 add-i : tie.Need-add-i Inv-loop μ-loop
 add-i c = omega (arith, going (c .before .before) .0)
@@ -70,7 +73,8 @@ loop-again c =
     let l = t .before .before .loop .inv .0 in
     let e : i t + 1 - s t .args .at ≡ passed t + 1 = omega (arith, l) in (
       omega (arith, l),
-      ap (λ k. offsetFrom k (s t .args .a) rest) e ∙ sym (offset-next (passed t) (s t .args .a) (addressIn (getD (ws t) (i t) 0)) rest (c .if2 .left)) ∙ from-here t,
+      ap (λ k. offsetFrom k (s t .args .a) rest) e ∙ sym (offset-next (passed t) (s t .args .a) (addressIn (getD (ws t) (i t) 0)) rest
+          (c .if2 .left)) ∙ from-here t,
     )
 
 returns-2 : tie.Need-returns-2 Inv-loop μ-loop

@@ -41,7 +41,8 @@ returns c =
     let a = c .before .before in
     let h = c .before .if1 .taken in
     pos-past (s a .args .index) (p a .line) (p a .start) (p a .i) (text a)
-    (omega (arith, size-is (now (s a .args .ws)) (s a .args .at) (s a .args .n), ended a h)) (omega (arith, h, a .advance .ensures .within)) ∙ same a
+    (omega (arith, size-is (now (s a .args .ws)) (s a .args .at) (s a .args .n), ended a h))
+    (omega (arith, h, a .advance .ensures .within)) ∙ same a
 
 sub-t9 : tie.Need-sub-t9
 sub-t9 c = let a = c .before .before in omega (arith, a .advance .ensures .starts, a .advance .ensures .back (omega arith))
@@ -49,7 +50,8 @@ sub-t9 c = let a = c .before .before in omega (arith, a .advance .ensures .start
 returns-2 : tie.Need-returns-2
 returns-2 c =
     let a = c .before .before in
-    pos-stop (s a .args .index) (p a .line) (p a .start) (p a .i) (drop (p a .i) (text a)) (met a (omega (arith, c .before .if1 .left))) ∙ same a
+    pos-stop (s a .args .index) (p a .line) (p a .start) (p a .i) (drop (p a .i) (text a)) (met a (omega (arith, c .before .if1 .left)))
+    ∙ same a
 
 pub pair-at-spec : {M : Type 1} → statement M
 pair-at-spec = tie.close (tie.spec (λ c κs. search needs) (λ c. search needs) returns sub-t9 returns-2)

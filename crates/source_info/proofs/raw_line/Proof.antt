@@ -81,8 +81,11 @@ returns-2 : tie.Need-returns-2 Inv-loop μ-loop
 returns-2 c =
     let l = c .before in
     let loop = l .before .loop in
-    let e : top l .args .n ≡ loop .i = omega (arith, l .loop-test .left, loop .inv .0) in
-    (ap (λ k. given (record { start = loop .start; end = k })) e ∙ span-end _ _ _ _ (size l) (c .if3 .taken) ∙ loop .inv .2, (omega (arith, e, loop .inv .1), omega arith))
+    let e : top l .args .n ≡ loop .i = omega (arith, l .loop-test .left, loop .inv .0) in (
+      ap (λ k. given (record { start = loop .start; end = k })) e ∙ span-end _ _ _ _ (size l) (c .if3 .taken)
+          ∙ loop .inv .2,
+      (omega (arith, e, loop .inv .1), omega arith),
+    )
 
 returns-3 : tie.Need-returns-3 Inv-loop μ-loop
 returns-3 c = let l = c .before in (span-past _ _ _ _ (size l) (c .if3 .left) ∙ l .before .loop .inv .2, tt)

@@ -29,16 +29,19 @@ module _ (c : tie.Else1) where
 returns-2 : tie.Need-returns-2
 returns-2 c =
     let e = c .before .before .before in
-    let h = whole e in
-    (source-none (ws e) (h .holding) (h .is) (subst (Sourced (ws e)) (c .enum-told .given .1) (c .before .before .source-at .ensures) (h .holding) (h .is)), tt)
+    let h = whole e in (
+      source-none (ws e) (h .object) (h .is) (subst (Sourced (ws e)) (c .enum-told .given .1) (c .before .before .source-at .ensures)
+          (h .object) (h .is)),
+      tt,
+    )
 
 -- and has a source
 module _ (c : tie.After-at) where
   abbrev top : tie.Else1
   top = c .before .before .before
 
-  found : ((whole top .holding) .source ≡ some (textAt (ws top) (c .at .given .0 .0))) × Text (bodyAt (ws top) (c .at .given .0 .0))
-  found = subst (Sourced (ws top)) (c .at .given .1) (c .before .before .source-at .ensures) (whole top .holding) (whole top .is)
+  found : ((whole top .object) .source ≡ some (textAt (ws top) (c .at .given .0 .0))) × Text (bodyAt (ws top) (c .at .given .0 .0))
+  found = subst (Sourced (ws top)) (c .at .given .1) (c .before .before .source-at .ensures) (whole top .object) (whole top .is)
 
 returns-3 : tie.Need-returns-3
 returns-3 c =
@@ -49,7 +52,7 @@ returns-3 c =
     let n = c .text-len .result in
     let t = found a .1 in
     let size : n ≡ length (textAt ws p) = c .text-len .ensures ∙ ap (textLen ws p) (c .before .body-end .ensures) ∙ text-len ws p t in (
-      source-some ws (h .holding) (textAt ws p) (textBytes ws p n) (h .is) (found a .0) (ap (textBytes ws p) size ∙ text-bytes ws p t),
+      source-some ws (h .object) (textAt ws p) (textBytes ws p n) (h .is) (found a .0) (ap (textBytes ws p) size ∙ text-bytes ws p t),
       omega (arith, size, text-within ws p t),
     )
 

@@ -21,7 +21,8 @@ module _ (s : tie.Start) where
 returns : tie.Need-returns
 returns c =
     let s = c .before .before .before in
-    before-is (line s) (k s) true (endsWhite (line s) (k s) 2) (endsWhite (line s) (k s) 3) (sym (c .if1 .taken) ∙ c .before .ends-white .ensures) refl refl
+    before-is (line s) (k s) true (endsWhite (line s) (k s) 2) (endsWhite (line s) (k s) 3)
+    (sym (c .if1 .taken) ∙ c .before .ends-white .ensures) refl refl
 
 returns-2 : tie.Need-returns-2
 returns-2 c =
