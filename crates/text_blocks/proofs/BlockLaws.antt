@@ -1,0 +1,294 @@
+-- Blocks of .TEXT at places.
+-- Assumes nothing.
+use mathlib.Core.Path.{_≡_, refl, sym, ap, _∙_, subst}
+use mathlib.Core.Bool.{Bool, true, false, true≢false, not}
+use mathlib.Core.List.{List, [], _∷_}
+use mathlib.Core.Option.{Option, none, some}
+use Prim.Native.Nat.{ℕ, zero, suc, _+_, _-_, _≤_, _<_, compare, Ordering, Ordering·lt, Ordering·eq, Ordering·gt}
+use native.Mathlib.Omega.{arith}
+use lib.ListN.{length, take, drop, getD, set, length-set}
+use lib.Seq.{getD-set-same, getD-set-other, drop-drop}
+use lib.Dec.{leb, eqb, isEq}
+use borrow.Author.Tests.{eq-eqb, ne-eqb, eqb-true, eqb-false, leb-true, leb-false}
+use Rattle.format.specs.Basics.{Outcome, refused, given, _>>=_, ask, need, andThen, allSome, if_then_else_, isSome}
+use Rattle.format.specs.Tokens.{Parts, scanTokens}
+use Rattle.format.specs.Sorted.{order, thenBy, atKey}
+use Rattle.format.proofs.SortedLaws.{atKey-upsert}
+use Rattle.format.specs.TextReader.{hex2u16, parseDecimal, parseNumber, maybeHex2u16, blockAt, parseTextGroup}
+use Rattle.format.specs.ObjectFile.{ObjectFile, Block, blockKey}
+use Rattle.format.specs.Records.{putRecord, block}
+use Rattle.trim.specs.Span.{part}
+use Rattle.text_lines.specs.Groups.{partsFrom, RowAt}
+use Rattle.text_lines.proofs.RowLaws.{rows-on, row-groups}
+use Rattle.text_blocks.specs.Blocks.{wordsIn, blockIn, EntriesAt, BlockFrom, NoBlock, Seen, Settles}
+use Rattle.text_lines.proofs.TestLaws.{by-test}
+
+enough : (n : ℕ) (ls : List (List ℕ)) → n ≤ length ls → allSome maybeHex2u16 (take n ls) ≡ wordsIn n ls
+unfolding allSome wordsIn
+enough zero ls h = refl
+enough (suc n) [] h = absurd (omega arith)
+enough (suc n) (l ∷ ls) h = ap (λ (o : Option (List (Option ℕ))). andThen (maybeHex2u16 l) λ w. andThen o λ ws. some (w ∷ ws)) (enough n ls (omega arith))
+
+none-after : {A B C : Type 0} (o : Option A) (f : A → B → C) → andThen o (λ w. andThen none λ ws. some (f w ws)) ≡ none
+none-after none f = refl
+none-after (some a) f = refl
+
+short : (n : ℕ) (ls : List (List ℕ)) → length ls < n → wordsIn n ls ≡ none
+unfolding wordsIn
+short zero ls h = absurd (omega arith)
+short (suc n) [] h = refl
+short (suc n) (l ∷ ls) h = rw (short n ls (omega arith)) (none-after (maybeHex2u16 l) (λ w ws. w ∷ ws))
+
+-- the count's question and the entries' are one
+pub words-take : {B : Type 0} (n : ℕ) (ls : List (List ℕ)) (f : List (Option ℕ) → Outcome B)
+    → (ask 24 (leb n (length ls)) >>= λ _. need 24 (allSome maybeHex2u16 (take n ls)) >>= f) ≡ (need 24 (wordsIn n ls) >>= f)
+words-take n ls f =
+    by-test (leb n (length ls))
+    (λ t. rw t (ap (λ (o : Option (List (Option ℕ))). need 24 o >>= f) (enough n ls (leb-true n (length ls) t))))
+    (λ t. rw (t, short n ls (leb-false n (length ls) t)))
+
+-- a block is parsed, asked whether it is new, and put
+unfoldable pub putNew : ObjectFile → Block × ℕ → Outcome (ObjectFile × ℕ)
+putNew h p = ask 25 (not (isSome (atKey blockKey ((p .0 .address) ∷ []) (h .blocks)))) >>= λ _. given (putRecord h (block (p .0)), suc (p .1))
+
+pub block-at : (h : ObjectFile) (l : List ℕ) (ls : List (List ℕ)) → blockAt h (l ∷ ls) ≡ (need 24 (blockIn (l ∷ ls)) >>= λ p. putNew h p)
+unfolding blockAt blockIn putNew
+block-at h l [] = refl
+block-at h l (c ∷ ls) = go (hex2u16 l) (parseDecimal 65536 c)
+  where
+    rest : ℕ → ℕ → List (Option ℕ) → Outcome (ObjectFile × ℕ)
+    rest a n ws = putNew h (record { address = a; words = ws }, n)
+
+    last : (a n : ℕ) (o : Option (List (Option ℕ))) → (need 24 o >>= rest a n) ≡ (need 24 (andThen o λ ws. some (record { address = a; words = ws }, n)) >>= λ p. putNew h p)
+    last a n none = refl
+    last a n (some ws) = refl
+
+    go : (o p : Option ℕ)
+        → (need 24 o >>= λ a. need 24 p >>= λ n. ask 24 (leb n (length ls)) >>= λ _. need 24 (allSome maybeHex2u16 (take n ls)) >>= rest a n)
+        ≡ (need 24 (andThen o λ a. andThen p λ n. andThen (wordsIn n ls) λ ws. some (record { address = a; words = ws }, n)) >>= λ p. putNew h p)
+    go none p = refl
+    go (some a) none = refl
+    go (some a) (some n) = words-take n ls (rest a n) ∙ last a n (wordsIn n ls)
+
+scan-drop : {A S : Type 0} (one : S → List A → Outcome (S × ℕ)) (s : S) (k : ℕ) (xs : List A) → scanTokens one s k xs ≡ scanTokens one s 0 (drop k xs)
+unfolding scanTokens
+scan-drop one s zero [] = refl
+scan-drop one s (suc k) [] = refl
+scan-drop one s zero (a ∷ xs) = refl
+scan-drop one s (suc k) (a ∷ xs) = scan-drop one s k xs
+
+module _ (h : ObjectFile) (rows : List (List ℕ)) where
+  pub text-end : rows ≡ [] → parseTextGroup h rows ≡ given h
+  unfolding parseTextGroup scanTokens
+  text-end e = rw e
+
+  module _ (l : List ℕ) (ls : List (List ℕ)) (r : rows ≡ l ∷ ls) where
+    step : (o : Option (Block × ℕ)) → blockIn rows ≡ o → parseTextGroup h rows ≡ ((need 24 o >>= λ p. putNew h p) >>= λ t. scanTokens blockAt (t .0) (t .1) ls)
+    unfolding parseTextGroup scanTokens
+    step o e = ap (λ (x : List (List ℕ)). scanTokens blockAt h 0 x) r ∙ ap (λ (x : Outcome (ObjectFile × ℕ)). x >>= λ t. scanTokens blockAt (t .0) (t .1) ls) (block-at h l ls ∙ ap (λ (x : Option (Block × ℕ)). need 24 x >>= λ p. putNew h p) (ap blockIn (sym r) ∙ e))
+
+    pub text-bad : blockIn rows ≡ none → parseTextGroup h rows ≡ refused 24
+    text-bad e = step none e
+
+    pub text-again : (b : Block) (n : ℕ) → blockIn rows ≡ some (b, n) → isSome (atKey blockKey ((b .address) ∷ []) (h .blocks)) ≡ true → parseTextGroup h rows ≡ refused 25
+    unfolding putNew
+    text-again b n e f = step (some (b, n)) e ∙ rw f
+
+    pub text-on : (b : Block) (n : ℕ) → blockIn rows ≡ some (b, n) → isSome (atKey blockKey ((b .address) ∷ []) (h .blocks)) ≡ false → parseTextGroup h rows ≡ parseTextGroup (putRecord h (block b)) (drop (suc n) ls)
+    unfolding putNew parseTextGroup
+    text-on b n e f = step (some (b, n)) e ∙ rw f (scan-drop blockAt (putRecord h (block b)) (suc n) ls)
+
+-- marks
+then-eq : (o : Ordering) → isEq (thenBy o Ordering·eq) ≡ isEq o
+then-eq Ordering·lt = refl
+then-eq Ordering·eq = refl
+then-eq Ordering·gt = refl
+
+order-one : (x a : ℕ) → isEq (order (x ∷ []) (a ∷ [])) ≡ eqb x a
+unfolding order
+order-one x a = then-eq (compare x a)
+
+pub seen-put : (h : ObjectFile) (seen : List ℕ) (b : Block) → Seen h seen → b .address < length seen → Seen (putRecord h (block b)) (set seen (b .address) 1)
+unfolding putRecord isSome
+seen-put h seen b s l x =
+    ap (λ (o : Option Block). isSome o) (atKey-upsert blockKey (x ∷ []) b (h .blocks) ∙ ap (λ (t : Bool). if t then some b else atKey blockKey (x ∷ []) (h .blocks)) (order-one x (b .address)))
+    ∙ by-test (eqb x (b .address))
+    (λ t. let q : x ≡ b .address = eqb-true x (b .address) t in
+    rw (t, q, getD-set-same seen (b .address) 1 0 l) refl)
+    (λ t. rw (t, getD-set-other seen (b .address) x 1 0 (eqb-false x (b .address) t)) (s x))
+
+-- a step over entries
+module _ (t : List ℕ) (at a e n : ℕ) (l : RowAt t at a e n) where
+  rows-at : partsFrom t at .before ≡ part a e t ∷ partsFrom t n .before
+  rows-at = rows-on t at a e n l
+
+  pub words-on : (k : ℕ) (w : Option ℕ) → 0 < k → some w ≡ maybeHex2u16 (part a e t) → isSome (wordsIn (k - 1) (partsFrom t n .before)) ≡ isSome (wordsIn k (partsFrom t at .before))
+  unfolding wordsIn isSome
+  words-on zero w h q = absurd (omega arith)
+  words-on (suc k) w h q =
+      let z : suc k - 1 ≡ k = omega arith in
+      ap (λ (j : ℕ). isSome (wordsIn j (partsFrom t n .before))) z
+      ∙ sym (ap (λ (x : List (List ℕ)). isSome (wordsIn (suc k) x)) rows-at ∙ ap (λ (o : Option (Option ℕ)). isSome (andThen o λ w. andThen (wordsIn k (partsFrom t n .before)) λ ws. some (w ∷ ws))) (sym q) ∙ go w (wordsIn k (partsFrom t n .before)))
+    where
+      go : (w : Option ℕ) (o : Option (List (Option ℕ))) → isSome (andThen o λ ws. some (w ∷ ws)) ≡ isSome o
+      go w none = refl
+      go w (some ws) = refl
+
+  pub words-bad : (k : ℕ) → 0 < k → none ≡ maybeHex2u16 (part a e t) → isSome (wordsIn k (partsFrom t at .before)) ≡ false
+  unfolding wordsIn isSome
+  words-bad zero h q = absurd (omega arith)
+  words-bad (suc k) h q = ap (λ (x : List (List ℕ)). isSome (wordsIn (suc k) x)) rows-at ∙ rw (← q)
+
+pub words-none : (t : List ℕ) (at k : ℕ) → 0 < k → partsFrom t at .before ≡ [] → isSome (wordsIn k (partsFrom t at .before)) ≡ false
+unfolding wordsIn isSome
+words-none t at zero h q = absurd (omega arith)
+words-none t at (suc k) h q = ap (λ (x : List (List ℕ)). isSome (wordsIn (suc k) x)) q
+
+-- what the loop over entries knows
+pub record Passing (t : List ℕ) (at n i left : ℕ) : Type 0 where
+  pub from : at ≤ i
+  pub few : left ≤ n
+  pub same : partsFrom t i ≡ record { before = drop (n - left) (partsFrom t at .before); groups = partsFrom t at .groups }
+  pub read : isSome (wordsIn left (partsFrom t i .before)) ≡ isSome (wordsIn n (partsFrom t at .before))
+
+pub passing-begin : (t : List ℕ) (at n : ℕ) → Passing t at n at n
+passing-begin t at n =
+    let k : 0 ≡ n - n = omega arith in
+    record {
+      from = omega arith;
+      few = omega arith;
+      same = ap (λ (j : ℕ). record { before = drop j (partsFrom t at .before); groups = partsFrom t at .groups }) k;
+      read = refl;
+    }
+
+pub passing-on : (t : List ℕ) (at n i left a e x : ℕ) → Passing t at n i left → RowAt t i a e x → (w : Option ℕ) → 0 < left → some w ≡ maybeHex2u16 (part a e t) → Passing t at n x (left - 1)
+passing-on t at n i left a e x p l w h q =
+    let f : left ≤ n = p .few in
+    let k : n - left + 1 ≡ n - (left - 1) = omega arith in
+    let rest : partsFrom t x .before ≡ drop 1 (partsFrom t i .before) = sym (ap (λ (r : List (List ℕ)). drop 1 r) (rows-at t i a e x l)) in
+    let rest2 : partsFrom t x .before ≡ drop (n - (left - 1)) (partsFrom t at .before) = rest ∙ ap (λ (r : Parts (List ℕ)). drop 1 (r .before)) (p .same) ∙ drop-drop 1 (n - left) (partsFrom t at .before) ∙ ap (λ (j : ℕ). drop j (partsFrom t at .before)) k in
+    let gs : partsFrom t x .groups ≡ partsFrom t at .groups = row-groups t i a e x l ∙ ap (λ (r : Parts (List ℕ)). r .groups) (p .same) in
+    record {
+      from = omega (arith, p .from, l .on);
+      few = omega arith;
+      same = ap (λ (b : List (List ℕ)). record { before = b; groups = partsFrom t x .groups }) rest2 ∙ ap (λ (g : List (List ℕ × List (List ℕ))). record { before = drop (n - (left - 1)) (partsFrom t at .before); groups = g }) gs;
+      read = words-on t i a e x l left w h q ∙ p .read;
+    }
+
+pub passing-end : (t : List ℕ) (at n i left : ℕ) → Passing t at n i left → left ≤ 0 → EntriesAt t at n i
+unfolding wordsIn isSome
+passing-end t at n i left p h =
+    let z : left ≡ 0 = omega arith in
+    let k : n - left ≡ n = omega arith in
+    record {
+      from = p .from;
+      read = sym (p .read) ∙ ap (λ (j : ℕ). isSome (wordsIn j (partsFrom t i .before))) z;
+      same = p .same ∙ ap (λ (j : ℕ). record { before = drop j (partsFrom t at .before); groups = partsFrom t at .groups }) k;
+    }
+
+-- an entry that is there
+pub there-is : {A : Type 0} (o : Option A) → isSome o ≡ true → (w : A) × (some w ≡ o)
+unfolding isSome
+there-is none h = absurd (true≢false (sym h))
+there-is (some w) h = (w, refl)
+
+pub there-is-none : {A : Type 0} (o : Option A) → isSome o ≡ false → none ≡ o
+unfolding isSome
+there-is-none none h = refl
+there-is-none (some w) h = absurd (true≢false h)
+
+-- a block's lines, one after the other
+blockIn-hex : (l : List ℕ) (ls : List (List ℕ)) → none ≡ hex2u16 l → blockIn (l ∷ ls) ≡ none
+unfolding blockIn
+blockIn-hex l [] e = refl
+blockIn-hex l (c ∷ ls) e = rw (← e)
+
+module _ (t : List ℕ) (at a e n : ℕ) (l : RowAt t at a e n) where
+  no-block : (ls : List (List ℕ)) → partsFrom t at .before ≡ part a e t ∷ ls → blockIn (part a e t ∷ ls) ≡ none → NoBlock t at
+  no-block ls r q = record { first = part a e t; lines = ls; rows = r; read = ap blockIn r ∙ q }
+
+  pub block-no0 : none ≡ hex2u16 (part a e t) → NoBlock t at
+  block-no0 q = no-block (partsFrom t n .before) (rows-at t at a e n l) (blockIn-hex (part a e t) (partsFrom t n .before) q)
+
+  pub block-no1 : partsFrom t n .before ≡ [] → NoBlock t at
+  unfolding blockIn
+  block-no1 q = no-block [] (rows-at t at a e n l ∙ ap (λ (ls : List (List ℕ)). part a e t ∷ ls) q) refl
+
+  module _ (c f m : ℕ) (k : RowAt t n c f m) (d : ℕ) (hd : some d ≡ hex2u16 (part a e t)) where
+    two : partsFrom t at .before ≡ part a e t ∷ part c f t ∷ partsFrom t m .before
+    two = rows-at t at a e n l ∙ ap (λ (ls : List (List ℕ)). part a e t ∷ ls) (rows-at t n c f m k)
+
+    pub block-no2 : none ≡ parseNumber 10 65536 (part c f t) → NoBlock t at
+    unfolding blockIn
+    block-no2 q = no-block (part c f t ∷ partsFrom t m .before) two (rw (← hd, ← q))
+
+    pub block-no3 : (x : ℕ) → some x ≡ parseNumber 10 65536 (part c f t) → isSome (wordsIn x (partsFrom t m .before)) ≡ false → NoBlock t at
+    unfolding blockIn
+    block-no3 x q w = no-block (part c f t ∷ partsFrom t m .before) two (rw (← hd, ← q, ← there-is-none (wordsIn x (partsFrom t m .before)) w))
+
+    block-of : (x q : ℕ) → d < 65536 → some x ≡ parseNumber 10 65536 (part c f t) → EntriesAt t m x q → (ws : List (Option ℕ)) → some ws ≡ wordsIn x (partsFrom t m .before) → BlockFrom t at d x m q
+    unfolding blockIn
+    block-of x q small g w ws r =
+        record {
+          on = omega (arith, l .on, k .on, w .from);
+          inside = omega (arith, l .on, l .next);
+          address = small;
+          words = ws;
+          lines = part c f t ∷ partsFrom t m .before;
+          first = part a e t;
+          rows = two;
+          read = ap blockIn two ∙ rw (← hd, ← g, ← r);
+          there = sym r;
+          rest = ap (λ (p : Parts (List ℕ)). p .before) (w .same);
+          groups = ap (λ (p : Parts (List ℕ)). p .groups) (w .same) ∙ row-groups t n c f m k ∙ row-groups t at a e n l;
+        }
+
+    pub block-yes : (x q : ℕ) → d < 65536 → some x ≡ parseNumber 10 65536 (part c f t) → EntriesAt t m x q → BlockFrom t at d x m q
+    block-yes x q small g w = let ws = there-is (wordsIn x (partsFrom t m .before)) (w .read) in block-of x q small g w (ws .0) (ws .1)
+
+-- what the loop over blocks knows: the holding that the definition's scan has by now, whichever stood at first
+pub record Marking (t : List ℕ) (at : ℕ) (seen₀ : List ℕ) (i : ℕ) (seen : List ℕ) : Type 0 where
+  pub from : at ≤ i
+  pub size : length seen ≡ length seen₀
+  pub groups : partsFrom t i .groups ≡ partsFrom t at .groups
+  pub stands : (h₀ : ObjectFile) → Seen h₀ seen₀ → (h : ObjectFile) × Seen h seen × (parseTextGroup h (partsFrom t i .before) ≡ parseTextGroup h₀ (partsFrom t at .before))
+
+pub marking-begin : (t : List ℕ) (at : ℕ) (seen : List ℕ) → Marking t at seen at seen
+marking-begin t at seen = record { from = omega arith; size = refl; groups = refl; stands = λ h₀ s. (h₀, s, refl) }
+
+module _ (t : List ℕ) (at : ℕ) (seen₀ : List ℕ) (i : ℕ) (seen : List ℕ) (m : Marking t at seen₀ i seen) where
+  pub marking-on : (a n p q : ℕ) → BlockFrom t i a n p q → (getD seen a 0 ≡ 1 → ⊥) → a < length seen → Marking t at seen₀ q (set seen a 1)
+  marking-on a n p q b new l =
+      record {
+        from = omega (arith, m .from, b .on);
+        size = length-set seen a 1 ∙ m .size;
+        groups = b .groups ∙ m .groups;
+        stands = λ h₀ s.
+            let w = m .stands h₀ s in (
+              putRecord (w .0) (block (record { address = a; words = b .words })),
+              seen-put (w .0) seen (record { address = a; words = b .words }) (w .1) l,
+              ap (parseTextGroup (putRecord (w .0) (block (record { address = a; words = b .words })))) (b .rest)
+                  ∙ sym (text-on (w .0) (partsFrom t i .before) (b .first) (b .lines) (b .rows) (record { address = a; words = b .words }) n (b .read) (w .1 a ∙ ne-eqb (getD seen a 0) 1 new))
+                  ∙ w .2,
+            );
+      }
+
+  settled-as : (o : Outcome ObjectFile) (number : ℕ) (h₀ : ObjectFile) → o ≡ parseTextGroup h₀ (partsFrom t at .before) → Settles o number seen → Settles (parseTextGroup h₀ (partsFrom t at .before)) number seen
+  settled-as o number h₀ e s = subst (λ (x : Outcome ObjectFile). Settles x number seen) e s
+
+  pub marking-again : (a n p q : ℕ) → BlockFrom t i a n p q → getD seen a 0 ≡ 1 → (h₀ : ObjectFile) → Seen h₀ seen₀ → Settles (parseTextGroup h₀ (partsFrom t at .before)) 25 seen
+  marking-again a n p q b old h₀ s =
+      let w = m .stands h₀ s in
+      settled-as (refused 25) 25 h₀
+      (sym (text-again (w .0) (partsFrom t i .before) (b .first) (b .lines) (b .rows) (record { address = a; words = b .words }) n (b .read) (w .1 a ∙ eq-eqb (getD seen a 0) 1 old)) ∙ w .2)
+      refl
+
+  pub marking-bad : NoBlock t i → (h₀ : ObjectFile) → Seen h₀ seen₀ → Settles (parseTextGroup h₀ (partsFrom t at .before)) 24 seen
+  marking-bad b h₀ s =
+      let w = m .stands h₀ s in
+      settled-as (refused 24) 24 h₀ (sym (text-bad (w .0) (partsFrom t i .before) (b .first) (b .lines) (b .rows) (b .read)) ∙ w .2) refl
+
+  pub marking-end : partsFrom t i .before ≡ [] → (h₀ : ObjectFile) → Seen h₀ seen₀ → Settles (parseTextGroup h₀ (partsFrom t at .before)) 0 seen
+  marking-end e h₀ s =
+      let w = m .stands h₀ s in
+      settled-as (given (w .0)) 0 h₀ (sym (text-end (w .0) (partsFrom t i .before) e) ∙ w .2) (refl, w .1)

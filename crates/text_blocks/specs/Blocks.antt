@@ -1,0 +1,84 @@
+-- .TEXT from a place on: blocks, parsed first and put then, and the addresses seen so far.
+-- Assumes nothing.
+use mathlib.Core.Path.{_≡_}
+use mathlib.Core.Bool.{true, false}
+use mathlib.Core.List.{List, [], _∷_}
+use mathlib.Core.Option.{Option, none, some}
+use Prim.Native.Nat.{ℕ, zero, suc, _≤_, _<_}
+use lib.ListN.{length, drop, getD}
+use lib.Dec.{eqb}
+use Rattle.format.specs.Basics.{Outcome, refused, given, andThen, isSome}
+use Rattle.format.specs.Sorted.{atKey}
+use Rattle.format.specs.TextReader.{hex2u16, parseDecimal, maybeHex2u16, parseTextGroup}
+use Rattle.format.specs.ObjectFile.{ObjectFile, Block, blockKey}
+use Rattle.text_lines.specs.declared.Passed.{Passed}
+use Rattle.text_lines.specs.declared.Passed.the-variants as pa
+use Rattle.text_blocks.specs.declared.BlockStep.{BlockStep}
+use Rattle.text_blocks.specs.declared.BlockStep.the-variants as bl
+use Rattle.text_lines.specs.Groups.{partsFrom}
+
+-- the entries of the first n lines
+unfoldable pub wordsIn : ℕ → List (List ℕ) → Option (List (Option ℕ))
+wordsIn zero ls = some []
+wordsIn (suc n) [] = none
+wordsIn (suc n) (l ∷ ls) = andThen (maybeHex2u16 l) λ w. andThen (wordsIn n ls) λ ws. some (w ∷ ws)
+
+-- the block that lines begin with, and its count
+unfoldable pub blockIn : List (List ℕ) → Option (Block × ℕ)
+blockIn [] = none
+blockIn (l ∷ []) = none
+blockIn (l ∷ c ∷ ls) =
+    andThen (hex2u16 l) λ a. andThen (parseDecimal 65536 c) λ n.
+    andThen (wordsIn n ls) λ ws. some (record { address = a; words = ws }, n)
+
+-- lines of the group that were passed over, n of them, all entries
+pub record EntriesAt (t : List ℕ) (at n q : ℕ) : Type 0 where
+  pub from : at ≤ q
+  pub read : isSome (wordsIn n (partsFrom t at .before)) ≡ true
+  pub same : partsFrom t q ≡ record { before = drop n (partsFrom t at .before); groups = partsFrom t at .groups }
+
+abbrev pub Entries : List ℕ → ℕ → ℕ → Passed → Type 0
+Entries t at n (pa.To q) = EntriesAt t at n q
+Entries t at n pa.Bad = isSome (wordsIn n (partsFrom t at .before)) ≡ false
+
+-- a block: its address and count, where its entries start, and the place after them
+pub record BlockFrom (t : List ℕ) (at a n p q : ℕ) : Type 0 where
+  pub on : at < q
+  pub inside : at < length t
+  pub address : a < 65536
+  pub words : List (Option ℕ)
+  pub lines : List (List ℕ)
+  pub first : List ℕ
+  pub rows : partsFrom t at .before ≡ first ∷ lines
+  pub read : blockIn (partsFrom t at .before) ≡ some (record { address = a; words = words }, n)
+  pub there : wordsIn n (partsFrom t p .before) ≡ some words
+  pub rest : partsFrom t q .before ≡ drop (suc n) lines
+  pub groups : partsFrom t q .groups ≡ partsFrom t at .groups
+
+pub record NoBlock (t : List ℕ) (at : ℕ) : Type 0 where
+  pub first : List ℕ
+  pub lines : List (List ℕ)
+  pub rows : partsFrom t at .before ≡ first ∷ lines
+  pub read : blockIn (partsFrom t at .before) ≡ none
+
+abbrev pub NextBlock : List ℕ → ℕ → BlockStep → Type 0
+NextBlock t at (bl.At a n p q) = BlockFrom t at a n p q
+NextBlock t at bl.Done = partsFrom t at .before ≡ []
+NextBlock t at bl.Bad = NoBlock t at
+
+-- the addresses that the holding has blocks at are marked by 1
+abbrev pub Seen : ObjectFile → List ℕ → Type 0
+Seen h seen = (a : ℕ) → isSome (atKey blockKey (a ∷ []) (h .blocks)) ≡ eqb (getD seen a 0) 1
+
+-- an outcome has this number, and with 0 its addresses are marked
+abbrev pub Settles : Outcome ObjectFile → ℕ → List ℕ → Type 0
+Settles (refused n) number seen = number ≡ n
+Settles (given h) number seen = (number ≡ 0) × Seen h seen
+
+-- What a check of .TEXT's lines comes to, from marks that stand for any object. With fewer than 65,536 marks nothing is marked: 3.
+pub record BlocksChecked (t : List ℕ) (at : ℕ) (seen seen′ : List ℕ) (number next : ℕ) : Type 0 where
+  pub from : at ≤ next
+  pub after : number ≡ 0 → partsFrom t next ≡ record { before = []; groups = partsFrom t at .groups }
+  pub short : length seen < 65536 → (number ≡ 3) × (seen′ ≡ seen)
+  pub settles : 65536 ≤ length seen → (h : ObjectFile) → Seen h seen
+      → Settles (parseTextGroup h (partsFrom t at .before)) number seen′

@@ -1,0 +1,148 @@
+-- Dividers and cells at places.
+-- Assumes nothing.
+use mathlib.Core.Path.{_≡_, refl, sym, ap, _∙_}
+use mathlib.Core.Bool.{Bool, true, false, _&&_}
+use mathlib.Core.List.{List, [], _∷_}
+use mathlib.Core.Option.{none, some}
+use Prim.Native.Nat.{ℕ, zero, suc, _+_, _-_, _≤_, _<_}
+use native.Mathlib.Omega.{arith}
+use lib.ListN.{length, take, drop, getD, length-drop}
+use lib.Seq.{drop-length, take-nil}
+use lib.Dec.{ltb, eqb}
+use borrow.Author.Tests.{ne-eqb, ltb-true, ltb-false}
+use Rattle.format.specs.Basics.{beginsWith, ascii}
+use Rattle.format.specs.TextReader.{splitOnce, splitn}
+use Rattle.trim.specs.Span.{Spans}
+use Rattle.text_lines.proofs.TestLaws.{by-test, front, and-no}
+use Rattle.text_lines.proofs.LineLaws.{to-end}
+
+-- a divider at a place
+abbrev pub barAt : List ℕ → ℕ → Bool
+barAt s p = beginsWith (0x20 ∷ 0x7C ∷ 0x20 ∷ []) (drop p s)
+
+three : (s : List ℕ) (p : ℕ) → p + 2 < length s → drop p s ≡ getD s p 0 ∷ getD s (p + 1) 0 ∷ getD s (p + 2) 0 ∷ drop (p + 2 + 1) s
+three s p h =
+    let k : p + 1 + 1 ≡ p + 2 = omega arith in
+    front 0 s p (omega arith)
+    ∙ ap (λ (l : List ℕ). getD s p 0 ∷ l) (front 0 s (p + 1) (omega arith) ∙ ap (λ (l : List ℕ). getD s (p + 1) 0 ∷ l) (ap (λ (j : ℕ). drop j s) k ∙ front 0 s (p + 2) h))
+
+module _ (s : List ℕ) (p : ℕ) (h : p + 2 < length s) where
+  pub bar-yes : getD s p 0 ≡ 0x20 → getD s (p + 1) 0 ≡ 0x7C → getD s (p + 2) 0 ≡ 0x20 → barAt s p ≡ true
+  unfolding beginsWith
+  bar-yes a b c = rw (three s p h, a, b, c)
+
+  pub bar-no0 : (getD s p 0 ≡ 0x20 → ⊥) → barAt s p ≡ false
+  unfolding beginsWith
+  bar-no0 a = rw (three s p h, ne-eqb 0x20 (getD s p 0) (λ q. a (sym q)))
+
+  pub bar-no1 : (getD s (p + 1) 0 ≡ 0x7C → ⊥) → barAt s p ≡ false
+  unfolding beginsWith
+  bar-no1 a = rw (three s p h, ne-eqb 0x7C (getD s (p + 1) 0) (λ q. a (sym q))) (and-no (eqb 0x20 (getD s p 0)))
+
+  pub bar-no2 : (getD s (p + 2) 0 ≡ 0x20 → ⊥) → barAt s p ≡ false
+  unfolding beginsWith
+  bar-no2 a =
+      rw (three s p h, ne-eqb 0x20 (getD s (p + 2) 0) (λ q. a (sym q)))
+      (ap (λ (t : Bool). eqb 0x20 (getD s p 0) && t) (and-no (eqb 0x7C (getD s (p + 1) 0))) ∙ and-no (eqb 0x20 (getD s p 0)))
+
+-- too few bytes
+short : (bs : List ℕ) → length bs < 3 → beginsWith (0x20 ∷ 0x7C ∷ 0x20 ∷ []) bs ≡ false
+unfolding beginsWith
+short [] h = refl
+short (a ∷ []) h = and-no (eqb 0x20 a)
+short (a ∷ b ∷ []) h = ap (λ (t : Bool). eqb 0x20 a && t) (and-no (eqb 0x7C b)) ∙ and-no (eqb 0x20 a)
+short (a ∷ b ∷ c ∷ bs) h = absurd (omega arith)
+
+pub bar-short : (s : List ℕ) (p : ℕ) → length s - p < 3 → barAt s p ≡ false
+bar-short s p h = short (drop p s) (omega (arith, length-drop p s))
+
+-- the first divider, or none
+pub cut-at : (s : List ℕ) (i : ℕ) → i < length s → ((p : ℕ) → p < i → barAt s p ≡ false) → barAt s i ≡ true → splitOnce s ≡ some (take i s, drop (i + 3) s)
+unfolding splitOnce ascii
+cut-at [] i l n y = absurd (omega arith)
+cut-at (b ∷ bs) zero l n y = rw y
+cut-at (b ∷ bs) (suc i) l n y =
+    let r = cut-at bs i (omega arith) (λ p h. n (suc p) (omega arith)) y in
+    let k : suc i + 3 ≡ suc (i + 3) = omega arith in
+    rw (n 0 (omega arith), r) (ap (λ (j : ℕ). some (b ∷ take i bs, drop j (b ∷ bs))) (sym k))
+
+pub cut-none : (s : List ℕ) → ((p : ℕ) → p < length s → barAt s p ≡ false) → splitOnce s ≡ none
+unfolding splitOnce ascii
+cut-none [] n = refl
+cut-none (b ∷ bs) n = rw (n 0 (omega arith), cut-none bs (λ p h. n (suc p) (omega arith)))
+
+-- cells
+module _ (bs : List ℕ) where
+  pub cells-none : (j : ℕ) → getD (splitn 0 bs) (suc j) [] ≡ []
+  unfolding splitn
+  cells-none j = refl
+
+  pub cells-cut : (k p : ℕ) → splitOnce bs ≡ some (take p bs, drop (p + 3) bs) → splitn (suc k) bs ≡ take p bs ∷ splitn k (drop (p + 3) bs)
+  unfolding splitn
+  cells-cut k p e = rw e
+
+  pub cells-last : (k : ℕ) → splitOnce bs ≡ none → splitn (suc k) bs ≡ bs ∷ []
+  unfolding splitn
+  cells-last k e = rw e
+
+  pub cells-whole : splitn 0 bs ≡ bs ∷ []
+  unfolding splitn
+  cells-whole = refl
+
+-- a cell, cut by cut
+module _ (bs : List ℕ) where
+  pub cell-none0 : (cuts j : ℕ) → cuts ≡ 0 → 0 < j → getD (splitn cuts bs) j [] ≡ []
+  unfolding splitn
+  cell-none0 zero zero e h = absurd (omega arith)
+  cell-none0 zero (suc j) e h = refl
+  cell-none0 (suc k) j e h = absurd (omega arith)
+
+  pub cell-none1 : (cuts j : ℕ) → (cuts ≡ 0 → ⊥) → splitOnce bs ≡ none → 0 < j → getD (splitn cuts bs) j [] ≡ []
+  cell-none1 zero j e c h = absurd (e refl)
+  cell-none1 (suc k) zero e c h = absurd (omega arith)
+  cell-none1 (suc k) (suc j) e c h = ap (λ (l : List (List ℕ)). getD l (suc j) []) (cells-last bs k c)
+
+  pub cell-on : (cuts j p : ℕ) → (cuts ≡ 0 → ⊥) → splitOnce bs ≡ some (take p bs, drop (p + 3) bs) → 0 < j → getD (splitn cuts bs) j [] ≡ getD (splitn (cuts - 1) (drop (p + 3) bs)) (j - 1) []
+  cell-on zero j p e c h = absurd (e refl)
+  cell-on (suc k) zero p e c h = absurd (omega arith)
+  cell-on (suc k) (suc j) p e c h =
+      let a : suc k - 1 ≡ k = omega arith in
+      let b : suc j - 1 ≡ j = omega arith in
+      ap (λ (l : List (List ℕ)). getD l (suc j) []) (cells-cut bs k p c)
+      ∙ sym (ap (λ (x : ℕ). getD (splitn x (drop (p + 3) bs)) (suc j - 1) []) a ∙ ap (λ (x : ℕ). getD (splitn k (drop (p + 3) bs)) x []) b)
+
+  pub cell-last0 : (cuts j : ℕ) → cuts ≡ 0 → j ≤ 0 → getD (splitn cuts bs) j [] ≡ bs
+  unfolding splitn
+  cell-last0 zero zero e h = refl
+  cell-last0 zero (suc j) e h = absurd (omega arith)
+  cell-last0 (suc k) j e h = absurd (omega arith)
+
+  pub cell-last1 : (cuts j : ℕ) → (cuts ≡ 0 → ⊥) → splitOnce bs ≡ none → j ≤ 0 → getD (splitn cuts bs) j [] ≡ bs
+  cell-last1 zero j e c h = absurd (e refl)
+  cell-last1 (suc k) zero e c h = ap (λ (l : List (List ℕ)). getD l 0 []) (cells-last bs k c)
+  cell-last1 (suc k) (suc j) e c h = absurd (omega arith)
+
+  pub cell-cut : (cuts j p : ℕ) → (cuts ≡ 0 → ⊥) → splitOnce bs ≡ some (take p bs, drop (p + 3) bs) → j ≤ 0 → getD (splitn cuts bs) j [] ≡ take p bs
+  cell-cut zero j p e c h = absurd (e refl)
+  cell-cut (suc k) zero p e c h = ap (λ (l : List (List ℕ)). getD l 0 []) (cells-cut bs k p c)
+  cell-cut (suc k) (suc j) p e c h = absurd (omega arith)
+
+-- spans of cells
+module _ (s : List ℕ) (x : List ℕ) where
+  pub spans-none : [] ≡ x → Spans s (length s) (length s) x
+  spans-none e =
+      record { ordered = omega arith; inside = omega arith; same = ap (take (length s - length s)) (drop-length s) ∙ take-nil (length s - length s) ∙ e }
+
+  pub spans-rest : (at : ℕ) → at ≤ length s → drop at s ≡ x → Spans s at (length s) x
+  spans-rest at h e = record { ordered = h; inside = omega arith; same = to-end s at ∙ e }
+
+  pub spans-first : (at p : ℕ) → at ≤ length s → p + 3 ≤ length (drop at s) → take p (drop at s) ≡ x → Spans s at (at + p) x
+  spans-first at p h k e =
+      let m : at + p - at ≡ p = omega arith in
+      record { ordered = omega arith; inside = omega (arith, length-drop at s); same = ap (λ (j : ℕ). take j (drop at s)) m ∙ e }
+
+pub bars-more : (s : List ℕ) (i : ℕ) → ((p : ℕ) → p < i → barAt s p ≡ false) → barAt s i ≡ false → (p : ℕ) → p < i + 1 → barAt s p ≡ false
+bars-more s i n e p h = by-test (ltb p i) (λ t. n p (ltb-true p i t)) (λ t. let q : p ≡ i = omega (arith, ltb-false p i t) in ap (barAt s) q ∙ e)
+
+pub bars-end : (s : List ℕ) (i : ℕ) → ((p : ℕ) → p < i → barAt s p ≡ false) → length s - i ≤ 2 → (p : ℕ) → p < length s → barAt s p ≡ false
+bars-end s i n h p l = by-test (ltb p i) (λ t. n p (ltb-true p i t)) (λ t. bar-short s p (omega (arith, ltb-false p i t)))

@@ -1,0 +1,131 @@
+-- Numbers, digit by digit.
+-- Assumes nothing.
+use mathlib.Core.Path.{_≡_, refl, sym, _∙_}
+use mathlib.Core.Bool.{true, false}
+use mathlib.Core.List.{List, [], _∷_}
+use mathlib.Core.Option.{Option, none, some}
+use Prim.Native.Nat.{ℕ, _+_, _-_, _*_, _/_, _≤_, _<_}
+use native.Mathlib.Omega.{arith}
+use native.Mathlib.Nat.{div-lt-iff-lt-mul, mul-le-mul-left, mul-one}
+use lib.ListN.{length, drop, getD, drop-of-length-le}
+use lib.Dec.{ltb, eqb}
+use borrow.Author.Tests.{lt-ltb, le-ltb, eq-eqb, ne-eqb, ltb-true, ltb-false, eqb-true, eqb-false}
+use Rattle.format.specs.Basics.{andThen, isEmpty, eqs, ascii}
+use Rattle.format.specs.TextReader.{digitValue, digitsFrom, withoutPlus, belowLimit, parseNumber, hex2u16, maybeHex2u16}
+use Rattle.text_cells.specs.Cells.{digitOr16}
+use Rattle.text_lines.proofs.TestLaws.{by-test, front}
+
+pub plus-none : (s : List ℕ) → length s ≡ 0 → drop 0 s ≡ withoutPlus s
+unfolding withoutPlus
+plus-none [] h = refl
+plus-none (b ∷ bs) h = absurd (omega arith)
+
+pub plus-yes : (s : List ℕ) → 0 < length s → getD s 0 0 ≡ 0x2B → drop 1 s ≡ withoutPlus s
+unfolding withoutPlus
+plus-yes [] h e = absurd (omega arith)
+plus-yes (b ∷ bs) h e = rw (eq-eqb b 0x2B e)
+
+pub plus-no : (s : List ℕ) → 0 < length s → (getD s 0 0 ≡ 0x2B → ⊥) → drop 0 s ≡ withoutPlus s
+unfolding withoutPlus
+plus-no [] h e = refl
+plus-no (b ∷ bs) h e = rw (ne-eqb b 0x2B e)
+
+-- a digit
+digit-no : (base b : ℕ) → base ≤ digitOr16 b → digitValue base b ≡ none
+unfolding digitValue digitOr16
+digit-no base b h = simp (le-ltb (digitOr16 b) base h)
+
+digit-yes : (base b : ℕ) → digitOr16 b < base → digitValue base b ≡ some (digitOr16 b)
+unfolding digitValue digitOr16
+digit-yes base b h = simp (lt-ltb (digitOr16 b) base h)
+
+module _ (base v : ℕ) (s : List ℕ) (i : ℕ) where
+  pub from-bad : i < length s → base ≤ digitOr16 (getD s i 0) → digitsFrom base v (drop i s) ≡ none
+  unfolding digitsFrom
+  from-bad h l = rw (front 0 s i h, digit-no base (getD s i 0) l)
+
+  pub from-on : i < length s → digitOr16 (getD s i 0) < base → digitsFrom base v (drop i s) ≡ digitsFrom base (v * base + digitOr16 (getD s i 0)) (drop (i + 1) s)
+  unfolding digitsFrom
+  from-on h l = rw (front 0 s i h, digit-yes base (getD s i 0) l)
+
+  pub from-end : length s ≤ i → digitsFrom base v (drop i s) ≡ some v
+  unfolding digitsFrom
+  from-end h = rw (drop-of-length-le s h)
+
+grows : (base n d : ℕ) → 0 < base → n ≤ n * base + d
+grows base n d h = let e : n * 1 ≤ n * base = mul-le-mul-left n h in omega (arith, mul-one n)
+
+-- past the limit nothing is read
+pub from-over : (limit base : ℕ) → 0 < base → (bs : List ℕ) (n : ℕ) → limit ≤ n → belowLimit limit (digitsFrom base n bs) ≡ none
+unfolding digitsFrom digitValue
+from-over limit base p [] n h = simp (le-ltb n limit h)
+from-over limit base p (b ∷ bs) n h = go (digitValue base b) (λ d. from-over limit base p bs (n * base + d) (let g = grows base n d p in omega arith))
+  where
+    go : (o : Option ℕ) → ((d : ℕ) → belowLimit limit (digitsFrom base (n * base + d) bs) ≡ none) → belowLimit limit (andThen o λ (d : ℕ). digitsFrom base (n * base + d) bs) ≡ none
+    go none r = refl
+    go (some d) r = r d
+
+-- the test before the product is made
+module _ (base max v d : ℕ) where
+  pub past : max < d → max + 1 ≤ v * base + d
+  past h = omega arith
+
+module _ (base max v d : ℕ) (p : 0 < base) where
+  pub over : (max - d) / base < v → max + 1 ≤ v * base + d
+  over h = let e : max - d < v * base = div-lt-iff-lt-mul p .0 h in omega arith
+
+  pub fits : d ≤ max → v ≤ (max - d) / base → v * base + d ≤ max
+  fits k h =
+      by-test (ltb (max - d) (v * base))
+      (λ t. let e : (max - d) / base < v = div-lt-iff-lt-mul p .1 (ltb-true (max - d) (v * base) t) in absurd (omega arith))
+      (λ t. let e : v * base ≤ max - d = ltb-false (max - d) (v * base) t in omega arith)
+
+pub below-some : (limit v : ℕ) → v < limit → belowLimit limit (some v) ≡ some v
+below-some limit v h = simp (lt-ltb v limit h)
+
+-- the number of a cell: none without a digit
+pub number-none : (base limit : ℕ) (s : List ℕ) (i : ℕ) → drop i s ≡ withoutPlus s → i ≡ length s → none ≡ parseNumber base limit s
+unfolding parseNumber isEmpty
+number-none base limit s i e h = rw (← e, drop-of-length-le s {i = i} (omega arith))
+
+pub number-from : (base limit : ℕ) (s : List ℕ) (i : ℕ) → drop i s ≡ withoutPlus s → i < length s → belowLimit limit (digitsFrom base 0 (drop i s)) ≡ parseNumber base limit s
+unfolding parseNumber isEmpty
+number-from base limit s i e h = rw (← e, front 0 s i h)
+
+pub hex-no : (s : List ℕ) → (length s ≡ 4 → ⊥) → none ≡ hex2u16 s
+unfolding hex2u16
+hex-no s h = rw (ne-eqb (length s) 4 h)
+
+pub hex-yes : (s : List ℕ) → length s ≡ 4 → parseNumber 16 65536 s ≡ hex2u16 s
+unfolding hex2u16
+hex-yes s h = rw (eq-eqb (length s) 4 h)
+
+-- a number that was read is below the limit
+below-small : (limit v : ℕ) (o : Option ℕ) → belowLimit limit o ≡ some v → v < limit
+below-small limit v none e = let z : _≡_ {A = ℕ} 0 1 = cc in absurd (omega arith)
+below-small limit v (some n) e =
+    by-test (ltb n limit)
+    (λ t. let q : some n ≡ some v = simp t at e in let r : n ≡ v = cc in omega (arith, ltb-true n limit t))
+    (λ t. let q : none ≡ some v = simp t at e in let z : _≡_ {A = ℕ} 0 1 = cc in absurd (omega arith))
+
+pub number-small : (base limit : ℕ) (s : List ℕ) (v : ℕ) → parseNumber base limit s ≡ some v → v < limit
+unfolding parseNumber
+number-small base limit s v e =
+    by-test (isEmpty (withoutPlus s))
+    (λ t. let q : none ≡ some v = simp t at e in let z : _≡_ {A = ℕ} 0 1 = cc in absurd (omega arith))
+    (λ t. let q : belowLimit limit (digitsFrom base 0 (withoutPlus s)) ≡ some v = simp t at e in below-small limit v (digitsFrom base 0 (withoutPlus s)) q)
+
+pub hex-small : (s : List ℕ) (v : ℕ) → some v ≡ hex2u16 s → v < 65536
+hex-small s v e =
+    by-test (eqb (length s) 4)
+    (λ t. number-small 16 65536 s v (hex-yes s (eqb-true (length s) 4 t) ∙ sym e))
+    (λ t. let q : none ≡ some v = hex-no s (eqb-false (length s) 4 t) ∙ sym e in let z : _≡_ {A = ℕ} 0 1 = cc in absurd (omega arith))
+
+module _ (s : List ℕ) where
+  pub entry-unknown : eqs s (63 ∷ 63 ∷ 63 ∷ 63 ∷ []) ≡ true → some none ≡ maybeHex2u16 s
+  unfolding maybeHex2u16 ascii
+  entry-unknown t = rw t
+
+  pub entry-hex : (o : Option ℕ) → eqs s (63 ∷ 63 ∷ 63 ∷ 63 ∷ []) ≡ false → o ≡ hex2u16 s → andThen o (λ (v : ℕ). some (some v)) ≡ maybeHex2u16 s
+  unfolding maybeHex2u16 ascii
+  entry-hex o t e = rw (t, ← e)

@@ -1,0 +1,340 @@
+-- Escapes at a cursor.
+-- Assumes nothing.
+use mathlib.Core.Path.{_≡_, refl, sym, ap, _∙_}
+use mathlib.Core.Bool.{Bool, true, false, _&&_}
+use mathlib.Core.List.{List, [], _∷_, flatMap}
+use mathlib.Core.Option.{Option, none, some}
+use Prim.Native.Nat.{ℕ, suc, _+_, _-_, _*_, _^_, _≤_, _<_}
+use native.Mathlib.Omega.{arith}
+use native.Mathlib.Nat.{pow-suc, pow-zero, pow-le-pow-right}
+use native.Mathlib.Numerals.{add-one}
+use lib.ListN.{length, take, drop, length-drop}
+use lib.Seq.{drop-drop}
+use lib.Dec.{eqb}
+use borrow.Author.Tests.{lt-ltb, le-ltb, le-leb, lt-leb, eq-eqb, ne-eqb}
+use Rattle.format.specs.Basics.{Outcome, refused, given, _>>=_, ask, beginsWith, ascii, if_then_else_, isSome}
+use Rattle.format.specs.Calls.{refusalOf}
+use Rattle.format.specs.Tokens.{tokens}
+use Rattle.format.specs.Utf8.{encodeScalar, isScalar, isBetween}
+use Rattle.format.specs.TextReader.{digitValue, digitsFrom, hexDigits, scalarOf, unicodeEscape, afterBackslash, unescapeAt, unescape}
+use Rattle.format.proofs.Laws.{tokens-step, tokens-stop}
+use Rattle.text_cells.specs.Cells.{digitOr16}
+use Rattle.text_source.specs.Stream.{bytesLeft}
+use Rattle.text_source.specs.Unescape.{escapeByte, EscapeAt, tokensLeft, TokenAt, NextDigits, NextEscape}
+use Rattle.text_source.specs.declared.Unicode.{Unicode}
+use Rattle.text_source.specs.declared.Unicode.the-variants as un
+use Rattle.text_source.specs.declared.Source.{Source}
+use Rattle.text_lines.proofs.TestLaws.{by-test, and-no, within-yes, within-low, within-high}
+
+digit-no : (b : ℕ) → 16 ≤ digitOr16 b → digitValue 16 b ≡ none
+unfolding digitValue digitOr16
+digit-no b h = simp (le-ltb (digitOr16 b) 16 h)
+
+digit-yes : (b : ℕ) → digitOr16 b < 16 → digitValue 16 b ≡ some (digitOr16 b)
+unfolding digitValue digitOr16
+digit-yes b h = simp (lt-ltb (digitOr16 b) 16 h)
+
+-- after n digits of `all` that give v, `rest` is left
+pub record Digits (all rest : List ℕ) (n v : ℕ) : Type 0 where
+  pub few : n ≤ 6
+  pub small : v < 16 ^ n
+  pub count : hexDigits all ≡ n + hexDigits rest
+  pub value : (m : ℕ) → digitsFrom 16 0 (take (n + m) all) ≡ digitsFrom 16 v (take m rest)
+  pub left : drop n all ≡ rest
+
+pub digits-begin : (all : List ℕ) → Digits all all 0 0
+digits-begin all =
+    record {
+      few = omega arith;
+      small = rw pow-zero (omega arith);
+      count = omega arith;
+      value = λ m. let k : 0 + m ≡ m = omega arith in ap (λ (j : ℕ). digitsFrom 16 0 (take j all)) k;
+      left = refl;
+    }
+
+hex-more : (b : ℕ) (bs : List ℕ) → digitOr16 b < 16 → hexDigits (b ∷ bs) ≡ suc (hexDigits bs)
+unfolding hexDigits isSome
+hex-more b bs h = rw (digit-yes b h)
+
+hex-stop : (b : ℕ) (bs : List ℕ) → 16 ≤ digitOr16 b → hexDigits (b ∷ bs) ≡ 0
+unfolding hexDigits isSome
+hex-stop b bs h = rw (digit-no b h)
+
+from-more : (v m b : ℕ) (bs : List ℕ) → digitOr16 b < 16 → digitsFrom 16 v (take (suc m) (b ∷ bs)) ≡ digitsFrom 16 (v * 16 + digitOr16 b) (take m bs)
+unfolding digitsFrom
+from-more v m b bs h = rw (digit-yes b h)
+
+pub digits-on : (all rest : List ℕ) (n v b : ℕ) (bs : List ℕ) (d : ℕ) → Digits all rest n v → rest ≡ b ∷ bs → d ≡ digitOr16 b → d < 16 → (n ≡ 6 → ⊥) → Digits all bs (n + 1) (v * 16 + d)
+digits-on all rest n v b bs d i e q h ne =
+    let h2 : digitOr16 b < 16 = rw q at h in
+    let f : n ≤ 6 = i .few in
+    let s : v < 16 ^ n = i .small in
+    let p : 16 ^ (n + 1) ≡ 16 ^ n * 16 = rw add-one (pow-suc 16 n) in
+    record {
+      few = omega arith;
+      small = rw p (omega arith);
+      count = i .count ∙ ap (λ (r : List ℕ). n + hexDigits r) e ∙ ap (λ (x : ℕ). n + x) (hex-more b bs h2) ∙ (let k : n + suc (hexDigits bs) ≡ n + 1 + hexDigits bs = omega arith in k);
+      value = λ m.
+          (let k : n + 1 + m ≡ n + suc m = omega arith in ap (λ (j : ℕ). digitsFrom 16 0 (take j all)) k)
+          ∙ i .value (suc m) ∙ ap (λ (r : List ℕ). digitsFrom 16 v (take (suc m) r)) e ∙ from-more v m b bs h2 ∙ ap (λ (x : ℕ). digitsFrom 16 (v * 16 + x) (take m bs)) (sym q);
+      left = sym (drop-drop 1 n all) ∙ ap (drop 1) (i .left ∙ e);
+    }
+
+-- the two questions of an escape
+uni : (all : List ℕ) (b : Bool) → (isBetween 1 6 (hexDigits all) && beginsWith (125 ∷ []) (drop (1 + hexDigits all) (123 ∷ all))) ≡ b
+    → unicodeEscape (123 ∷ all) ≡ (ask 30 b >>= λ _. scalarOf (digitsFrom 16 0 (take (hexDigits all) all)) >>= λ c. given (encodeScalar c, 1 + (1 + hexDigits all + 1)))
+unfolding unicodeEscape beginsWith ascii
+uni all b e = rw e
+
+pub uni-brace : (b : ℕ) (bs : List ℕ) → (b ≡ 123 → ⊥) → unicodeEscape (b ∷ bs) ≡ refused 30
+unfolding unicodeEscape beginsWith ascii
+uni-brace b bs h = rw (ne-eqb 123 b (λ q. h (sym q)))
+
+pub uni-none : unicodeEscape [] ≡ refused 30
+unfolding unicodeEscape beginsWith ascii
+uni-none = refl
+
+starts-no : (b : ℕ) (bs : List ℕ) → (b ≡ 125 → ⊥) → beginsWith (125 ∷ []) (b ∷ bs) ≡ false
+unfolding beginsWith
+starts-no b bs h = rw (ne-eqb 125 b (λ q. h (sym q)))
+
+starts-yes : (b : ℕ) (bs : List ℕ) → b ≡ 125 → beginsWith (125 ∷ []) (b ∷ bs) ≡ true
+unfolding beginsWith
+starts-yes b bs h = rw h
+
+starts-none : beginsWith (125 ∷ []) [] ≡ false
+unfolding beginsWith
+starts-none = refl
+
+hex-end : hexDigits [] ≡ 0
+unfolding hexDigits
+hex-end = refl
+
+from-end : (v : ℕ) → digitsFrom 16 v [] ≡ some v
+unfolding digitsFrom
+from-end v = refl
+
+module _ (all rest : List ℕ) (n v : ℕ) (i : Digits all rest n v) where
+  -- no digit comes next
+  module _ (z : hexDigits rest ≡ 0) where
+    size : hexDigits all ≡ n
+    size = i .count ∙ ap (λ (x : ℕ). n + x) z ∙ (let k : n + 0 ≡ n = omega arith in k)
+
+    after : drop (1 + hexDigits all) (123 ∷ all) ≡ rest
+    after = (let k : 1 + hexDigits all ≡ suc n = omega (arith, size) in ap (λ (j : ℕ). drop j (123 ∷ all)) k) ∙ i .left
+
+    whole : digitsFrom 16 0 (take (hexDigits all) all) ≡ some v
+    whole = (let k : hexDigits all ≡ n + 0 = omega (arith, size) in ap (λ (j : ℕ). digitsFrom 16 0 (take j all)) k) ∙ i .value 0 ∙ from-end v
+
+    pub uni-close : beginsWith (125 ∷ []) rest ≡ false → unicodeEscape (123 ∷ all) ≡ refused 30
+    uni-close h = uni all false (ap (λ (r : List ℕ). isBetween 1 6 (hexDigits all) && beginsWith (125 ∷ []) r) after ∙ ap (λ (t : Bool). isBetween 1 6 (hexDigits all) && t) h ∙ and-no (isBetween 1 6 (hexDigits all)))
+
+    pub uni-empty : n ≡ 0 → unicodeEscape (123 ∷ all) ≡ refused 30
+    uni-empty h = uni all false (simp (within-low 1 6 (hexDigits all) (omega (arith, size))))
+
+    uni-scalar : (1 ≤ n) → beginsWith (125 ∷ []) rest ≡ true → unicodeEscape (123 ∷ all) ≡ (scalarOf (some v) >>= λ c. given (encodeScalar c, 1 + (1 + hexDigits all + 1)))
+    uni-scalar l h =
+        uni all true (simp (within-yes 1 6 (hexDigits all) (omega (arith, size)) (omega (arith, size, i .few))) (ap (beginsWith (125 ∷ [])) after ∙ h))
+        ∙ ap (λ (o : Option ℕ). scalarOf o >>= λ c. given (encodeScalar c, 1 + (1 + hexDigits all + 1))) whole
+
+    pub uni-bad : (1 ≤ n) → beginsWith (125 ∷ []) rest ≡ true → isScalar v ≡ false → unicodeEscape (123 ∷ all) ≡ refused 30
+    uni-bad l h s = uni-scalar l h ∙ simp s
+
+    pub uni-good : (1 ≤ n) → beginsWith (125 ∷ []) rest ≡ true → isScalar v ≡ true → unicodeEscape (123 ∷ all) ≡ given (encodeScalar v, 1 + (1 + n + 1))
+    uni-good l h s = uni-scalar l h ∙ simp s (ap (λ (x : ℕ). given (encodeScalar v, 1 + (1 + x + 1))) size)
+
+  pub uni-long : (b : ℕ) (bs : List ℕ) → rest ≡ b ∷ bs → digitOr16 b < 16 → n ≡ 6 → unicodeEscape (123 ∷ all) ≡ refused 30
+  uni-long b bs e h z =
+      let c : hexDigits all ≡ n + suc (hexDigits bs) = i .count ∙ ap (λ (r : List ℕ). n + hexDigits r) e ∙ ap (λ (x : ℕ). n + x) (hex-more b bs h) in
+      uni all false (simp (within-high 1 6 (hexDigits all) (omega arith)))
+
+  -- by the byte that comes next
+  pub esc-none : rest ≡ [] → unicodeEscape (123 ∷ all) ≡ refused 30
+  esc-none e = uni-close (ap hexDigits e ∙ hex-end) (ap (beginsWith (125 ∷ [])) e ∙ starts-none)
+
+  module _ (b : ℕ) (bs : List ℕ) (e : rest ≡ b ∷ bs) (h : 16 ≤ digitOr16 b) where
+    stop : hexDigits rest ≡ 0
+    stop = ap hexDigits e ∙ hex-stop b bs h
+
+    pub esc-other : (b ≡ 125 → ⊥) → unicodeEscape (123 ∷ all) ≡ refused 30
+    esc-other x = uni-close stop (ap (beginsWith (125 ∷ [])) e ∙ starts-no b bs x)
+
+    pub esc-empty : n ≡ 0 → unicodeEscape (123 ∷ all) ≡ refused 30
+    esc-empty z = uni-empty stop z
+
+    module _ (x : b ≡ 125) (z : n ≡ 0 → ⊥) where
+      close : beginsWith (125 ∷ []) rest ≡ true
+      close = ap (beginsWith (125 ∷ [])) e ∙ starts-yes b bs x
+
+      pub esc-bad : isScalar v ≡ false → unicodeEscape (123 ∷ all) ≡ refused 30
+      esc-bad s = uni-bad stop (omega arith) close s
+
+      pub esc-good : isScalar v ≡ true → (k : ℕ) × (unicodeEscape (123 ∷ all) ≡ given (encodeScalar v, 1 + (1 + k + 1))) × (drop (k + 1) all ≡ bs)
+      esc-good s = (n, uni-good stop (omega arith) close s, sym (drop-drop 1 n all) ∙ ap (drop 1) (i .left ∙ e))
+
+module _ (v : ℕ) where
+  pub scalar-low : v < 0xD800 → isScalar v ≡ true
+  unfolding isScalar
+  scalar-low h = simp (lt-ltb v 0xD800 h)
+
+  pub scalar-not : 0xD800 ≤ v → v < 0xE000 → isScalar v ≡ false
+  unfolding isScalar
+  scalar-not h k = simp (le-ltb v 0xD800 h, lt-leb 0xE000 v k)
+
+  pub scalar-big : 0x10FFFF < v → isScalar v ≡ false
+  unfolding isScalar
+  scalar-big h = simp (le-ltb v 0xD800 (omega arith), le-leb 0xE000 v (omega arith), lt-leb v 0x10FFFF h)
+
+  pub scalar-high : 0xE000 ≤ v → v ≤ 0x10FFFF → isScalar v ≡ true
+  unfolding isScalar
+  scalar-high h k = simp (le-ltb v 0xD800 (omega arith), le-leb 0xE000 v h, le-leb v 0x10FFFF k)
+
+pub digits-small : (all rest : List ℕ) (n v : ℕ) → Digits all rest n v → (n ≡ 6 → ⊥) → v < 1048576
+digits-small all rest n v i h =
+    let f : n ≤ 6 = i .few in
+    let k : n ≤ 5 = omega arith in
+    let p : 16 ^ n ≤ 16 ^ 5 = pow-le-pow-right (omega arith) k in
+    let s : v < 16 ^ n = i .small in
+    omega arith
+
+-- after a backslash
+starts1 : (x b : ℕ) (bs : List ℕ) → beginsWith (x ∷ []) (b ∷ bs) ≡ eqb x b
+unfolding beginsWith
+starts1 x b bs = by-test (eqb x b) (λ t. simp t) (λ t. simp t)
+
+module _ (e : ℕ) (bs : List ℕ) where
+  chain : afterBackslash (e ∷ bs)
+      ≡ (if eqb 0x74 e then given (0x09 ∷ [], 1)
+      else if eqb 0x72 e then given (0x0D ∷ [], 1)
+      else if eqb 0x6E e then given (0x0A ∷ [], 1)
+      else if eqb 0x27 e then given (0x27 ∷ [], 1)
+      else if eqb 0x22 e then given (0x22 ∷ [], 1)
+      else if eqb 0x5C e then given (0x5C ∷ [], 1)
+      else if eqb 0x75 e then unicodeEscape bs
+      else refused 30)
+  unfolding afterBackslash ascii
+  chain = rw (starts1 0x74 e bs, starts1 0x72 e bs, starts1 0x6E e bs, starts1 0x27 e bs, starts1 0x22 e bs, starts1 0x5C e bs, starts1 0x75 e bs)
+
+  pub after-plain : (escapeByte e ≡ 0 → ⊥) → afterBackslash (e ∷ bs) ≡ given (escapeByte e ∷ [], 1)
+  unfolding escapeByte
+  after-plain h =
+      chain
+      ∙ by-test (eqb 0x74 e) (λ t. simp t)
+      (λ t1. by-test (eqb 0x72 e) (λ t. simp (t1, t))
+      (λ t2. by-test (eqb 0x6E e) (λ t. simp (t1, t2, t))
+      (λ t3. by-test (eqb 0x27 e) (λ t. simp (t1, t2, t3, t))
+      (λ t4. by-test (eqb 0x22 e) (λ t. simp (t1, t2, t3, t4, t))
+      (λ t5. by-test (eqb 0x5C e) (λ t. simp (t1, t2, t3, t4, t5, t))
+      (λ t6. absurd (h (simp (t1, t2, t3, t4, t5, t6)))))))))
+
+  none-of : escapeByte e ≡ 0 → afterBackslash (e ∷ bs) ≡ (if eqb 0x75 e then unicodeEscape bs else refused 30)
+  unfolding escapeByte
+  none-of h =
+      chain
+      ∙ by-test (eqb 0x74 e) (λ t. absurd (no (simp t at h)))
+      (λ t1. by-test (eqb 0x72 e) (λ t. absurd (no (simp (t1, t) at h)))
+      (λ t2. by-test (eqb 0x6E e) (λ t. absurd (no (simp (t1, t2, t) at h)))
+      (λ t3. by-test (eqb 0x27 e) (λ t. absurd (no (simp (t1, t2, t3, t) at h)))
+      (λ t4. by-test (eqb 0x22 e) (λ t. absurd (no (simp (t1, t2, t3, t4, t) at h)))
+      (λ t5. by-test (eqb 0x5C e) (λ t. absurd (no (simp (t1, t2, t3, t4, t5, t) at h)))
+      (λ t6. simp (t1, t2, t3, t4, t5, t6)))))))
+    where
+      no : {n : ℕ} → suc n ≡ 0 → ⊥
+      no q = omega arith
+
+  pub after-u : escapeByte e ≡ 0 → e ≡ 0x75 → afterBackslash (e ∷ bs) ≡ unicodeEscape bs
+  after-u h q = none-of h ∙ simp (eq-eqb 0x75 e (sym q))
+
+  pub after-bad : escapeByte e ≡ 0 → (e ≡ 0x75 → ⊥) → afterBackslash (e ∷ bs) ≡ refused 30
+  after-bad h q = none-of h ∙ simp (ne-eqb 0x75 e (λ r. q (sym r)))
+
+pub after-none : afterBackslash [] ≡ refused 30
+unfolding afterBackslash
+after-none = refl
+
+-- tokens at a cursor
+at-plain : (b : ℕ) (bs : List ℕ) → (b ≡ 0x5C → ⊥) → unescapeAt (b ∷ bs) ≡ given (b ∷ [], 0)
+unfolding unescapeAt
+at-plain b bs h = rw (ne-eqb b 0x5C h)
+
+at-escape : (b : ℕ) (bs : List ℕ) → b ≡ 0x5C → unescapeAt (b ∷ bs) ≡ afterBackslash bs
+unfolding unescapeAt
+at-escape b bs h = rw (eq-eqb b 0x5C h)
+
+module _ (t : List ℕ) (c d : Source) (b : ℕ) (k : bytesLeft t c ≡ b ∷ bytesLeft t d) where
+  pub token-plain : (b ≡ 0x5C → ⊥) → TokenAt t c (b ∷ []) d
+  token-plain h =
+      record {
+        less = rw k (omega arith);
+        same = ap (tokens unescapeAt 0) k ∙ tokens-step unescapeAt b (bytesLeft t d) (b ∷ []) 0 (at-plain b (bytesLeft t d) h);
+      }
+
+  pub token-cut : b ≡ 0x5C → bytesLeft t d ≡ [] → tokensLeft t c ≡ refused 30
+  token-cut h e = ap (tokens unescapeAt 0) k ∙ tokens-stop unescapeAt b (bytesLeft t d) 30 (at-escape b (bytesLeft t d) h ∙ ap afterBackslash e ∙ after-none)
+
+  module _ (h : b ≡ 0x5C) (e : ℕ) (f : Source) (j : bytesLeft t d ≡ e ∷ bytesLeft t f) where
+    escape : unescapeAt (b ∷ bytesLeft t d) ≡ afterBackslash (e ∷ bytesLeft t f)
+    escape = at-escape b (bytesLeft t d) h ∙ ap afterBackslash j
+
+    pub token-byte : (x : ℕ) → x ≡ escapeByte e → (x ≡ 0 → ⊥) → TokenAt t c (x ∷ []) f
+    token-byte x q z =
+        record {
+          less = rw (k, j) (omega arith);
+          same = ap (tokens unescapeAt 0) k
+              ∙ tokens-step unescapeAt b (bytesLeft t d) (x ∷ []) 1 (escape ∙ after-plain e (bytesLeft t f) (λ y. z (q ∙ y)) ∙ ap (λ (y : ℕ). given (y ∷ [], 1)) (sym q))
+              ∙ ap (λ (r : List ℕ). tokens unescapeAt 0 (drop 1 r) >>= λ ts. given ((x ∷ []) ∷ ts)) j;
+        }
+
+    pub token-bad : 0 ≡ escapeByte e → (e ≡ 0x75 → ⊥) → tokensLeft t c ≡ refused 30
+    token-bad q z = ap (tokens unescapeAt 0) k ∙ tokens-stop unescapeAt b (bytesLeft t d) 30 (escape ∙ after-bad e (bytesLeft t f) (sym q) z)
+
+    pub token-none : 0 ≡ escapeByte e → e ≡ 0x75 → unicodeEscape (bytesLeft t f) ≡ refused 30 → tokensLeft t c ≡ refused 30
+    token-none q z u = ap (tokens unescapeAt 0) k ∙ tokens-stop unescapeAt b (bytesLeft t d) 30 (escape ∙ after-u e (bytesLeft t f) (sym q) z ∙ u)
+
+    pub token-scalar : (v : ℕ) (g : Source) → 0 ≡ escapeByte e → e ≡ 0x75 → EscapeAt t f v g → TokenAt t c (encodeScalar v) g
+    token-scalar v g q z u =
+        let s : 1 + u .bytes ≡ suc (u .bytes) = omega arith in
+        record {
+          less = rw (k, j) (let w : length (bytesLeft t g) ≡ length (bytesLeft t f) - u .bytes = ap length (sym (u .rest)) ∙ length-drop (u .bytes) (bytesLeft t f) in omega arith);
+          same = ap (tokens unescapeAt 0) k
+              ∙ tokens-step unescapeAt b (bytesLeft t d) (encodeScalar v) (1 + u .bytes) (escape ∙ after-u e (bytesLeft t f) (sym q) z ∙ u .read)
+              ∙ ap (λ (r : List ℕ). tokens unescapeAt 0 (drop (1 + u .bytes) r) >>= λ ts. given (encodeScalar v ∷ ts)) j
+              ∙ ap (λ (n : ℕ). tokens unescapeAt 0 (drop n (e ∷ bytesLeft t f)) >>= λ ts. given (encodeScalar v ∷ ts)) s
+              ∙ ap (λ (r : List ℕ). tokens unescapeAt 0 r >>= λ ts. given (encodeScalar v ∷ ts)) (u .rest);
+        }
+
+-- the braces
+pub escape-some : (t : List ℕ) (c d : Source) (b : ℕ) → bytesLeft t c ≡ b ∷ bytesLeft t d → b ≡ 0x7B → (v : ℕ) (g : Source) (n : ℕ) → unicodeEscape (0x7B ∷ bytesLeft t d) ≡ given (encodeScalar v, 1 + (1 + n + 1)) → drop (n + 1) (bytesLeft t d) ≡ bytesLeft t g → EscapeAt t c v g
+escape-some t c d b k h v g n e r =
+    record {
+      bytes = 1 + n + 1;
+      read = ap unicodeEscape (k ∙ ap (λ (x : ℕ). x ∷ bytesLeft t d) h) ∙ e;
+      rest = ap (drop (1 + n + 1)) k ∙ (let s : 1 + n + 1 ≡ suc (n + 1) = omega arith in ap (λ (m : ℕ). drop m (b ∷ bytesLeft t d)) s) ∙ r;
+    }
+
+pub escape-bad : (t : List ℕ) (c d : Source) (b : ℕ) → bytesLeft t c ≡ b ∷ bytesLeft t d → b ≡ 0x7B → unicodeEscape (0x7B ∷ bytesLeft t d) ≡ refused 30 → unicodeEscape (bytesLeft t c) ≡ refused 30
+escape-bad t c d b k h e = ap unicodeEscape (k ∙ ap (λ (x : ℕ). x ∷ bytesLeft t d) h) ∙ e
+
+-- whether a source unescapes
+number-more : {A : Type 0} (o : Outcome (List A)) (a : A) → refusalOf (o >>= λ ts. given (a ∷ ts)) ≡ refusalOf o
+number-more (refused n) a = refl
+number-more (given ts) a = refl
+
+pub number-on : (t : List ℕ) (c : Source) (bs : List ℕ) (d : Source) → TokenAt t c bs d → refusalOf (tokensLeft t d) ≡ refusalOf (tokensLeft t c)
+number-on t c bs d k = sym (ap refusalOf (k .same) ∙ number-more (tokensLeft t d) bs)
+
+joined : (o : Outcome (List (List ℕ))) → refusalOf (o >>= λ ts. given (flatMap (λ (x : List ℕ). x) ts)) ≡ refusalOf o
+joined (refused n) = refl
+joined (given ts) = refl
+
+pub number-all : (bs : List ℕ) → refusalOf (tokens unescapeAt 0 bs) ≡ refusalOf (unescape bs)
+unfolding unescape
+number-all bs = sym (joined (tokens unescapeAt 0 bs))
+
+pub number-end : (t : List ℕ) (c : Source) → bytesLeft t c ≡ [] → 0 ≡ refusalOf (tokensLeft t c)
+unfolding tokens
+number-end t c e = sym (ap (λ (bs : List ℕ). refusalOf (tokens unescapeAt 0 bs)) e)
+
+pub escape-of : (t : List ℕ) (c d : Source) (b : ℕ) → bytesLeft t c ≡ b ∷ bytesLeft t d → b ≡ 0x7B → (r : Unicode) → NextDigits t d r → NextEscape t c r
+escape-of t c d b k h (un.Scalar v g) i = escape-some t c d b k h v g (i .0) (i .1) (i .2)
+escape-of t c d b k h un.Bad i = escape-bad t c d b k h i

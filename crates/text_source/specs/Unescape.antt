@@ -1,0 +1,59 @@
+-- Unescaping the source column, token by token.
+-- Assumes nothing.
+use mathlib.Core.Path.{_≡_}
+use mathlib.Core.List.{List, [], _∷_}
+use Prim.Native.Nat.{ℕ, _+_, _<_}
+use lib.ListN.{length, drop}
+use lib.Dec.{eqb}
+use Rattle.format.specs.Basics.{Outcome, refused, given, _>>=_, if_then_else_}
+use Rattle.format.specs.Tokens.{tokens}
+use Rattle.format.specs.Utf8.{encodeScalar}
+use Rattle.format.specs.TextReader.{unescapeAt, unicodeEscape}
+use Rattle.text_source.specs.declared.Source.{Source}
+use Rattle.text_source.specs.declared.Unicode.{Unicode}
+use Rattle.text_source.specs.declared.Unicode.the-variants as un
+use Rattle.text_source.specs.declared.Token.{Token}
+use Rattle.text_source.specs.declared.Token.the-variants as tk
+use Rattle.text_source.specs.Stream.{bytesLeft}
+
+-- what a letter after a backslash stands for; 0 if for nothing
+unfoldable pub escapeByte : ℕ → ℕ
+escapeByte e =
+    if eqb 0x74 e then 0x09
+    else if eqb 0x72 e then 0x0D
+    else if eqb 0x6E e then 0x0A
+    else if eqb 0x27 e then 0x27
+    else if eqb 0x22 e then 0x22
+    else if eqb 0x5C e then 0x5C
+    else 0
+
+-- an escape after `\u`, and the cursor after it
+pub record EscapeAt (t : List ℕ) (c : Source) (v : ℕ) (d : Source) : Type 0 where
+  pub bytes : ℕ
+  pub read : unicodeEscape (bytesLeft t c) ≡ given (encodeScalar v, 1 + bytes)
+  pub rest : drop bytes (bytesLeft t c) ≡ bytesLeft t d
+
+abbrev pub NextEscape : List ℕ → Source → Unicode → Type 0
+NextEscape t c (un.Scalar v d) = EscapeAt t c v d
+NextEscape t c un.Bad = unicodeEscape (bytesLeft t c) ≡ refused 30
+
+-- the unescaped source left
+abbrev pub tokensLeft : List ℕ → Source → Outcome (List (List ℕ))
+tokensLeft t c = tokens unescapeAt 0 (bytesLeft t c)
+
+pub record TokenAt (t : List ℕ) (c : Source) (bs : List ℕ) (d : Source) : Type 0 where
+  pub less : length (bytesLeft t d) < length (bytesLeft t c)
+  pub same : tokensLeft t c ≡ (tokensLeft t d >>= λ ts. given (bs ∷ ts))
+
+abbrev pub NextToken : List ℕ → Source → Token → Type 0
+NextToken t c (tk.Plain b d) = TokenAt t c (b ∷ []) d
+NextToken t c (tk.Scalar v d) = TokenAt t c (encodeScalar v) d
+NextToken t c tk.Bad = tokensLeft t c ≡ refused 30
+NextToken t c tk.Done = bytesLeft t c ≡ []
+
+-- the same after the `{`
+abbrev pub NextDigits : List ℕ → Source → Unicode → Type 0
+NextDigits t c (un.Scalar v d) =
+    (n : ℕ) × (unicodeEscape (0x7B ∷ bytesLeft t c) ≡ given (encodeScalar v, 1 + (1 + n + 1)))
+    × (drop (n + 1) (bytesLeft t c) ≡ bytesLeft t d)
+NextDigits t c un.Bad = unicodeEscape (0x7B ∷ bytesLeft t c) ≡ refused 30

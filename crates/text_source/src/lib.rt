@@ -1,0 +1,208 @@
+// The text reader's source: the bytes of the SOURCE cells as one text, unescaped.
+use text_cells::digit;
+use text_cells::find_cell;
+use text_lines::Line;
+use text_tables::next_source_line;
+ghost use mathlib.Core.Path.{_≡_};
+ghost use mathlib.Core.Bool.{true};
+ghost use Prim.Native.Nat.{_+_, _-_, _<_};
+ghost use Rattle.format.specs.Calls.{refusalOf};
+ghost use Rattle.format.specs.TextReader.{unescape};
+ghost use Rattle.text_source.specs.Stream.{atMost, NextByte, bytesLeft};
+ghost use Rattle.text_source.specs.Unescape.{NextEscape, NextDigits, NextToken, escapeByte};
+
+// A place in the source column: in a cell, and the place of the next line.
+pub struct Source {
+    pub at: usize,
+    pub end: usize,
+    pub next: usize,
+}
+
+pub enum Byte {
+    Is(u8, Source),
+    Done,
+}
+
+// The smaller of the two.
+fn at_most(x: usize, most: usize) -> usize
+    ensures { λ r. ⌜ r ≡ atMost x most ⌝ }
+{
+    if most < x {
+        return most;
+    }
+    x
+}
+
+// The next byte of the source column.
+pub fn next_byte(t: &[u8], c: Source) -> Byte
+    ensures { λ r. ⌜ NextByte (now (t .entry)) c r ⌝ }
+{
+    let mut at = c.at;
+    let mut end = at_most(c.end, t.len());
+    let mut next = c.next;
+    loop {
+        if at < end {
+            return Byte::Is(
+                t[at],
+                Source {
+                    at: at + 1,
+                    end: end,
+                    next: next,
+                },
+            );
+        }
+        let Line::At {
+            start,
+            end: stop,
+            next: n,
+        } = next_source_line(t, next)
+        else {
+            return Byte::Done;
+        };
+        let cell = find_cell(&t[start..stop], 2, 2);
+        at = start + cell.start;
+        end = start + cell.end;
+        next = n;
+    }
+}
+
+// What `\u` escapes.
+pub enum Unicode {
+    Scalar(u32, Source),
+    Bad,
+}
+
+// A part of the unescaped source.
+pub enum Token {
+    Plain(u8, Source),
+    Scalar(u32, Source),
+    Bad,
+    Done,
+}
+
+// One to six hexadecimal digits and a `}`, after the `{`.
+fn escaped(t: &[u8], c: Source) -> Unicode
+    ensures { λ r. ⌜ NextDigits (now (t .entry)) c r ⌝ }
+{
+    let mut cur = c;
+    let mut n: u32 = 0;
+    let mut v: u32 = 0;
+    loop {
+        let Byte::Is(b, d) = next_byte(t, cur) else {
+            return Unicode::Bad;
+        };
+        let x = digit(b);
+        if 16 <= x {
+            if b != 0x7D {
+                return Unicode::Bad;
+            }
+            if n == 0 {
+                return Unicode::Bad;
+            }
+            if v < 0xD800 {
+                return Unicode::Scalar(v, d);
+            }
+            if v < 0xE000 {
+                return Unicode::Bad;
+            }
+            if 0x10FFFF < v {
+                return Unicode::Bad;
+            }
+            return Unicode::Scalar(v, d);
+        }
+        if n == 6 {
+            return Unicode::Bad;
+        }
+        v = v * 16 + x as u32;
+        n += 1;
+        cur = d;
+    }
+}
+
+// What follows `\u`.
+fn unicode_escape(t: &[u8], c: Source) -> Unicode
+    ensures { λ r. ⌜ NextEscape (now (t .entry)) c r ⌝ }
+{
+    let Byte::Is(b, d) = next_byte(t, c) else {
+        return Unicode::Bad;
+    };
+    if b != 0x7B {
+        return Unicode::Bad;
+    }
+    escaped(t, d)
+}
+
+// What a letter after a backslash stands for; 0 if for nothing.
+fn escaped_byte(e: u8) -> u8
+    ensures { λ r. ⌜ r ≡ escapeByte e ⌝ }
+{
+    if 0x74 == e {
+        return 0x09;
+    }
+    if 0x72 == e {
+        return 0x0D;
+    }
+    if 0x6E == e {
+        return 0x0A;
+    }
+    if 0x27 == e {
+        return 0x27;
+    }
+    if 0x22 == e {
+        return 0x22;
+    }
+    if 0x5C == e {
+        return 0x5C;
+    }
+    0
+}
+
+// The next part of the unescaped source.
+pub fn next_token(t: &[u8], c: Source) -> Token
+    ensures { λ r. ⌜ NextToken (now (t .entry)) c r ⌝ }
+{
+    let Byte::Is(b, d) = next_byte(t, c) else {
+        return Token::Done;
+    };
+    if b != 0x5C {
+        return Token::Plain(b, d);
+    }
+    let Byte::Is(e, f) = next_byte(t, d) else {
+        return Token::Bad;
+    };
+    let x = escaped_byte(e);
+    if x != 0 {
+        return Token::Plain(x, f);
+    }
+    if e != 0x75 {
+        return Token::Bad;
+    }
+    let Unicode::Scalar(v, g) = unicode_escape(t, f) else {
+        return Token::Bad;
+    };
+    Token::Scalar(v, g)
+}
+
+// Whether the source column unescapes: 30 where it does not.
+pub fn unescape(t: &[u8], c: Source) -> u8
+    ensures { λ r. ⌜ r ≡ refusalOf (unescape (bytesLeft (now (t .entry)) c)) ⌝ }
+{
+    let mut cur = c;
+    loop {
+        let token = next_token(t, cur);
+        match token {
+            Token::Plain(_, d) => {
+                cur = d;
+            }
+            Token::Scalar(_, d) => {
+                cur = d;
+            }
+            Token::Bad => {
+                return 30;
+            }
+            Token::Done => {
+                return 0;
+            }
+        }
+    }
+}

@@ -1,0 +1,6 @@
+pub mod ReadLaws
+pub mod SymbolLaws
+pub mod DebugLaws
+pub mod LabelLaws
+pub mod LineRowLaws
+pub mod GroupLaws

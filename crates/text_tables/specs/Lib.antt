@@ -1,0 +1,5 @@
+pub mod Reads
+pub mod Symbols
+pub mod Debug
+pub mod Labels
+pub mod LineRows

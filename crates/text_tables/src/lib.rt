@@ -1,0 +1,398 @@
+// The text reader's tables: a function per table for the closures of `parse_table`.
+use text_cells::Entry;
+use text_cells::Number;
+use text_cells::cell_is;
+use text_cells::decimal;
+use text_cells::hex2u16;
+use text_cells::maybe_hex2u16;
+use text_cells::trimmed_cell;
+use text_lines::Group;
+use text_lines::Line;
+use text_lines::Passed;
+use text_lines::begins_with;
+use text_lines::next_row;
+ghost use mathlib.Core.Path.{_≡_};
+ghost use mathlib.Core.List.{map};
+ghost use Prim.Native.Nat.{_+_, _-_};
+ghost use Rattle.format.specs.Basics.{isSome};
+ghost use Rattle.format.specs.Records.{emptyObject};
+ghost use Rattle.format.specs.Utf8.{trim};
+ghost use Rattle.format.specs.TextReader.{lines, splitn, sameCells, upToBar, parseLineRows, parseLabelTable};
+ghost use Rattle.text_tables.specs.Debug.{FirstBar, NextIn, labelView, lineView};
+ghost use Rattle.text_tables.specs.Labels.{LabelIs, NextLabel, labelColumns};
+ghost use Rattle.text_tables.specs.LineRows.{lineIn, lineOf, isLine};
+ghost use Rattle.text_lines.specs.Groups.{partsFrom};
+ghost use Rattle.text_tables.specs.Symbols.{SymIs, NextSymbol, SymbolsChecked, symbolColumns};
+ghost use Rattle.format.specs.Calls.{refusalOf};
+
+// A row of .SYMBOL, and where its name stands.
+pub enum SymbolRow {
+    Row {
+        address: u16,
+        external: bool,
+        start: usize,
+        end: usize,
+    },
+    Bad,
+}
+
+// The same, with the place after it.
+pub enum SymbolStep {
+    Row {
+        address: u16,
+        external: bool,
+        start: usize,
+        end: usize,
+        next: usize,
+    },
+    Done,
+    Bad,
+}
+
+const ADDR: [u8; 4] = [0x41, 0x44, 0x44, 0x52];
+
+const EXT: [u8; 3] = [0x45, 0x58, 0x54];
+
+const LABEL: [u8; 5] = [0x4C, 0x41, 0x42, 0x45, 0x4C];
+
+// ADDR, EXT and LABEL.
+pub fn parse_symbol_header(l: &[u8]) -> bool
+    ensures { λ r. ⌜ r ≡ sameCells (map trim (splitn 2 (now (l .entry)))) symbolColumns ⌝ }
+{
+    let addr = ADDR;
+    if !cell_is(l, 2, 0, &addr) {
+        return false;
+    }
+    let ext = EXT;
+    if !cell_is(l, 2, 1, &ext) {
+        return false;
+    }
+    let label = LABEL;
+    cell_is(l, 2, 2, &label)
+}
+
+// What a row of .SYMBOL says.
+pub fn parse_symbol_row(l: &[u8]) -> SymbolRow
+    ensures { λ r. ⌜ SymIs (now (l .entry)) r ⌝ }
+{
+    let c = trimmed_cell(l, 2, 0);
+    let c_start = c.start;
+    let c_end = c.end;
+    let Number::Value(a) = hex2u16(&l[c_start..c_end]) else {
+        return SymbolRow::Bad;
+    };
+    let d = trimmed_cell(l, 2, 1);
+    let d_start = d.start;
+    let d_end = d.end;
+    let Number::Value(x) = decimal(&l[d_start..d_end], 255) else {
+        return SymbolRow::Bad;
+    };
+    let n = trimmed_cell(l, 2, 2);
+    SymbolRow::Row {
+        address: a as u16,
+        external: x != 0,
+        start: n.start,
+        end: n.end,
+    }
+}
+
+// The next row of .SYMBOL.
+pub fn next_symbol(t: &[u8], at: usize) -> SymbolStep
+    ensures { λ r. ⌜ NextSymbol (now (t .entry)) at r ⌝ }
+{
+    let Line::At { start, end, next } = next_row(t, at) else {
+        return SymbolStep::Done;
+    };
+    let SymbolRow::Row {
+        address,
+        external,
+        start: s,
+        end: e,
+    } = parse_symbol_row(&t[start..end])
+    else {
+        return SymbolStep::Bad;
+    };
+    SymbolStep::Row {
+        address: address,
+        external: external,
+        start: start + s,
+        end: start + e,
+        next: next,
+    }
+}
+
+// The lines of a .SYMBOL group, checked.
+pub fn parse_symbol_table(t: &[u8], at: usize) -> Group
+    ensures { λ r. ⌜ SymbolsChecked (now (t .entry)) at (r .number) (r .next) ⌝ }
+{
+    let Line::At { start, end, next } = next_row(t, at) else {
+        return Group {
+            number: 0,
+            next: at,
+        };
+    };
+    if !parse_symbol_header(&t[start..end]) {
+        return Group {
+            number: 26,
+            next: at,
+        };
+    }
+    let mut i = next;
+    loop {
+        let step = next_symbol(t, i);
+        match step {
+            SymbolStep::Row {
+                address: _,
+                external: _,
+                start: _,
+                end: _,
+                next: n,
+            } => {
+                i = n;
+            }
+            SymbolStep::Done => {
+                return Group { number: 0, next: i };
+            }
+            SymbolStep::Bad => {
+                return Group {
+                    number: 26,
+                    next: at,
+                };
+            }
+        }
+    }
+}
+
+// The place after the first line of the group that begins with `=`.
+pub fn first_bar(t: &[u8], from: usize) -> Passed
+    ensures { λ r. ⌜ FirstBar (now (t .entry)) from r ⌝ }
+{
+    let mut at = from;
+    loop {
+        let Line::At { start, end, next } = next_row(t, at) else {
+            return Passed::Bad;
+        };
+        if begins_with(&t[start..end], b'=') {
+            return Passed::To(next);
+        }
+        at = next;
+    }
+}
+
+// Whether the last line of the group begins with `=`.
+pub fn ends_in_bar(t: &[u8], from: usize) -> bool
+    ensures { λ r. ⌜ r ≡ isSome (upToBar (partsFrom (now (t .entry)) from .before)) ⌝ }
+{
+    let mut at = from;
+    let mut bar = false;
+    loop {
+        let Line::At { start, end, next } = next_row(t, at) else {
+            return bar;
+        };
+        bar = begins_with(&t[start..end], b'=');
+        at = next;
+    }
+}
+
+// The next line of the label table.
+pub fn next_label_line(t: &[u8], at: usize) -> Line
+    ensures { λ r. ⌜ NextIn (labelView (now (t .entry))) (now (t .entry)) at r ⌝ }
+{
+    let Line::At { start, end, next } = next_row(t, at) else {
+        return Line::Done;
+    };
+    if begins_with(&t[start..end], b'=') {
+        return Line::Done;
+    }
+    Line::At {
+        start: start,
+        end: end,
+        next: next,
+    }
+}
+
+// The next line of the line table: every line of the group but the last.
+pub fn next_source_line(t: &[u8], at: usize) -> Line
+    ensures { λ r. ⌜ NextIn (lineView (now (t .entry))) (now (t .entry)) at r ⌝ }
+{
+    let Line::At { start, end, next } = next_row(t, at) else {
+        return Line::Done;
+    };
+    let Line::At {
+        start: _,
+        end: _,
+        next: _,
+    } = next_row(t, next)
+    else {
+        return Line::Done;
+    };
+    Line::At {
+        start: start,
+        end: end,
+        next: next,
+    }
+}
+
+// A row of the label table: where its name stands, and its index.
+pub enum LabelRow {
+    Row {
+        start: usize,
+        end: usize,
+        index: u64,
+    },
+    Bad,
+}
+
+pub enum LabelStep {
+    Row {
+        start: usize,
+        end: usize,
+        index: u64,
+        next: usize,
+    },
+    Done,
+    Bad,
+}
+
+const INDEX: [u8; 5] = [0x49, 0x4E, 0x44, 0x45, 0x58];
+
+// LABEL and INDEX.
+pub fn parse_label_header(l: &[u8]) -> bool
+    ensures { λ r. ⌜ r ≡ sameCells (map trim (splitn 1 (now (l .entry)))) labelColumns ⌝ }
+{
+    let label = LABEL;
+    if !cell_is(l, 1, 0, &label) {
+        return false;
+    }
+    let index = INDEX;
+    cell_is(l, 1, 1, &index)
+}
+
+// What a row of the label table says.
+pub fn parse_label_row(l: &[u8]) -> LabelRow
+    ensures { λ r. ⌜ LabelIs (now (l .entry)) r ⌝ }
+{
+    let d = trimmed_cell(l, 1, 1);
+    let d_start = d.start;
+    let d_end = d.end;
+    let Number::Value(i) = decimal(&l[d_start..d_end], 0xFFFF_FFFF_FFFF_FFFF) else {
+        return LabelRow::Bad;
+    };
+    let n = trimmed_cell(l, 1, 0);
+    LabelRow::Row {
+        start: n.start,
+        end: n.end,
+        index: i,
+    }
+}
+
+// The next row of the label table.
+pub fn next_label(t: &[u8], at: usize) -> LabelStep
+    ensures { λ r. ⌜ NextLabel (now (t .entry)) at r ⌝ }
+{
+    let Line::At { start, end, next } = next_label_line(t, at) else {
+        return LabelStep::Done;
+    };
+    let LabelRow::Row {
+        start: s,
+        end: e,
+        index,
+    } = parse_label_row(&t[start..end])
+    else {
+        return LabelStep::Bad;
+    };
+    LabelStep::Row {
+        start: start + s,
+        end: start + e,
+        index: index,
+        next: next,
+    }
+}
+
+// The label table, checked.
+pub fn parse_label_table(t: &[u8], at: usize) -> u8
+    ensures { λ r. ⌜ r ≡ refusalOf (parseLabelTable emptyObject (labelView (now (t .entry)) at .0)) ⌝ }
+{
+    let Line::At { start, end, next } = next_label_line(t, at) else {
+        return 0;
+    };
+    if !parse_label_header(&t[start..end]) {
+        return 26;
+    }
+    let mut i = next;
+    loop {
+        let step = next_label(t, i);
+        match step {
+            LabelStep::Row {
+                start: _,
+                end: _,
+                index: _,
+                next: n,
+            } => {
+                i = n;
+            }
+            LabelStep::Done => {
+                return 0;
+            }
+            LabelStep::Bad => {
+                return 26;
+            }
+        }
+    }
+}
+
+// A row of the line table: its number, and its address if it has one.
+pub enum LineRow {
+    Known(u64, u16),
+    Unknown(u64),
+    Bad,
+}
+
+// What a row of the line table says.
+pub fn parse_line_row(l: &[u8]) -> LineRow
+    ensures { λ r. ⌜ lineOf r ≡ lineIn (now (l .entry)) ⌝ }
+{
+    let c = trimmed_cell(l, 2, 0);
+    let c_start = c.start;
+    let c_end = c.end;
+    let Number::Value(n) = decimal(&l[c_start..c_end], 0xFFFF_FFFF_FFFF_FFFF) else {
+        return LineRow::Bad;
+    };
+    let d = trimmed_cell(l, 2, 1);
+    let d_start = d.start;
+    let d_end = d.end;
+    match maybe_hex2u16(&l[d_start..d_end]) {
+        Entry::Value(a) => LineRow::Known(n, a),
+        Entry::Unknown => LineRow::Unknown(n),
+        Entry::Nothing => LineRow::Bad,
+    }
+}
+
+// Whether a row of the line table reads and has this number.
+fn is_line(l: &[u8], i: u64) -> bool
+    ensures { λ r. ⌜ r ≡ isLine i (lineIn (now (l .entry))) ⌝ }
+{
+    match parse_line_row(l) {
+        LineRow::Known(n, _) => n == i,
+        LineRow::Unknown(n) => n == i,
+        LineRow::Bad => false,
+    }
+}
+
+// The rows of the line table, checked, from the place after its header.
+pub fn parse_line_rows(t: &[u8], from: usize) -> u8
+    ensures { λ r. ⌜ r ≡ refusalOf (parseLineRows 0 (lineView (now (t .entry)) from .0)) ⌝ }
+{
+    let mut at = from;
+    let mut i: u64 = 0;
+    loop {
+        let Line::At { start, end, next } = next_source_line(t, at) else {
+            return 0;
+        };
+        if !is_line(&t[start..end], i) {
+            return 28;
+        }
+        i += 1;
+        at = next;
+    }
+}
