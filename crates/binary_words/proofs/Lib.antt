@@ -1,0 +1,4 @@
+pub mod PlacesRead
+pub mod LengthLaws
+pub mod ApartLaws
+pub mod SourceLaws

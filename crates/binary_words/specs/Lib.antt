@@ -1,0 +1,2 @@
+pub mod RecordAt
+pub mod Apart

@@ -1,0 +1,87 @@
+// Numbers and parts of an input at its places, for every place: of bytes past the end of the input there are none.
+ghost use mathlib.Core.Path.{_≡_};
+ghost use Prim.Native.Nat.{_+_, _≤_, min};
+ghost use lib.ListN.{length};
+ghost use Rattle.format.specs.Digits.{valueOf};
+ghost use Rattle.format.specs.Binary.{numberAt};
+ghost use Rattle.bytes_at.specs.Part.{PartOf};
+
+// A part of the input: where it starts and ends.
+pub struct Part {
+    pub from: usize,
+    pub to: usize,
+}
+
+// The number whose bytes are `s`, low byte first.
+fn value_le(s: &[u8]) -> u64
+    requires { ⌜ length (now s) ≤ 8 ⌝ }
+    ensures { λ r. ⌜ r ≡ valueOf 8 (now (s .entry)) ⌝ }
+{
+    let mut v = 0;
+    let mut i = s.len();
+    while 0 < i {
+        i -= 1;
+        let b = s[i] as u64;
+        v = v * 256 + b;
+    }
+    v
+}
+
+// k bytes past a place, at most the end of the input.
+fn offset(s: &[u8], p: usize, k: usize) -> usize
+    ensures { λ r. ⌜ r ≡ min (p + k) (length (now (s .entry))) ⌝ }
+{
+    if s.len() < k {
+        return s.len();
+    }
+    if s.len() - k < p {
+        return s.len();
+    }
+    p + k
+}
+
+// n bytes past a place of the input, at most its end.
+fn end_of(s: &[u8], a: usize, n: u64) -> usize
+    requires { ⌜ a ≤ length (now s) ⌝ }
+    ensures { λ r. ⌜ r ≡ min (a + n) (length (now (s .entry))) ⌝ }
+{
+    if ((s.len() - a) as u64) < n {
+        return s.len();
+    }
+    a + n as usize
+}
+
+// k and n bytes past a place, at most the end of the input.
+pub fn past(s: &[u8], p: usize, k: usize, n: u64) -> usize
+    ensures { λ r. ⌜ r ≡ min (p + k + n) (length (now (s .entry))) ⌝ }
+{
+    let a = offset(s, p, k);
+    end_of(s, a, n)
+}
+
+// The 2-byte number k bytes past a place, low byte first.
+pub fn u16_at(s: &[u8], p: usize, k: usize) -> u16
+    ensures { λ r. ⌜ r ≡ numberAt (p + k) 2 (now (s .entry)) ⌝ }
+{
+    let a = offset(s, p, k);
+    let e = end_of(s, a, 2);
+    value_le(&s[a..e]) as u16
+}
+
+// The 8-byte number k bytes past a place, low byte first.
+pub fn u64_at(s: &[u8], p: usize, k: usize) -> u64
+    ensures { λ r. ⌜ r ≡ numberAt (p + k) 8 (now (s .entry)) ⌝ }
+{
+    let a = offset(s, p, k);
+    let e = end_of(s, a, 8);
+    value_le(&s[a..e])
+}
+
+// The n bytes k bytes past a place.
+pub fn part_at(s: &[u8], p: usize, k: usize, n: u64) -> Part
+    ensures { λ r. ⌜ PartOf (now (s .entry)) (p + k) n (r .from) (r .to) ⌝ }
+{
+    let a = offset(s, p, k);
+    let e = end_of(s, a, n);
+    Part { from: a, to: e }
+}

@@ -1,0 +1,5 @@
+pub mod WindowLaws
+pub mod CompareLaws
+pub mod HeldLaws
+pub mod WalkLaws
+pub mod OrderLaws
