@@ -1,0 +1,14 @@
+-- The exported structs as the records of crate `format` that the contracts cite. Assumes nothing.
+use Rattle.format.specs.Calls as calls
+use Rattle.runs.specs.declared.Value.{Value}
+use Rattle.runs.specs.declared.Span.{Span}
+use Rattle.runs.specs.declared.Position.{Position}
+
+abbrev pub valueOf : Value → calls.Value
+valueOf r = record { number = r .number; value = r .value }
+
+abbrev pub spanOf : Span → calls.SpanAnswer
+spanOf r = record { number = r .number; start = r .start; end = r .end }
+
+abbrev pub positionOf : Position → calls.PositionAnswer
+positionOf r = record { number = r .number; line = r .line; column = r .column }

@@ -1,0 +1,120 @@
+// Exports for the differential runs: test-only, never linked by the host, so it may go beyond byte slices and numbers. Each is one call.
+ghost use mathlib.Core.Path.{_≡_};
+ghost use Rattle.format.specs.Calls.{checked, queryCountLines, queryRawLineSpan, queryLineSpan, queryPosPair, queryGet, queryFind};
+ghost use Rattle.runs.specs.Answers.{valueOf, spanOf, positionOf};
+use units::Address;
+use units::ByteIndex;
+use units::Line;
+
+// A line count, an address or a line.
+#[repr(C)]
+pub struct Value {
+    pub number: u8,
+    pub value: u64,
+}
+
+// A range of source byte indices.
+#[repr(C)]
+pub struct Span {
+    pub number: u8,
+    pub start: u64,
+    pub end: u64,
+}
+
+// A line and a column.
+#[repr(C)]
+pub struct Position {
+    pub number: u8,
+    pub line: u64,
+    pub column: u64,
+}
+
+// Is the object well formed?
+#[no_mangle]
+pub extern "C" fn runs_check(object: &[u32]) -> u8
+    ensures { λ r. ⌜ r ≡ checked (now (object .entry)) ⌝ }
+{
+    object::check(object)
+}
+
+// The number of lines of the source.
+#[no_mangle]
+pub extern "C" fn runs_count_lines(object: &[u32]) -> Value
+    ensures { λ r. ⌜ valueOf r ≡ queryCountLines (now (object .entry)) ⌝ }
+{
+    let r = source_info::count_lines(object);
+    Value {
+        number: r.number,
+        value: r.lines,
+    }
+}
+
+// The bytes of a line, with its newline.
+#[no_mangle]
+pub extern "C" fn runs_raw_line_span(object: &[u32], line: u64) -> Span
+    ensures { λ r. ⌜ spanOf r ≡ queryRawLineSpan (now (object .entry)) line ⌝ }
+{
+    let r = source_info::raw_line_span(object, Line(line));
+    let start = r.start;
+    let end = r.end;
+    Span {
+        number: r.number,
+        start: start.0,
+        end: end.0,
+    }
+}
+
+// The bytes of a line, less White_Space.
+#[no_mangle]
+pub extern "C" fn runs_line_span(object: &[u32], line: u64) -> Span
+    ensures { λ r. ⌜ spanOf r ≡ queryLineSpan (now (object .entry)) line ⌝ }
+{
+    let r = source_info::line_span(object, Line(line));
+    let start = r.start;
+    let end = r.end;
+    Span {
+        number: r.number,
+        start: start.0,
+        end: end.0,
+    }
+}
+
+// The line and the column of a source byte index.
+#[no_mangle]
+pub extern "C" fn runs_get_pos_pair(object: &[u32], index: u64) -> Position
+    ensures { λ r. ⌜ positionOf r ≡ queryPosPair (now (object .entry)) index ⌝ }
+{
+    let r = source_info::get_pos_pair(object, ByteIndex(index));
+    let line = r.line;
+    Position {
+        number: r.number,
+        line: line.0,
+        column: r.column,
+    }
+}
+
+// Line to address.
+#[no_mangle]
+pub extern "C" fn runs_get(object: &[u32], line: u64) -> Value
+    ensures { λ r. ⌜ valueOf r ≡ queryGet (now (object .entry)) line ⌝ }
+{
+    let r = source_info::get(object, Line(line));
+    let address = r.address;
+    Value {
+        number: r.number,
+        value: address.0 as u64,
+    }
+}
+
+// Address to line.
+#[no_mangle]
+pub extern "C" fn runs_find(object: &[u32], address: u16) -> Value
+    ensures { λ r. ⌜ valueOf r ≡ queryFind (now (object .entry)) address ⌝ }
+{
+    let r = source_info::find(object, Address(address));
+    let line = r.line;
+    Value {
+        number: r.number,
+        value: line.0,
+    }
+}
