@@ -1,0 +1,96 @@
+#!/bin/sh
+# mutants.sh [WORD]: puts faults into the second reading of document 01 one by one, in a copy. Does a short run find each?
+# WORD: only the lines of the list that have it, as text_write. MUTANTS_DIR: the copy's folder.
+# A line of the list: a file of src/, and a sed expression. Wrong calls under test stand in tests/ (cargo test).
+# A fault that only changes the number of a refusal isn't in the list: the crate says yes or no, and the library's numbers show it.
+set -eu
+here=$(cd "$(dirname "$0")" && pwd)
+copy=${MUTANTS_DIR:-$here/target/mutants}
+word=${1:-}
+"$here/build.sh"
+rm -rf "$copy/src"
+mkdir -p "$copy"
+cp -r "$here/src" "$here/unescaper" "$here/Cargo.toml" "$here/Cargo.lock" "$here/build.rs" "$copy"
+# Quick builds: one file changes each time.
+export CARGO_INCREMENTAL=1 CARGO_PROFILE_RELEASE_OPT_LEVEL=1
+build() { (cd "$copy" && cargo build --release --offline --quiet 2> "$copy/messages"); }
+# How many differences a run of these words finds: few random cases, and more where they find nothing.
+differences() { "$copy/target/release/differential" run "$@" | sed -n 's/^differences: //p'; }
+seen() {
+    n=$(differences --cases 3000 --short none --long 1 --many 1)
+    [ "${n:-0}" -gt 0 ] || n=$(differences --cases 20000 --short quick --long 1 --many 1)
+    [ "${n:-0}" -gt 0 ]
+}
+found=0 missed=0
+miss() { missed=$((missed + 1)); echo "$1: $file $expression"; }
+while IFS='@' read -r file expression; do
+    case $file@$expression in *"$word"*) ;; *) continue ;; esac
+    sed "$expression" "$here/src/$file" > "$copy/src/$file"
+    if cmp -s "$copy/src/$file" "$here/src/$file"; then
+        miss "NO CHANGE"
+    elif ! build; then
+        miss "DOESN'T BUILD"
+    elif seen; then
+        found=$((found + 1))
+        echo "found ($n): $file $expression"
+    else
+        miss "MISSED"
+    fi
+    cp "$here/src/$file" "$copy/src/$file"
+done <<'LIST'
+numbers/binary.rs@s/w\[0\] == 0xFF/w[0] != 0/
+numbers/binary.rs@s/head\[2\] != 0/head[2] == 1/
+numbers/binary.rs@s/w\[0\] >= w\[1\]/w[0] > w[1]/
+numbers/binary.rs@s/line_end(&w\[0\]) > u128::from(w\[1\].0)/line_end(\&w[0]) >= u128::from(w[1].0)/
+numbers/binary.rs@s/put(1, u64::from(addr >> 8));/put(1, u64::from(addr \& 0xFF));/
+numbers/binary.rs@s/p.relocs.clear();//
+numbers/binary.rs@s/.extend(body),/.clone_from(\&body.to_vec()),/
+numbers/binary.rs@s/matches!(kind, 1 | 3 | 4)/matches!(kind, 1 | 4)/
+numbers/binary.rs@s/if n > rest.len() as u128/if n >= rest.len() as u128/
+numbers/binary.rs@s/p.source.get_or_insert_with(Vec::new);//
+numbers/text.rs@s/line.strip_suffix(b"\\r").unwrap_or(line)/line/
+numbers/text.rs@s/split_lines(trim(file))/split_lines(file)/
+numbers/text.rs@s/s.strip_prefix(b"+").unwrap_or(s)/s/
+numbers/text.rs@s/0xFF)? != 0/0xFFFF)? != 0/
+numbers/text.rs@s/!l.starts_with(b"#") \&\& //
+numbers/text.rs@s/return Err(25)/{}/
+numbers/text.rs@s/ok_or((30, None))?/unwrap_or_default()/
+numbers/text.rs@s/w\[0\] > w\[1\]/w[0] >= w[1]/
+numbers/text.rs@s/(1..=6).contains/(1..=8).contains/
+numbers/text.rs@s/source.extend(cells\[2\])/source.extend(trim(cells[2]))/
+numbers/text.rs@s/hex(lines\[at\])/hex(trim(lines[at]))/
+numbers/text.rs@s/p.relocs.clear();//
+numbers/text.rs@s/None if !run.is_empty()/None if run.len() > 1/
+numbers/text.rs@s/in addrs.iter().enumerate()/in addrs.iter().chain([\&None]).enumerate()/
+numbers/text.rs@s/if s.len() != 4/if s.len() > 4/
+numbers/text.rs@s/l.external = external;//
+numbers/text.rs@s/cells.resize(columns.len(), b"")/cells.resize(columns.len(), b" ")/
+numbers/text.rs@s/if addrs.is_empty()/if source.is_empty()/
+numbers/text_write.rs@s/name.iter().filter(|b| \*\*b \& 0xC0 != 0x80).count()/name.len()/
+numbers/text_write.rs@s/labels.sort_by_key(|l| l.addr);//
+numbers/text_write.rs@s/first.wrapping_add(i as u64)/first.saturating_add(i as u64)/
+numbers/text_write.rs@s/0x27 | 0x22 | 0x5C/0x22 | 0x5C/
+numbers/text_write.rs@s/u{{{c:x}}}/u{{{c:X}}}/
+numbers/text_write.rs@s/(a.start, &a.name).cmp(&(b.start, &b.name))/a.start.cmp(\&b.start)/
+numbers/text_write.rs@s/l.name.len()).max().unwrap().max(5)/l.name.len()).max().unwrap()/
+numbers/text_write.rs@s/len().max(4)/len()/
+numbers/query.rs@s/first.wrapping_add(o as u64)/first.saturating_add(o as u64)/
+numbers/query.rs@s/i > src.len() as u64/i >= src.len() as u64/
+numbers/query.rs@s/a + white_before(&src\[a..e\])/a/
+numbers/query.rs@s/count() as u64 + 1, i)/count() as u64, i)/
+numbers/query.rs@s/out.push((start, i + 1))/out.push((start, i))/
+numbers/query.rs@s/n.checked_sub(\*first)?/n.checked_sub(*first)?.saturating_sub(1)/
+numbers/utf8.rs@s/| 0x85 | 0xA0/| 0xA0/
+numbers/utf8.rs@s/| 0x205F | 0x3000/| 0x3000/
+numbers/utf8.rs@s/0xED => (3, 0x80, 0x9F)/0xED => (3, 0x80, 0xBF)/
+numbers/utf8.rs@s/0xF4 => (4, 0x80, 0x8F)/0xF4 => (4, 0x80, 0xBF)/
+object.rs@s/line_end(l) <= last_line/line_end(l) <= last_line + 1/
+object.rs@s/line_end(a) < u128::from(b.0)/line_end(a) <= u128::from(b.0)/
+object.rs@s/!s.chars().any(white_space)/true/
+object.rs@s/starts_with(\['.', '#', '='\])/starts_with(['.', '#'])/
+object.rs@s/rising(addrs, |a, b| a <= b)/rising(addrs, |a, b| a < b)/
+object.rs@s/a.0 < b.0 \&\& line_end(a) <= u128/a.0 < b.0 \&\& line_end(a) < u128/
+object.rs@s/addr.swap_bytes()/*addr/
+LIST
+echo "$found found, $missed missed"
+[ "$missed" = 0 ]

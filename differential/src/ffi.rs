@@ -1,0 +1,175 @@
+//! The exports of the Rattle library `runs`, by group, with safe wrappers. A slice is two C parameters, its start and its count of
+//! elements; answers are structs of numbers. Each group is a feature, so that this builds while the library has only some of them.
+use crate::under::Calls;
+
+#[repr(C)]
+#[derive(Clone, Copy)]
+pub struct Value {
+    pub number: u8,
+    pub value: u64,
+}
+
+#[repr(C)]
+#[derive(Clone, Copy)]
+pub struct SpanAnswer {
+    pub number: u8,
+    pub start: u64,
+    pub end: u64,
+}
+
+#[repr(C)]
+#[derive(Clone, Copy)]
+pub struct PositionAnswer {
+    pub number: u8,
+    pub line: u64,
+    pub column: u64,
+}
+
+/// Number, and the length in words that a file would fill.
+#[repr(C)]
+#[derive(Clone, Copy)]
+pub struct Measured {
+    pub number: u8,
+    pub len: usize,
+}
+
+/// Number, and the length filled.
+#[repr(C)]
+#[derive(Clone, Copy)]
+pub struct Filled {
+    pub number: u8,
+    pub len: usize,
+}
+
+#[repr(C)]
+#[derive(Clone, Copy)]
+pub struct FairAnswer {
+    pub number: u8,
+    pub fair: u8,
+}
+
+/// The groups that are linked, by name; none where the library isn't.
+pub const LINKED: &[&str] = &[
+    #[cfg(feature = "queries")]
+    "queries",
+    #[cfg(feature = "binary")]
+    "binary",
+    #[cfg(feature = "text")]
+    "text",
+    #[cfg(feature = "fair")]
+    "fair",
+];
+
+/// The library's calls.
+pub fn calls() -> Calls {
+    Calls {
+        #[cfg(feature = "queries")]
+        queries: Some(queries::CALLS),
+        #[cfg(feature = "binary")]
+        binary: Some(binary::CALLS),
+        #[cfg(feature = "text")]
+        text: Some(text::CALLS),
+        #[cfg(feature = "fair")]
+        is_fair: Some(fair::is_fair),
+        ..Calls::default()
+    }
+}
+
+#[cfg(feature = "queries")]
+mod queries {
+    use super::{PositionAnswer, SpanAnswer, Value};
+    use crate::numbers::query::Query;
+    use crate::under::Queries;
+
+    extern "C" {
+        fn runs_check(object: *const u32, len: usize) -> u8;
+        fn runs_count_lines(object: *const u32, len: usize) -> Value;
+        fn runs_raw_line_span(object: *const u32, len: usize, line: u64) -> SpanAnswer;
+        fn runs_line_span(object: *const u32, len: usize, line: u64) -> SpanAnswer;
+        fn runs_get_pos_pair(object: *const u32, len: usize, index: u64) -> PositionAnswer;
+        fn runs_get(object: *const u32, len: usize, line: u64) -> Value;
+        fn runs_find(object: *const u32, len: usize, address: u16) -> Value;
+    }
+
+    fn check(object: &[u32]) -> u8 {
+        // SAFETY: start and count are those of a slice, which the call reads.
+        unsafe { runs_check(object.as_ptr(), object.len()) }
+    }
+
+    fn query(object: &[u32], q: Query) -> (u8, u64, u64) {
+        let (start, len) = (object.as_ptr(), object.len());
+        let value = |v: Value| (v.number, v.value, 0);
+        let span = |s: SpanAnswer| (s.number, s.start, s.end);
+        let position = |p: PositionAnswer| (p.number, p.line, p.column);
+        // SAFETY: as above.
+        unsafe {
+            match q {
+                Query::CountLines => value(runs_count_lines(start, len)),
+                Query::RawLineSpan(line) => span(runs_raw_line_span(start, len, line)),
+                Query::LineSpan(line) => span(runs_line_span(start, len, line)),
+                Query::GetPosPair(index) => position(runs_get_pos_pair(start, len, index)),
+                Query::Get(line) => value(runs_get(start, len, line)),
+                Query::Find(address) => value(runs_find(start, len, address)),
+            }
+        }
+    }
+
+    pub const CALLS: Queries = Queries { check, query };
+}
+
+/// A form's three calls; the two forms differ in the names of their exports.
+#[cfg(any(feature = "binary", feature = "text"))]
+macro_rules! form {
+    ($name:ident, $length:ident, $read:ident, $write:ident) => {
+        mod $name {
+            use super::{Filled, Measured};
+            use crate::under::Form;
+
+            extern "C" {
+                fn $length(bytes: *const u8, len: usize) -> Measured;
+                fn $read(bytes: *const u8, len: usize, out: *mut u32, out_len: usize) -> Filled;
+                fn $write(object: *const u32, len: usize, out: *mut u8, out_len: usize) -> Filled;
+            }
+
+            fn length(bytes: &[u8]) -> (u8, usize) {
+                // SAFETY: start and count are those of a slice, which the call reads.
+                let m = unsafe { $length(bytes.as_ptr(), bytes.len()) };
+                (m.number, m.len)
+            }
+
+            fn read(bytes: &[u8], out: &mut [u32]) -> (u8, usize) {
+                // SAFETY: as above; the call writes within the second slice.
+                let f = unsafe { $read(bytes.as_ptr(), bytes.len(), out.as_mut_ptr(), out.len()) };
+                (f.number, f.len)
+            }
+
+            fn write(object: &[u32], out: &mut [u8]) -> (u8, usize) {
+                // SAFETY: as above.
+                let f = unsafe { $write(object.as_ptr(), object.len(), out.as_mut_ptr(), out.len()) };
+                (f.number, f.len)
+            }
+
+            pub const CALLS: Form = Form { length, read, write };
+        }
+    };
+}
+
+#[cfg(feature = "binary")]
+form!(binary, runs_binary_length, runs_binary_read, runs_binary_write);
+#[cfg(feature = "text")]
+form!(text, runs_text_length, runs_text_read, runs_text_write);
+
+#[cfg(feature = "fair")]
+mod fair {
+    use super::FairAnswer;
+
+    extern "C" {
+        fn runs_is_fair(object: *const u32, len: usize) -> FairAnswer;
+    }
+
+    pub fn is_fair(object: &[u32]) -> (u8, u8) {
+        // SAFETY: start and count are those of a slice, which the call reads.
+        let f = unsafe { runs_is_fair(object.as_ptr(), object.len()) };
+        (f.number, f.fair)
+    }
+}

@@ -1,0 +1,26 @@
+//! The calls of this repository held against the code of lc3-ensemble 0.10.0, and against document 01's numbers.
+//!
+//! - [`asm`]: the crate's own code, unchanged (build.sh copies it); [`asm::access`] reaches its private fields.
+//! - [`parts`], [`object`]: an object (document 01's "holding") as plain data, and as 32-bit words.
+//! - [`rust`]: the crate's calls with panics caught. [`records`]: binary files with their records in one order.
+//! - [`numbers`]: document 01's checks, written from the document alone, and what each call gives.
+//! - [`reference`]: the answer that a call must give, from both.
+//! - [`gen`]: cases. [`under`]: the calls under test, compared. [`ffi`]: those of the Rattle library. [`table`]: what a run saw.
+//! - [`marked`], [`vectors`], [`speed`]: the cases marked M, a list to replay, times of the crate.
+
+pub mod asm;
+pub mod ffi;
+pub mod gen;
+pub mod hex;
+pub mod marked;
+pub mod numbers;
+pub mod object;
+pub mod parts;
+pub mod prng;
+pub mod records;
+pub mod reference;
+pub mod rust;
+pub mod speed;
+pub mod table;
+pub mod under;
+pub mod vectors;

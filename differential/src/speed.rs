@@ -1,0 +1,84 @@
+//! Times of the crate's four calls on three objects: the best of several batches, a call's share, in nanoseconds.
+use std::hint::black_box;
+use std::time::Instant;
+
+use crate::asm::access;
+use crate::asm::encoding::{BinaryFormat, ObjFileFormat, TextFormat};
+use crate::parts::{Label, Parts};
+use crate::prng::Prng;
+
+/// A typical assignment: 50 labels, 400 lines, about 12 KB of source, one block.
+pub fn assignment() -> Parts {
+    let mut r = Prng::new(6);
+    let mut p = Parts::default();
+    let mut src = String::new();
+    let (mut addrs, mut words) = (vec![], vec![]);
+    for l in 0..400u16 {
+        if l % 8 == 0 {
+            let name = format!("LABEL_{}", r.below(100_000));
+            *p.label_mut(name.as_bytes()) =
+                Label { name: name.clone().into(), addr: 0x3000 + l, external: l % 80 == 0, start: src.len() as u64 };
+            if l % 80 == 0 {
+                p.relocs.push((0x3000 + l, name.clone().into()));
+            }
+            src += &name;
+        }
+        src += "    ADD R0, R0, #1 ; counts\n";
+        if l % 10 == 9 {
+            p.lines.push((u64::from(l) - addrs.len() as u64, std::mem::take(&mut addrs)));
+        } else {
+            addrs.push(0x3000 + l);
+        }
+        words.push((!r.once_in(10)).then(|| r.next() as u16));
+    }
+    p.blocks.push((0x3000, words));
+    p.source = Some(src.into());
+    p
+}
+
+/// About 64 KiB of binary in 2,500 label records; the crate writes and reads them in hash order.
+pub fn labels() -> Parts {
+    let mut r = Prng::new(7);
+    let mut p = Parts::default();
+    while p.labels.len() < 2500 {
+        let name = format!("L{:05X}", r.below(1 << 20));
+        *p.label_mut(name.as_bytes()) =
+            Label { name: name.clone().into(), addr: r.next() as u16, external: false, start: r.below(60_000) as u64 };
+    }
+    p.source = Some(b"\n".to_vec());
+    p
+}
+
+/// One block of 60,000 words.
+pub fn block() -> Parts {
+    let mut r = Prng::new(8);
+    Parts { blocks: vec![(0, (0..60_000).map(|_| (!r.once_in(16)).then(|| r.next() as u16)).collect())], ..Parts::default() }
+}
+
+/// The best of nine batches, each of about 50 milliseconds.
+pub fn best<T>(mut f: impl FnMut() -> T) -> f64 {
+    let once = Instant::now();
+    black_box(f());
+    let times = (50_000_000 / once.elapsed().as_nanos().max(1)).clamp(1, 100_000) as u32;
+    (0..9)
+        .map(|_| {
+            let start = Instant::now();
+            for _ in 0..times {
+                black_box(f());
+            }
+            start.elapsed().as_nanos() as f64 / f64::from(times)
+        })
+        .fold(f64::INFINITY, f64::min)
+}
+
+pub fn print() {
+    for (name, p) in [("assignment", assignment()), ("labels", labels()), ("block", block())] {
+        let o = access::build(&p);
+        let (b, t) = (BinaryFormat::serialize(&o), TextFormat::serialize(&o));
+        println!("{name}: {} words, binary {} bytes, text {} bytes", crate::object::encode(&p).len(), b.len(), t.len());
+        println!("  binary write {:12.0} ns", best(|| BinaryFormat::serialize(black_box(&o))));
+        println!("  binary read  {:12.0} ns", best(|| BinaryFormat::deserialize(black_box(&b))));
+        println!("  text write   {:12.0} ns", best(|| TextFormat::serialize(black_box(&o))));
+        println!("  text read    {:12.0} ns", best(|| TextFormat::deserialize(black_box(&t))));
+    }
+}

@@ -1,0 +1,200 @@
+//! What a run saw: calls by number, excluded cases by reason, what the objects had, and the differences.
+use std::collections::BTreeMap;
+
+use crate::numbers::query::Query;
+use crate::numbers::Excluded;
+use crate::object::{fair, line_end, swapped};
+use crate::parts::Parts;
+
+/// The calls that are compared.
+#[derive(Debug, Clone, Copy, PartialEq, Eq, PartialOrd, Ord)]
+pub enum Call {
+    Check,
+    CountLines,
+    RawLineSpan,
+    LineSpan,
+    GetPosPair,
+    Get,
+    Find,
+    IsFair,
+    BinaryLength,
+    BinaryRead,
+    BinaryWrite,
+    TextLength,
+    TextRead,
+    TextWrite,
+    /// `get_pos_pair` on source bytes.
+    SourcePosition,
+}
+
+impl Call {
+    pub fn of(q: Query) -> Self {
+        match q {
+            Query::CountLines => Call::CountLines,
+            Query::RawLineSpan(_) => Call::RawLineSpan,
+            Query::LineSpan(_) => Call::LineSpan,
+            Query::GetPosPair(_) => Call::GetPosPair,
+            Query::Get(_) => Call::Get,
+            Query::Find(_) => Call::Find,
+        }
+    }
+
+    /// The numbers that document 01 gives the call, all of which a run has to reach.
+    pub fn numbers(self) -> &'static [u8] {
+        match self {
+            Call::Check | Call::IsFair => &[0, 1],
+            Call::CountLines | Call::GetPosPair => &[0, 1, 4],
+            Call::RawLineSpan | Call::LineSpan => &[0, 1, 4, 5],
+            Call::Get | Call::Find => &[0, 1, 4, 6],
+            Call::BinaryLength => &[0, 10, 11, 12, 13, 14, 15],
+            Call::BinaryRead => &[0, 3, 10, 11, 12, 13, 14, 15],
+            Call::BinaryWrite => &[0, 1, 2, 3],
+            Call::TextLength => &[0, 20, 21, 22, 23, 24, 25, 26, 27, 28, 29, 30, 31],
+            Call::TextRead => &[0, 3, 20, 21, 22, 23, 24, 25, 26, 27, 28, 29, 30, 31],
+            Call::TextWrite => &[0, 1, 3],
+            Call::SourcePosition => &[0],
+        }
+    }
+}
+
+/// Of one call.
+#[derive(Default)]
+struct Row {
+    /// Inputs, each with its argument: a filling call is made with several buffers for one input.
+    cases: u64,
+    /// Calls made, by the number that is right.
+    numbers: BTreeMap<u8, u64>,
+    /// Cases that aren't in the runs, by reason and what the crate did. They are compared with document 01 alone.
+    excluded: BTreeMap<(Excluded, &'static str), u64>,
+}
+
+/// How many differences are told, and how many characters of an input or an answer.
+const TOLD: usize = 20;
+const CUT: usize = 1500;
+
+#[derive(Default)]
+pub struct Table {
+    /// Short inputs in full and the large cases; and the random ones, which have to be accepted often enough.
+    fixed: BTreeMap<Call, Row>,
+    random: BTreeMap<Call, Row>,
+    /// Which of the two is counted.
+    pub at_random: bool,
+    objects: BTreeMap<&'static str, u64>,
+    pub differences: u64,
+    told: Vec<String>,
+}
+
+impl Table {
+    fn row(&mut self, call: Call) -> &mut Row {
+        let rows = if self.at_random { &mut self.random } else { &mut self.fixed };
+        rows.entry(call).or_default()
+    }
+
+    pub fn case(&mut self, call: Call, excluded: Option<(Excluded, &'static str)>) {
+        let row = self.row(call);
+        row.cases += 1;
+        if let Some(why) = excluded {
+            *row.excluded.entry(why).or_default() += 1;
+        }
+    }
+
+    pub fn call(&mut self, call: Call, number: u8) {
+        *self.row(call).numbers.entry(number).or_default() += 1;
+    }
+
+    pub fn differs(&mut self, call: Call, input: &str, what: &str) {
+        self.differences += 1;
+        if self.told.len() < TOLD {
+            let cut = |s: &str| match s.char_indices().nth(CUT) {
+                Some((at, _)) => format!("{} (cut)", &s[..at]),
+                None => s.to_string(),
+            };
+            self.told.push(format!("{call:?} of {}: {}", cut(input), cut(what)));
+        }
+    }
+
+    /// Counts what an object has that a run should meet.
+    pub fn object(&mut self, p: &Parts) {
+        let lines = p.source.as_ref().map_or(0, |s| s.iter().filter(|b| **b == b'\n').count() as u128 + 1);
+        let has = [
+            ("well formed", true),
+            ("fair", fair(p)),
+            (
+                "fair, with labels, line blocks and relocations",
+                fair(p) && !p.labels.is_empty() && !p.lines.is_empty() && !p.relocs.is_empty(),
+            ),
+            ("not fair", !fair(p)),
+            ("relocations changed by a swap", swapped(p) != *p),
+            ("an external label", p.labels.iter().any(|l| l.external)),
+            ("a label that isn't ASCII", p.labels.iter().any(|l| !l.name.is_ascii())),
+            ("labels or relocations, no source", p.has_symbols() && p.source.is_none()),
+            ("an empty line block", p.lines.iter().any(|l| l.1.is_empty())),
+            ("touching line blocks", p.lines.windows(2).any(|w| line_end(&w[0]) == w[1].0.into())),
+            ("equal line addresses", p.lines.iter().any(|l| l.1.windows(2).any(|w| w[0] == w[1]))),
+            ("lines past the largest", p.lines.last().is_some_and(|l| line_end(l) > 1 << 64)),
+            ("lines past the source", p.lines.last().is_some_and(|l| line_end(l) > lines)),
+            ("a source with no newline at its end", p.source.as_ref().is_some_and(|s| !s.is_empty() && !s.ends_with(b"\n"))),
+        ];
+        for (name, yes) in has {
+            *self.objects.entry(name).or_default() += u64::from(yes);
+        }
+    }
+
+    /// What keeps this run from showing much: a number not reached, or under a quarter of a call's random cases accepted.
+    pub fn gaps(&self) -> Vec<String> {
+        let mut out = vec![];
+        for (call, row) in self.random.iter().filter(|(_, row)| !row.numbers.is_empty()) {
+            let reached = |n: &u8| row.numbers.contains_key(n) || self.fixed.get(call).is_some_and(|r| r.numbers.contains_key(n));
+            for n in call.numbers().iter().filter(|n| !reached(n)) {
+                out.push(format!("{call:?}: number {n} not reached"));
+            }
+            let (accepted, made) = row.accepted();
+            if 4 * accepted < made {
+                out.push(format!("{call:?}: {accepted} of {made} random calls accepted, under a quarter"));
+            }
+        }
+        out
+    }
+
+    pub fn print(&self) {
+        for (name, rows) in [("short and large inputs", &self.fixed), ("random inputs", &self.random)] {
+            println!("{name}\n{:<15} {:>9} {:>9} {:>9}  calls by number", "call", "cases", "calls", "accepted");
+            for (call, row) in rows {
+                let (accepted, made) = row.accepted();
+                if made == 0 {
+                    println!("{:<15} {:>9}  not linked: the crate and the numbers alone", format!("{call:?}"), row.cases);
+                    continue;
+                }
+                let share = 100.0 * accepted as f64 / made as f64;
+                let numbers: Vec<String> = row.numbers.iter().map(|(n, k)| format!("{n}: {k}")).collect();
+                println!("{:<15} {:>9} {made:>9} {share:>8.1}%  {}", format!("{call:?}"), row.cases, numbers.join(", "));
+            }
+            println!();
+        }
+        println!("cases that document 01 keeps out of the runs, compared with its numbers alone");
+        let mut excluded: BTreeMap<(Call, Excluded, &str), u64> = BTreeMap::new();
+        for (call, row) in self.fixed.iter().chain(&self.random) {
+            for ((why, did), k) in &row.excluded {
+                *excluded.entry((*call, *why, did)).or_default() += k;
+            }
+        }
+        for ((call, why, did), k) in excluded {
+            println!("  {call:?}, {why:?}, the crate {did}: {k}");
+        }
+        println!("\nobjects by what they have");
+        for (name, k) in &self.objects {
+            println!("  {name}: {k}");
+        }
+        println!("\ndifferences: {}", self.differences);
+        for line in &self.told {
+            println!("  {line}");
+        }
+    }
+}
+
+impl Row {
+    /// Calls with number 0, and all calls.
+    fn accepted(&self) -> (u64, u64) {
+        (self.numbers.get(&0).copied().unwrap_or(0), self.numbers.values().sum())
+    }
+}

@@ -1,0 +1,330 @@
+//! The calls under test, held against the reference: numbers, values, lengths, what is filled and what is left alone.
+use crate::gen;
+use crate::gen::Depth;
+use crate::hex;
+use crate::marked::{self, Input};
+use crate::numbers::query::{get_pos_pair, Query, Values};
+use crate::object::encode;
+use crate::prng::Prng;
+use crate::records;
+use crate::reference::{self, Answer, Object};
+use crate::table::{Call, Table};
+
+/// Number and length.
+pub type Filled = (u8, usize);
+
+/// The three calls of a form.
+#[derive(Clone, Copy)]
+pub struct Form {
+    /// Number and length in words of what the bytes read as; no buffer.
+    pub length: fn(&[u8]) -> Filled,
+    pub read: fn(&[u8], &mut [u32]) -> Filled,
+    pub write: fn(&[u32], &mut [u8]) -> Filled,
+}
+
+/// The check and the queries on an object.
+#[derive(Clone, Copy)]
+pub struct Queries {
+    pub check: fn(&[u32]) -> u8,
+    /// Number and two values, 0 where there is none.
+    pub query: fn(&[u32], Query) -> (u8, u64, u64),
+}
+
+/// The calls by group. A group that is None isn't compared, and the crate still is.
+#[derive(Default, Clone, Copy)]
+pub struct Calls {
+    pub queries: Option<Queries>,
+    pub binary: Option<Form>,
+    pub text: Option<Form>,
+    /// Number, and 1 if fair.
+    pub is_fair: Option<fn(&[u32]) -> (u8, u8)>,
+    /// `get_pos_pair` on source bytes.
+    pub source_position: Option<fn(&[u8], u64) -> Values>,
+}
+
+/// How much to compare.
+#[derive(Clone, Copy)]
+pub struct Plan {
+    pub seed: u64,
+    /// Random cases of each call.
+    pub cases: u64,
+    /// How far short inputs are tried in full; None also leaves out the large cases.
+    pub depth: Depth,
+    /// Objects with a line block too long for a binary file, for that write alone; each has over 65,535 words.
+    pub long: u64,
+    /// Binary files, text files and objects with thousands of records, of each so many.
+    pub many: u64,
+}
+
+/// What stands in buffers before a call: any values, so that a wrong write shows.
+trait Element: Copy + PartialEq {
+    fn of(n: u64) -> Self;
+}
+impl Element for u8 {
+    fn of(n: u64) -> u8 {
+        n as u8
+    }
+}
+impl Element for u32 {
+    fn of(n: u64) -> u32 {
+        n as u32
+    }
+}
+
+/// Elements on both sides of a lent buffer, which nothing may touch.
+const AROUND: usize = 4;
+
+struct Run<'a> {
+    calls: &'a Calls,
+    table: Table,
+    rng: Prng,
+    /// For buffers alone, so that the cases are the same whatever is linked.
+    buffers: Prng,
+}
+
+impl Run<'_> {
+    /// Counts a case, and a difference between the reference's own two sides.
+    fn case<T>(&mut self, call: Call, input: &dyn Fn() -> String, want: &Answer<T>) {
+        self.table.case(call, want.excluded.map(|why| (why, want.crate_did)));
+        if let Some(what) = &want.difference {
+            self.table.differs(call, &input(), what);
+        }
+    }
+
+    /// Counts a call, and a difference.
+    fn call<T: PartialEq + std::fmt::Debug>(&mut self, call: Call, input: &dyn Fn() -> String, number: u8, want: T, got: T) {
+        self.table.call(call, number);
+        if got != want {
+            self.table.differs(call, &input(), &format!("wanted {want:?}, got {got:?}"));
+        }
+    }
+
+    /// A filling call, with no room, one too little, just enough and more; a refusal, with no room and some.
+    fn fills<T: Element>(
+        &mut self,
+        call: Call,
+        input: &dyn Fn() -> String,
+        want: &Answer<Vec<T>>,
+        ask: &dyn Fn(&mut [T]) -> Filled,
+        order: &dyn Fn(&[T]) -> Vec<T>,
+    ) {
+        let some = 1 + self.buffers.below(40);
+        let rooms = match &want.value {
+            None => vec![0, some],
+            Some(v) if v.is_empty() => vec![0, some],
+            Some(v) if v.len() == 1 => vec![0, 1, 1 + some],
+            Some(v) => vec![0, v.len() - 1, v.len(), v.len() + some],
+        };
+        for room in rooms {
+            let salt = self.buffers.next() | 1;
+            let before: Vec<T> = (0..room + 2 * AROUND).map(|i| T::of(salt.wrapping_mul(2 * i as u64 + 1) >> 40)).collect();
+            let mut after = before.clone();
+            let got = ask(&mut after[AROUND..AROUND + room]);
+            let filled: &[T] = match &want.value {
+                Some(v) if v.len() <= room => v,
+                _ => &[],
+            };
+            let told = match &want.value {
+                None => (want.number, 0),
+                Some(v) if v.len() > room => (3, 0),
+                Some(v) => (0, v.len()),
+            };
+            self.call(call, &|| format!("{} with room for {room}", input()), told.0, told, got);
+            let end = AROUND + filled.len();
+            if got == told && !filled.is_empty() && order(&after[AROUND..end]) != filled {
+                self.table.differs(call, &input(), &format!("room for {room}: what was filled"));
+            }
+            if after[..AROUND] != before[..AROUND] || after[end..] != before[end..] {
+                self.table.differs(call, &input(), &format!("room for {room}: what was to be left alone"));
+            }
+        }
+    }
+
+    fn file(&mut self, form: Option<Form>, length: Call, read: Call, file: &[u8], want: Answer<Vec<u32>>) {
+        let input = || hex::bytes(file);
+        self.case(read, &input, &want);
+        let Some(form) = form else { return };
+        self.table.case(length, want.excluded.map(|why| (why, want.crate_did)));
+        let words = want.value.as_ref().map_or(0, Vec::len);
+        self.call(length, &input, want.number, (want.number, words), (form.length)(file));
+        self.fills(read, &input, &want, &|out| (form.read)(file, out), &|w| w.to_vec());
+    }
+
+    fn binary_file(&mut self, file: &[u8]) {
+        self.file(self.calls.binary, Call::BinaryLength, Call::BinaryRead, file, reference::read_binary(file));
+    }
+
+    fn text_file(&mut self, file: &[u8]) {
+        self.file(self.calls.text, Call::TextLength, Call::TextRead, file, reference::read_text(file));
+    }
+
+    /// Every call on an object; of the queries one each.
+    fn object(&mut self, words: Vec<u32>) {
+        let object = Object::new(words);
+        if let Some(p) = object.parts() {
+            self.table.object(p);
+        }
+        self.check_and_fair(&object);
+        self.write_binary(&object);
+        self.write_text(&object);
+        for q in gen::query::one_of_each(&mut self.rng, object.parts()) {
+            self.query(&object, q);
+        }
+        if let (Some(ask), Some(source)) = (self.calls.source_position, object.parts().and_then(|p| p.source.as_ref())) {
+            let i = gen::query::index(&mut self.buffers, source);
+            self.table.case(Call::SourcePosition, None);
+            self.call(Call::SourcePosition, &|| format!("{} at {i}", hex::bytes(source)), 0, get_pos_pair(source, i), ask(source, i));
+        }
+    }
+
+    fn check_and_fair(&mut self, object: &Object) {
+        let input = || hex::words(&object.words);
+        let want = object.check();
+        self.case(Call::Check, &input, &want);
+        if let Some(queries) = self.calls.queries {
+            self.call(Call::Check, &input, want.number, want.number, (queries.check)(&object.words));
+        }
+        let want = object.is_fair();
+        self.case(Call::IsFair, &input, &want);
+        if let Some(ask) = self.calls.is_fair {
+            let fair = u8::from(want.value == Some(true));
+            self.call(Call::IsFair, &input, want.number, (want.number, fair), ask(&object.words));
+        }
+    }
+
+    /// Binary files are compared with their records in the object's order.
+    fn write_binary(&mut self, object: &Object) {
+        let input = || hex::words(&object.words);
+        let in_order = |f: &[u8]| records::canonical(f).unwrap_or_else(|| f.to_vec());
+        let want = object.write_binary();
+        self.case(Call::BinaryWrite, &input, &want);
+        if let Some(form) = self.calls.binary {
+            self.fills(Call::BinaryWrite, &input, &want, &|out| (form.write)(&object.words, out), &in_order);
+        }
+    }
+
+    fn write_text(&mut self, object: &Object) {
+        let input = || hex::words(&object.words);
+        let want = object.write_text();
+        self.case(Call::TextWrite, &input, &want);
+        if let Some(form) = self.calls.text {
+            self.fills(Call::TextWrite, &input, &want, &|out| (form.write)(&object.words, out), &|f| f.to_vec());
+        }
+    }
+
+    fn query(&mut self, object: &Object, q: Query) {
+        let call = Call::of(q);
+        let input = || format!("{} {q:?}", hex::words(&object.words));
+        let want = object.query(q);
+        self.case(call, &input, &want);
+        if let Some(queries) = self.calls.queries {
+            let (first, second) = want.value.unwrap_or((0, 0));
+            self.call(call, &input, want.number, (want.number, first, second), (queries.query)(&object.words, q));
+        }
+    }
+
+    /// Objects too long for a binary file, inputs with many records; the cases marked M, short inputs in full, and the large cases.
+    fn fixed(&mut self, plan: &Plan) {
+        for _ in 0..plan.long {
+            let p = gen::edges::long_line_block(&mut self.rng);
+            self.write_binary(&Object::new(encode(&p)));
+        }
+        for _ in 0..plan.many {
+            let file = gen::many::binary(&mut self.rng);
+            self.binary_file(&file);
+            let file = gen::many::text(&mut self.rng);
+            self.text_file(&file);
+            let words = gen::many::object(&mut self.rng);
+            self.object(words);
+        }
+        if plan.depth == Depth::None {
+            return;
+        }
+        for (_, input, _) in marked::cases() {
+            match input {
+                Input::ReadBinary(f) => self.binary_file(&f),
+                Input::ReadText(f) => self.text_file(&f),
+                Input::WriteBinary(w) | Input::WriteText(w) => self.object(w),
+            }
+        }
+        gen::short::binary(plan.depth, &mut |f| self.binary_file(f));
+        gen::short::text(plan.depth, &mut |f| self.text_file(f));
+        gen::short::objects(plan.depth, &mut |w| self.object(w.to_vec()));
+        gen::edges::binary().iter().for_each(|f| self.binary_file(f));
+        gen::edges::text().iter().for_each(|f| self.text_file(f.as_bytes()));
+        for (_, p) in gen::edges::objects() {
+            self.object(encode(&p));
+        }
+    }
+
+    /// One random case of each call.
+    fn round(&mut self) {
+        let file = gen::binary::case(&mut self.rng);
+        self.binary_file(&file);
+        let file = gen::text::case(&mut self.rng);
+        self.text_file(&file);
+        let words = gen::object::case(&mut self.rng);
+        self.object(words);
+    }
+}
+
+pub fn run(calls: &Calls, plan: &Plan) -> Table {
+    let mut run = Run { calls, table: Table::default(), rng: Prng::new(plan.seed), buffers: Prng::new(!plan.seed) };
+    run.fixed(plan);
+    run.table.at_random = true;
+    for _ in 0..plan.cases {
+        run.round();
+    }
+    run.table
+}
+
+/// Document 01's numbers as calls under test, for where the library isn't at hand. A run must find no difference.
+pub mod paper {
+    use super::{Calls, Filled, Form, Queries};
+    use crate::numbers::query::{ask, get_pos_pair, Query};
+    use crate::numbers::{binary, text, text_write, Outcome};
+    use crate::object::{decode, encode, fair};
+    use crate::parts::Parts;
+
+    fn fill<T: Copy>(got: Outcome<Vec<T>>, out: &mut [T]) -> Filled {
+        match got {
+            Outcome::Refused(n, _) => (n, 0),
+            Outcome::Given(v) if v.len() > out.len() => (3, 0),
+            Outcome::Given(v) => {
+                out[..v.len()].copy_from_slice(&v);
+                (0, v.len())
+            }
+        }
+    }
+    fn length(p: Outcome<Parts>) -> Filled {
+        match p {
+            Outcome::Given(p) => (0, encode(&p).len()),
+            Outcome::Refused(n, _) => (n, 0),
+        }
+    }
+    fn written(words: &[u32], write: fn(&Parts) -> Outcome<Vec<u8>>, out: &mut [u8]) -> Filled {
+        fill(decode(words).map_or(Outcome::Refused(1, None), |p| write(&p)), out)
+    }
+    fn query(words: &[u32], q: Query) -> (u8, u64, u64) {
+        match decode(words).ok_or(1).and_then(|p| ask(&p, q)) {
+            Ok((a, b)) => (0, a, b),
+            Err(n) => (n, 0, 0),
+        }
+    }
+
+    pub const CALLS: Calls = Calls {
+        queries: Some(Queries { check: |w| u8::from(decode(w).is_none()), query }),
+        binary: Some(Form {
+            length: |f| length(binary::read(f)),
+            read: |f, out| fill(binary::read(f).map(|p| encode(&p)), out),
+            write: |w, out| written(w, binary::write, out),
+        }),
+        text: Some(Form {
+            length: |f| length(text::read(f)),
+            read: |f, out| fill(text::read(f).map(|p| encode(&p)), out),
+            write: |w, out| written(w, |p| Outcome::Given(text_write::write(p)), out),
+        }),
+        is_fair: Some(|w| decode(w).map_or((1, 0), |p| (0, fair(&p).into()))),
+        source_position: Some(get_pos_pair),
+    };
+}

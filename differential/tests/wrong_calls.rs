@@ -1,0 +1,145 @@
+//! A run finds nothing in the numbers' own calls, and finds every wrong call.
+use lc3_differential::gen::Depth;
+use lc3_differential::numbers::query::Query;
+use lc3_differential::rust;
+use lc3_differential::under::{paper, run, Calls, Form, Plan, Queries};
+
+const FEW: Plan = Plan { seed: 5, cases: 2000, depth: Depth::None, long: 0, many: 0 };
+
+const BINARY: Form = paper::CALLS.binary.unwrap();
+const TEXT: Form = paper::CALLS.text.unwrap();
+const QUERIES: Queries = paper::CALLS.queries.unwrap();
+
+fn binary(form: Form) -> Calls {
+    Calls { binary: Some(form), ..Calls::default() }
+}
+fn text(form: Form) -> Calls {
+    Calls { text: Some(form), ..Calls::default() }
+}
+fn query(f: fn(&[u32], Query) -> (u8, u64, u64)) -> Calls {
+    Calls { queries: Some(Queries { query: f, ..QUERIES }), ..Calls::default() }
+}
+
+#[test]
+fn no_difference_in_the_numbers() {
+    rust::quiet();
+    assert_eq!(run(&paper::CALLS, &FEW).differences, 0);
+}
+
+/// Document 01's term c, and faults that only a look at the whole buffer shows.
+#[test]
+fn wrong_calls_are_found() {
+    rust::quiet();
+    let wrong: [(&str, Calls); 14] = [
+        ("a reader that refuses all", binary(Form { read: |_, _| (10, 0), ..BINARY })),
+        ("a length told over untouched buffers", text(Form { write: |w, out| (TEXT.write)(w, &mut out.to_vec()), ..TEXT })),
+        (
+            "a reader that says 3 with space to spare",
+            text(Form {
+                read: |f, out| {
+                    let k = out.len().saturating_sub(1);
+                    (TEXT.read)(f, &mut out[..k])
+                },
+                ..TEXT
+            }),
+        ),
+        (
+            "a lookup that says 6 of a line with an address",
+            query(|w, q| match q {
+                Query::Get(_) => (6, 0, 0),
+                _ => (QUERIES.query)(w, q),
+            }),
+        ),
+        ("a writer of an unchanging empty file", binary(Form { write: |_, out| (BINARY.write)(&[], out), ..BINARY })),
+        (
+            "a writer that clears the rest",
+            text(Form {
+                write: |w, out| {
+                    let r = (TEXT.write)(w, out);
+                    if r.0 == 0 {
+                        out[r.1..].fill(0)
+                    }
+                    r
+                },
+                ..TEXT
+            }),
+        ),
+        (
+            "a reader that fills as far as it goes and then says 3",
+            binary(Form {
+                read: |f, out| {
+                    let mut all = vec![0; 1000];
+                    let r = (BINARY.read)(f, &mut all);
+                    if r.0 != 0 || r.1 <= out.len() || out.is_empty() {
+                        return (BINARY.read)(f, out);
+                    }
+                    out[0] = all[0];
+                    (3, 0)
+                },
+                ..BINARY
+            }),
+        ),
+        (
+            "a length beside a refusal",
+            binary(Form {
+                read: |f, out| {
+                    let r = (BINARY.read)(f, out);
+                    if r.0 == 3 {
+                        (3, out.len() + 1)
+                    } else {
+                        r
+                    }
+                },
+                ..BINARY
+            }),
+        ),
+        (
+            "values beside a refusal",
+            query(|w, q| match (QUERIES.query)(w, q) {
+                (5, _, _) => (5, 1, 0),
+                r => r,
+            }),
+        ),
+        (
+            "a write before the refusal",
+            binary(Form {
+                read: |f, out| {
+                    let r = (BINARY.read)(f, out);
+                    if r.0 == 15 && !out.is_empty() {
+                        out[0] ^= 1
+                    }
+                    r
+                },
+                ..BINARY
+            }),
+        ),
+        (
+            "a length that counts one too many",
+            text(Form {
+                length: |f| {
+                    let r = (TEXT.length)(f);
+                    (r.0, r.1 + usize::from(r.1 == 1))
+                },
+                ..TEXT
+            }),
+        ),
+        (
+            "a label at another address",
+            binary(Form {
+                write: |w, out| {
+                    let r = (BINARY.write)(w, out);
+                    if r.1 > 30 && out[7] == 1 {
+                        out[8] ^= 1
+                    }
+                    r
+                },
+                ..BINARY
+            }),
+        ),
+        ("a check that says yes to all", Calls { queries: Some(Queries { check: |_| 0, ..QUERIES }), ..Calls::default() }),
+        ("a test that says fair of all", Calls { is_fair: Some(|w| ((QUERIES.check)(w), 1 - (QUERIES.check)(w))), ..Calls::default() }),
+    ];
+    for (name, calls) in wrong {
+        assert!(run(&calls, &FEW).differences > 0, "{name}");
+    }
+}
