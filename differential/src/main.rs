@@ -16,7 +16,8 @@ differential write-binary | write-text               an object's words in hex
 differential count_lines | raw_line_span N | line_span N | get_pos_pair N | get N | find N | is_fair    the same
 differential marked                                  document 01's cases marked M
 differential vectors                                 the list for the test programs
-differential speed                                   times of the crate";
+differential speed                                   times of the crate
+differential growth                                  times of the library's check and queries on objects that grow";
 
 fn stop(why: &str) -> ! {
     eprintln!("differential: {why}\n{USAGE}");
@@ -116,6 +117,10 @@ fn main() {
         "marked" => exit(i32::from(!marked::print())),
         "vectors" => vectors::print(),
         "speed" => speed::print(),
+        "growth" => match ffi::calls().queries {
+            Some(q) => speed::growth(&q),
+            None => println!("growth: the library isn't linked"),
+        },
         _ => stop("what?"),
     }
 }

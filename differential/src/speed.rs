@@ -1,10 +1,13 @@
-//! Times of the crate's four calls on three objects: the best of several batches, a call's share, in nanoseconds.
+//! Times, each the best of several batches, a call's share, in nanoseconds: of the crate's four calls on three objects, and of the
+//! library's `check` and queries on objects that grow.
 use std::hint::black_box;
 use std::time::Instant;
 
 use crate::asm::access;
 use crate::asm::encoding::{BinaryFormat, ObjFileFormat, TextFormat};
 use crate::parts::{Label, Parts};
+use crate::numbers::query::Query;
+use crate::under::Queries;
 use crate::prng::Prng;
 
 /// A typical assignment: 50 labels, 400 lines, about 12 KB of source, one block.
@@ -81,4 +84,48 @@ pub fn print() {
         println!("  text write   {:12.0} ns", best(|| TextFormat::serialize(black_box(&o))));
         println!("  text read    {:12.0} ns", best(|| TextFormat::deserialize(black_box(&t))));
     }
+}
+
+/// An object of about `words` words: a quarter labels, a quarter line blocks, half source.
+pub fn growing(words: usize) -> Parts {
+    let mut p = Parts::default();
+    p.labels = (0..words / 4 / 7)
+        .map(|i| Label { name: format!("L{i:07}").into(), addr: i as u16, external: false, start: i as u64 })
+        .collect();
+    let per_block = 100;
+    p.lines = (0..words / 4 / (per_block + 4))
+        .map(|i| ((i * (per_block + 1)) as u64, (0..per_block as u16).map(|a| a + (i % 600) as u16 * 100).collect()))
+        .collect();
+    p.source = Some(b"    ADD R0, R0, #1 ; 1\n\n".repeat(words / 2 * 3 / 24));
+    p
+}
+
+/// `check` and each query on objects of 1,000 to 1,000,000 words: the time, and the time for each word.
+pub fn growth(q: &Queries) {
+    type Ask = fn(&Parts) -> Query;
+    let asks: [(&str, Ask); 6] = [
+        ("count_lines", |_| Query::CountLines),
+        ("raw_line_span", |p| Query::RawLineSpan(lines(p))),
+        ("line_span", |p| Query::LineSpan(lines(p))),
+        ("get_pos_pair", |p| Query::GetPosPair(p.source.as_ref().map_or(0, |s| s.len() as u64))),
+        ("get", |p| Query::Get(p.lines.last().map_or(0, |b| b.0))),
+        ("find", |_| Query::Find(0xFFFF)),
+    ];
+    for words in [1_000, 10_000, 100_000, 1_000_000] {
+        let p = growing(words);
+        let object = crate::object::encode(&p);
+        let each = |ns: f64| ns / object.len() as f64;
+        let ns = best(|| (q.check)(black_box(&object)));
+        println!("{:7} words  {:14} {:12.0} ns {:7.3} ns a word", object.len(), "check", ns, each(ns));
+        for (name, ask) in asks {
+            let query = ask(&p);
+            let ns = best(|| (q.query)(black_box(&object), query));
+            println!("{:7} words  {:14} {:12.0} ns {:7.3} ns a word", object.len(), name, ns, each(ns));
+        }
+    }
+}
+
+/// The last line's number.
+fn lines(p: &Parts) -> u64 {
+    p.source.as_ref().map_or(0, |s| s.iter().filter(|b| **b == b'\n').count() as u64)
 }
