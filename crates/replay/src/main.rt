@@ -1,5 +1,5 @@
 // Replays a list of answers on standard input, one case to a line, and prints how many lines there were and how many answers differ.
-// A line is `CALL INPUT ARG NUMBER FIRST SECOND`: a letter, the input in hexadecimal, and four hexadecimal numbers of 16, 2, 16 and 16 digits.
+// A line is `CALL INPUT ARG NUMBER FIRST SECOND`: a letter, the input in hexadecimal, and numbers of 16, 2, 16 and 16 hexadecimal digits.
 mod line;
 mod queries;
 
