@@ -19,11 +19,11 @@ abbrev pub _>>=_ : {A B : Type 0} → Outcome A → (A → Outcome B) → Outcom
 _>>=_ (refused n) f = refused n
 _>>=_ (given a) f = f a
 
-abbrev pub isGiven : {A : Type 0} → Outcome A → Bool
+abbrev pub isGiven : {A : Type 0} → Outcome A → Bool  -- all questions were answered yes
 isGiven (refused n) = false
 isGiven (given a) = true
 
-abbrev pub givenOr : {A : Type 0} → Outcome A → A → A
+abbrev pub givenOr : {A : Type 0} → Outcome A → A → A  -- a default where it is refused
 givenOr (refused n) d = d
 givenOr (given a) d = a
 
@@ -42,7 +42,7 @@ abbrev pub andThen : {A B : Type 0} → Option A → (A → Option B) → Option
 andThen none f = none
 andThen (some a) f = f a
 
-unfoldable pub isSome : {A : Type 0} → Option A → Bool
+unfoldable pub isSome : {A : Type 0} → Option A → Bool  -- it is not missing
 isSome none = false
 isSome (some a) = true
 
@@ -57,11 +57,11 @@ ascii []ˢ = []
 ascii (c ∷ˢ s) = code c ∷ ascii s
 
 module _ {A : Type 0} where
-  unfoldable pub isEmpty : List A → Bool
+  unfoldable pub isEmpty : List A → Bool  -- it has no elements
   isEmpty [] = true
   isEmpty (x ∷ xs) = false
 
-  unfoldable pub every : (A → Bool) → List A → Bool
+  unfoldable pub every : (A → Bool) → List A → Bool  -- all elements pass the test
   every p [] = true
   every p (x ∷ xs) = p x && every p xs
 

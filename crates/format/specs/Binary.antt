@@ -19,10 +19,10 @@ use Rattle.format.specs.Words.{flagBit}
 unfoldable pub magic : List ℕ
 magic = 0x6F ∷ 0x62 ∷ 0x6A ∷ 0x21 ∷ 0x10 ∷ []
 
-unfoldable pub version : List ℕ
+unfoldable pub version : List ℕ  -- "magic and version belong to the binary format itself"
 version = 0x00 ∷ 0x01 ∷ []
 
-unfoldable pub header : List ℕ
+unfoldable pub header : List ℕ  -- "Header 6F 62 6A 21 10 00 01"
 header = magic ++ version
 
 -- WRITING
@@ -36,7 +36,7 @@ abbrev pub memoryBytes : Option ℕ → List ℕ
 memoryBytes none = 0x00 ∷ 0x00 ∷ 0x00 ∷ []
 memoryBytes (some v) = 0xFF ∷ numberBytes 2 v
 
-unfoldable pub recordBytes : Record → List ℕ
+unfoldable pub recordBytes : Record → List ℕ  -- "Binary form": the records, by kind
 -- "00: address 2, count 2, then 3 bytes per word"
 recordBytes (block b) =
     0x00 ∷ numberBytes 2 (b .address) ++ numberBytes 2 (length (b .words)) ++ flatMap memoryBytes (b .words)
@@ -70,7 +70,7 @@ bytesAt at n bs = take n (drop at bs)
 abbrev pub numberAt : ℕ → ℕ → List ℕ → ℕ
 numberAt at n bs = valueOf 8 (bytesAt at n bs)
 
-abbrev pub hasBytes : ℕ → List ℕ → Bool
+abbrev pub hasBytes : ℕ → List ℕ → Bool  -- "All its bytes there?"
 hasBytes n bs = leb n (length bs)
 
 -- "a flag other than FF means uninitialised"; there are always 3 bytes to a word
@@ -106,7 +106,7 @@ labelFrom bs = do
   let external = not (eqb (numberAt 2 1 bs) 0)
   given (label (record { name = name; address = numberAt 0 2 bs; external = external; start = numberAt 3 8 bs }), 19 + n)
 
-unfoldable pub linesFrom : List ℕ → Outcome (Record × ℕ)
+unfoldable pub linesFrom : List ℕ → Outcome (Record × ℕ)  -- "02: first line 8, count 2, addresses."
 linesFrom bs = do
   _ ← ask 12 (hasBytes 10 bs)
   let n = numberAt 8 2 bs
@@ -115,7 +115,7 @@ linesFrom bs = do
   _ ← ask 14 (strictlyRise addresses)
   given (lineBlock (record { first = numberAt 0 8 bs; addresses = addresses }), 10 + 2 * n)
 
-unfoldable pub sourceFrom : List ℕ → Outcome (Record × ℕ)
+unfoldable pub sourceFrom : List ℕ → Outcome (Record × ℕ)  -- "03: length 8, source."
 sourceFrom bs = do
   _ ← ask 12 (hasBytes 8 bs)
   let n = numberAt 0 8 bs
@@ -151,7 +151,7 @@ binaryRecords bs = do
   _ ← ask 10 (beginsWith header bs)
   tokens recordAt 0 (drop 7 bs)
 
-unfoldable pub binaryObject : List ℕ → Outcome ObjectFile
+unfoldable pub binaryObject : List ℕ → Outcome ObjectFile  -- binary read: the records gathered, and the last questions
 binaryObject bs = do
   rs ← binaryRecords bs
   concluded binaryQuestions (gatherRecords emptyObject rs)

@@ -78,13 +78,13 @@ abbrev pub WritesBinary : List ℕ → List ℕ → Filled → Type 0
 WritesBinary ws buffer r =
     (ls : List Label) × (rs : List Relocation) × OrdersOf ws ls rs × (r ≡ fill (writeBinary ws ls rs) buffer)
 
-abbrev pub WritesText : List ℕ → List ℕ → Filled → Type 0
+abbrev pub WritesText : List ℕ → List ℕ → Filled → Type 0  -- text write
 WritesText ws buffer r = r ≡ fill (writeText ws) buffer
 
-abbrev pub ReadsBinary : List ℕ → List ℕ → Filled → Type 0
+abbrev pub ReadsBinary : List ℕ → List ℕ → Filled → Type 0  -- binary read
 ReadsBinary bs buffer r = r ≡ fill (readBinary bs) buffer
 
-abbrev pub ReadsText : List ℕ → List ℕ → Filled → Type 0
+abbrev pub ReadsText : List ℕ → List ℕ → Filled → Type 0  -- text read
 ReadsText bs buffer r = r ≡ fill (readText bs) buffer
 
 -- CALLS WITHOUT A BUFFER
@@ -98,7 +98,7 @@ pub record Measured : Type 0 where
   pub number : ℕ
   pub len : ℕ
 
-unfoldable pub measured : Outcome (List ℕ) → Measured
+unfoldable pub measured : Outcome (List ℕ) → Measured  -- "number and length in words, no buffer"
 measured (refused n) = record { number = n; len = 0 }
 measured (given ws) = record { number = 0; len = length ws }
 
@@ -107,7 +107,7 @@ pub record FairAnswer : Type 0 where
   pub number : ℕ
   pub fair : Bool
 
-unfoldable pub fairAnswer : Outcome ObjectFile → FairAnswer
+unfoldable pub fairAnswer : Outcome ObjectFile → FairAnswer  -- on a refusal not fair
 fairAnswer (refused n) = record { number = n; fair = false }
 fairAnswer (given h) = record { number = 0; fair = isFair h }
 
@@ -122,7 +122,7 @@ pub record Value : Type 0 where
   pub number : ℕ
   pub value : ℕ
 
-unfoldable pub valueAnswer : Outcome ℕ → Value
+unfoldable pub valueAnswer : Outcome ℕ → Value  -- 0 on a refusal
 valueAnswer (refused n) = record { number = n; value = 0 }
 valueAnswer (given v) = record { number = 0; value = v }
 
@@ -132,7 +132,7 @@ pub record SpanAnswer : Type 0 where
   pub start : ℕ
   pub end : ℕ
 
-unfoldable pub spanAnswer : Outcome Span → SpanAnswer
+unfoldable pub spanAnswer : Outcome Span → SpanAnswer  -- 0 on a refusal
 spanAnswer (refused n) = record { number = n; start = 0; end = 0 }
 spanAnswer (given r) = record { number = 0; start = r .start; end = r .end }
 
@@ -142,7 +142,7 @@ pub record PositionAnswer : Type 0 where
   pub line : ℕ
   pub column : ℕ
 
-unfoldable pub positionAnswer : Outcome Position → PositionAnswer
+unfoldable pub positionAnswer : Outcome Position → PositionAnswer  -- 0 on a refusal
 positionAnswer (refused n) = record { number = n; line = 0; column = 0 }
 positionAnswer (given p) = record { number = 0; line = p .line; column = p .column }
 

@@ -66,14 +66,14 @@ unfoldable pub isFairName : List ℕ → Bool
 isFairName n =
     not (isEmpty n) && noWhiteSpace n && not (beginsWith (ascii ".") n) && not (beginsWith (ascii "#") n) && not (beginsWith (ascii "=") n)
 
-unfoldable pub isFairLineBlock : List ℕ → LineBlock → Bool
+unfoldable pub isFairLineBlock : List ℕ → LineBlock → Bool  -- `FairLineBlock` as a test
 isFairLineBlock s l = isBetween 1 65535 (length (l .addresses)) && strictlyRise (l .addresses) && leb (lineEnd l) (newlines s)
 
-unfoldable pub isFairBy : Option (List ℕ) → ObjectFile → Bool
+unfoldable pub isFairBy : Option (List ℕ) → ObjectFile → Bool  -- `FairParts` as a test, by the source
 isFairBy none h = isEmpty (h .labels) && isEmpty (h .lineBlocks) && isEmpty (h .relocations)
 isFairBy (some s) h = every isFairName (namesOf h) && every (isFairLineBlock s) (h .lineBlocks) && gapsBetween (h .lineBlocks)
 
-unfoldable pub isFair : ObjectFile → Bool
+unfoldable pub isFair : ObjectFile → Bool  -- `FairParts` as a test
 isFair h = isFairBy (h .source) h
 
 unfoldable pub open-Fair : Unit {0}

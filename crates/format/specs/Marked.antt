@@ -61,7 +61,7 @@ text297 =
 abbrev pub words-to-bytes : Case
 words-to-bytes = writes-binary (words18 0xA0000130) (given bytes77)
 
-abbrev pub bytes-to-words : Case
+abbrev pub bytes-to-words : Case  -- "these .. 77 bytes", read
 bytes-to-words = reads-binary bytes77 (given (words18 0xA0003001))
 
 -- "the printing"
@@ -81,7 +81,7 @@ abbrev pub equal-addresses-binary : Case
 equal-addresses-binary =
     reads-binary (header7 ++ (0x02 ∷ 0x00 ∷ [] ++ zeros7 ++ (0x02 ∷ 0x00 ∷ 0x00 ∷ 0x30 ∷ 0x00 ∷ 0x30 ∷ []))) (refused 14)
 
-abbrev pub equal-addresses-text : Case
+abbrev pub equal-addresses-text : Case  -- "read in text"
 equal-addresses-text =
     reads-text (ascii "LC-3 OBJ FILE\n.DEBUG\n=\nLINE | ADDR | SOURCE\n0 | 3000 | \n1 | 3000 | \n2 | ???? | \n=")
     (given (0x60000000 ∷ 0xC0000000 ∷ 0xC0000000 ∷ 0xC0000000 ∷ 0x20013000 ∷ 0x20013000 ∷ 0x80000000 ∷ []))
@@ -95,7 +95,7 @@ block-twice-binary =
     ++ (0x00 ∷ 0x00 ∷ 0x30 ∷ 0x01 ∷ 0x00 ∷ 0xFF ∷ 0x78 ∷ 0x56 ∷ []))
     (given (0x00003000 ∷ 0x20015678 ∷ []))
 
-abbrev pub block-twice-text : Case
+abbrev pub block-twice-text : Case  -- "25"
 block-twice-text = reads-text (ascii "LC-3 OBJ FILE\n.TEXT\n3000\n1\n1234\n3000\n1\n5678") (refused 25)
 
 -- "flag 01"
@@ -133,5 +133,5 @@ marked =
     words-to-bytes ∷ bytes-to-words ∷ printing ∷ header-alone ∷ six-header-bytes ∷ equal-addresses-binary ∷ equal-addresses-text
     ∷ block-twice-binary ∷ block-twice-text ∷ flag-01 ∷ plus-0FF ∷ one-bar ∷ lines-1-and-3 ∷ lines-1-and-2 ∷ []
 
-abbrev pub MarkedHold : Type 0
+abbrev pub MarkedHold : Type 0  -- "gathered in a table that one proposition covers"
 MarkedHold = All Holds marked

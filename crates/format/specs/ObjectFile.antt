@@ -42,30 +42,30 @@ pub record ObjectFile : Type 0 where
 abbrev pub blockKey : Block → List ℕ
 blockKey b = b .address ∷ []
 
-abbrev pub labelKey : Label → List ℕ
+abbrev pub labelKey : Label → List ℕ  -- "labels by name bytes"
 labelKey l = l .name
 
-abbrev pub lineKey : LineBlock → List ℕ
+abbrev pub lineKey : LineBlock → List ℕ  -- "line blocks by first line"
 lineKey l = l .first ∷ []
 
-abbrev pub relocationKey : Relocation → List ℕ
+abbrev pub relocationKey : Relocation → List ℕ  -- "relocations by address"
 relocationKey r = r .address ∷ []
 
 -- where a line block ends: "first line + count, as whole numbers"
 abbrev pub lineEnd : LineBlock → ℕ
 lineEnd l = l .first + length (l .addresses)
 
-abbrev pub neverFall : List ℕ → Bool
+abbrev pub neverFall : List ℕ → Bool  -- "its addresses never fall"
 neverFall ns = chain leb ns
 
-abbrev pub strictlyRise : List ℕ → Bool
+abbrev pub strictlyRise : List ℕ → Bool  -- "strictly rising"
 strictlyRise ns = chain ltb ns
 
 -- "A line block ends .. at or before the next one's first"
 unfoldable pub apart : List LineBlock → Bool
 apart ls = chain (λ l m. leb (lineEnd l) (m .first)) ls
 
-unfoldable pub namesOf : ObjectFile → List (List ℕ)
+unfoldable pub namesOf : ObjectFile → List (List ℕ)  -- the names of labels and of relocations
 namesOf h = map (λ l. l .name) (h .labels) ++ map (λ r. r .name) (h .relocations)
 
 -- the text of a source, empty where there is none

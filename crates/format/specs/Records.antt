@@ -25,11 +25,11 @@ recordKey (lineBlock l) = 2 ∷ lineKey l
 recordKey (source s) = 3 ∷ []
 recordKey (relocation r) = 4 ∷ relocationKey r
 
-unfoldable pub sourceRecords : Option (List ℕ) → List Record
+unfoldable pub sourceRecords : Option (List ℕ) → List Record  -- "at most one source"
 sourceRecords none = []
 sourceRecords (some s) = source s ∷ []
 
-unfoldable pub recordsOf : ObjectFile → List Record
+unfoldable pub recordsOf : ObjectFile → List Record  -- the records of an object, in their order
 recordsOf h =
     map block (h .blocks) ++ map label (h .labels) ++ map lineBlock (h .lineBlocks) ++ sourceRecords (h .source)
     ++ map relocation (h .relocations)
@@ -39,16 +39,16 @@ unfoldable pub emptyObject : ObjectFile
 emptyObject = record { blocks = []; labels = []; lineBlocks = []; source = none; relocations = [] }
 
 module _ (h : ObjectFile) where
-  abbrev pub withBlocks : List Block → ObjectFile
+  abbrev pub withBlocks : List Block → ObjectFile  -- other blocks
   withBlocks bs = record { blocks = bs; labels = h .labels; lineBlocks = h .lineBlocks; source = h .source; relocations = h .relocations }
 
-  abbrev pub withLabels : List Label → ObjectFile
+  abbrev pub withLabels : List Label → ObjectFile  -- other labels
   withLabels ls = record { blocks = h .blocks; labels = ls; lineBlocks = h .lineBlocks; source = h .source; relocations = h .relocations }
 
-  abbrev pub withLines : List LineBlock → Option (List ℕ) → ObjectFile
+  abbrev pub withLines : List LineBlock → Option (List ℕ) → ObjectFile  -- other line blocks and source
   withLines ls s = record { blocks = h .blocks; labels = h .labels; lineBlocks = ls; source = s; relocations = h .relocations }
 
-  abbrev pub withRelocations : List Relocation → ObjectFile
+  abbrev pub withRelocations : List Relocation → ObjectFile  -- other relocations
   withRelocations rs = record { blocks = h .blocks; labels = h .labels; lineBlocks = h .lineBlocks; source = h .source; relocations = rs }
 
 -- each record in the part that it belongs to, in the order in which they come
@@ -90,7 +90,7 @@ binaryQuestions = (15, λ h. apart (h .lineBlocks)) ∷ []
 abbrev pub textQuestions : List Question
 textQuestions = (31, λ h. every (λ l. neverFall (l .addresses)) (h .lineBlocks)) ∷ []
 
-unfoldable pub askAll : List Question → ObjectFile → Outcome (Unit {0})
+unfoldable pub askAll : List Question → ObjectFile → Outcome (Unit {0})  -- one after the other
 askAll [] h = given tt
 askAll (q ∷ qs) h = ask (q .0) (q .1 h) >>= λ _. askAll qs h
 

@@ -14,7 +14,7 @@ unfoldable pub newlines : List ℕ → ℕ
 newlines [] = 0
 newlines (b ∷ bs) = if eqb b 10 then suc (newlines bs) else newlines bs
 
-unfoldable pub lineCount : List ℕ → ℕ
+unfoldable pub lineCount : List ℕ → ℕ  -- "line count is newlines + 1"
 lineCount s = suc (newlines s)
 
 -- 001's `nl_indices`, where each line ends: at its newline, the last at the source's end; i is the place of the list's start
@@ -22,7 +22,7 @@ unfoldable pub nlIndicesFrom : ℕ → List ℕ → List ℕ
 nlIndicesFrom i [] = i ∷ []
 nlIndicesFrom i (b ∷ bs) = if eqb b 10 then i ∷ nlIndicesFrom (suc i) bs else nlIndicesFrom (suc i) bs
 
-unfoldable pub nlIndices : List ℕ → List ℕ
+unfoldable pub nlIndices : List ℕ → List ℕ  -- of a whole source
 nlIndices s = nlIndicesFrom 0 s
 
 -- a range of source byte indices, its end not included
@@ -41,7 +41,7 @@ rawLineSpan s line = do
   _ ← ask 5 (ltb line (lineCount s))
   given (record { start = lineStart s line; end = min (suc (getD (nlIndices s) line 0)) (length s) })
 
-abbrev pub spanBytes : List ℕ → Span → List ℕ
+abbrev pub spanBytes : List ℕ → Span → List ℕ  -- the bytes of a range
 spanBytes s r = take (r .end - r .start) (drop (r .start) s)
 
 -- less White_Space at the end and then at the start: "a blank line gives the empty range at its start"
@@ -54,7 +54,7 @@ trimmed s r =
 unfoldable pub lineSpan : List ℕ → ℕ → Outcome Span
 lineSpan s line = rawLineSpan s line >>= λ r. given (trimmed s r)
 
-pub record Position : Type 0 where
+pub record Position : Type 0 where  -- what `get_pos_pair` gives
   pub line : ℕ
   pub column : ℕ
 

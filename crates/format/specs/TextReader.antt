@@ -45,11 +45,11 @@ unfoldable pub digitsFrom : ℕ → ℕ → List ℕ → Option ℕ
 digitsFrom base n [] = some n
 digitsFrom base n (b ∷ bs) = andThen (digitValue base b) λ d. digitsFrom base (n * base + d) bs
 
-unfoldable pub withoutPlus : List ℕ → List ℕ
+unfoldable pub withoutPlus : List ℕ → List ℕ  -- "may carry `+`"
 withoutPlus [] = []
 withoutPlus (b ∷ bs) = if eqb b 0x2B then bs else b ∷ bs
 
-abbrev pub belowLimit : ℕ → Option ℕ → Option ℕ
+abbrev pub belowLimit : ℕ → Option ℕ → Option ℕ  -- "must fit"
 belowLimit limit none = none
 belowLimit limit (some n) = if ltb n limit then some n else none
 
@@ -77,7 +77,7 @@ splitOnce [] = none
 splitOnce (b ∷ bs) =
     if beginsWith (ascii " | ") (b ∷ bs) then some ([], drop 3 (b ∷ bs)) else andThen (splitOnce bs) λ p. some (b ∷ p .0, p .1)
 
-abbrev pub firstCell : List ℕ → (List ℕ → List (List ℕ)) → Option (List ℕ × List ℕ) → List (List ℕ)
+abbrev pub firstCell : List ℕ → (List ℕ → List (List ℕ)) → Option (List ℕ × List ℕ) → List (List ℕ)  -- the first cell, and more of the rest
 firstCell bs more none = bs ∷ []
 firstCell bs more (some p) = p .0 ∷ more (p .1)
 
@@ -90,7 +90,7 @@ splitn (suc k) bs = firstCell bs (λ rest. splitn k rest) (splitOnce bs)
 abbrev pub cellAt : ℕ → List (List ℕ) → List ℕ
 cellAt i cs = getD cs i []
 
-unfoldable pub sameCells : List (List ℕ) → List (List ℕ) → Bool
+unfoldable pub sameCells : List (List ℕ) → List (List ℕ) → Bool  -- equal cell by cell
 sameCells [] [] = true
 sameCells [] (y ∷ ys) = false
 sameCells (x ∷ xs) [] = false
@@ -114,7 +114,7 @@ blockAt h (l ∷ c ∷ ls) = do
   _ ← ask 25 (not (isSome (atKey blockKey (a ∷ []) (h .blocks))))
   given (putRecord h (block (record { address = a; words = ws })), suc n)
 
-unfoldable pub parseTextGroup : ObjectFile → List (List ℕ) → Outcome ObjectFile
+unfoldable pub parseTextGroup : ObjectFile → List (List ℕ) → Outcome ObjectFile  -- .TEXT, 24 and 25
 parseTextGroup h ls = scanTokens blockAt h 0 ls
 
 -- .SYMBOL, 26: "headers and all cells but SOURCE are trimmed"; "EXT u8 (nonzero is external)". "Later rows set their own fields".
@@ -126,7 +126,7 @@ parseSymbolRow h l = do
   let name = trim (cellAt 2 cs)
   given (putRecord h (label (record { name = name; address = a; external = not (eqb e 0); start = labelNamed name (h .labels) .start })))
 
-unfoldable pub parseSymbolGroup : ObjectFile → List (List ℕ) → Outcome ObjectFile
+unfoldable pub parseSymbolGroup : ObjectFile → List (List ℕ) → Outcome ObjectFile  -- .SYMBOL, 26
 parseSymbolGroup h ls = rowsUnder 26 (ascii "ADDR" ∷ ascii "EXT" ∷ ascii "LABEL" ∷ []) ls >>= λ rows. foldOutcome parseSymbolRow h rows
 
 -- .LINKER_INFO, 26
@@ -136,7 +136,7 @@ parseLinkerRow h l = do
   a ← need 26 (hex2u16 (trim (cellAt 0 cs)))
   given (putRecord h (relocation (record { address = a; name = trim (cellAt 1 cs) })))
 
-unfoldable pub parseLinkerGroup : ObjectFile → List (List ℕ) → Outcome ObjectFile
+unfoldable pub parseLinkerGroup : ObjectFile → List (List ℕ) → Outcome ObjectFile  -- .LINKER_INFO, 26
 parseLinkerGroup h ls = rowsUnder 26 (ascii "ADDR" ∷ ascii "LABEL" ∷ []) ls >>= λ rows. foldOutcome parseLinkerRow h rows
 
 -- .DEBUG, its label table, 26: "INDEX .. u64"
@@ -148,7 +148,7 @@ parseLabelRow h l = do
   let old = labelNamed name (h .labels)
   given (putRecord h (label (record { name = name; address = old .address; external = old .external; start = i })))
 
-unfoldable pub parseLabelTable : ObjectFile → List (List ℕ) → Outcome ObjectFile
+unfoldable pub parseLabelTable : ObjectFile → List (List ℕ) → Outcome ObjectFile  -- 26
 parseLabelTable h ls = rowsUnder 26 (ascii "LABEL" ∷ ascii "INDEX" ∷ []) ls >>= λ rows. foldOutcome parseLabelRow h rows
 
 -- .DEBUG, its line table, "header and rows read, line numbers 0, 1, 2 ..? 28": from row i on, the address and the untrimmed SOURCE cell
@@ -175,7 +175,7 @@ unfoldable pub hexDigits : List ℕ → ℕ
 hexDigits [] = 0
 hexDigits (b ∷ bs) = if isSome (digitValue 16 b) then suc (hexDigits bs) else 0
 
-abbrev pub scalarOf : Option ℕ → Outcome ℕ
+abbrev pub scalarOf : Option ℕ → Outcome ℕ  -- "of a scalar value"
 scalarOf none = refused 30
 scalarOf (some c) = if isScalar c then given c else refused 30
 
@@ -206,7 +206,7 @@ unfoldable pub unescapeAt : List ℕ → Outcome (List ℕ × ℕ)
 unescapeAt [] = refused 30
 unescapeAt (b ∷ bs) = if eqb b 0x5C then afterBackslash bs else given (b ∷ [], 0)
 
-unfoldable pub unescape : List ℕ → Outcome (List ℕ)
+unfoldable pub unescape : List ℕ → Outcome (List ℕ)  -- "Joined source unescapes? 30"
 unescape bs = tokens unescapeAt 0 bs >>= λ ts. given (flatMap (λ t. t) ts)
 
 -- "If this line table has rows, had none before it? 29", "Joined source unescapes? 30"
@@ -226,13 +226,13 @@ pub record Split : Type 0 where
   pub before : List (List ℕ)
   pub after : Option (List (List ℕ))
 
-abbrev pub inFront : List ℕ → Split → Split
+abbrev pub inFront : List ℕ → Split → Split  -- a line before the bar
 inFront l p = record { before = l ∷ p .before; after = p .after }
 
-abbrev pub isBar : List ℕ → Bool
+abbrev pub isBar : List ℕ → Bool  -- "a first line beginning `=`"
 isBar l = beginsWith (ascii "=") l
 
-unfoldable pub splitAtBar : List (List ℕ) → Split
+unfoldable pub splitAtBar : List (List ℕ) → Split  -- at the first such line
 splitAtBar [] = record { before = []; after = none }
 splitAtBar (l ∷ ls) = if isBar l then record { before = []; after = some ls } else inFront l (splitAtBar ls)
 

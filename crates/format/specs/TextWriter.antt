@@ -13,10 +13,10 @@ use Rattle.format.specs.ObjectFile.{Block, Label, LineBlock, Relocation,
 use Rattle.format.specs.Words.{flagBit}
 use Rattle.format.specs.Source.{lineCount, rawLineSpan, spanBytes}
 
-abbrev pub upperDigit : ℕ → ℕ
+abbrev pub upperDigit : ℕ → ℕ  -- 0 to 9, A to F
 upperDigit d = if ltb d 10 then 48 + d else 55 + d
 
-abbrev pub lowerDigit : ℕ → ℕ
+abbrev pub lowerDigit : ℕ → ℕ  -- 0 to 9, a to f
 lowerDigit d = if ltb d 10 then 48 + d else 87 + d
 
 -- {:04X}
@@ -33,7 +33,7 @@ numeral (suc k) base n ds = if ltb n base then lowerDigit n ∷ ds else numeral 
 unfoldable pub decimal : ℕ → List ℕ
 decimal n = numeral 19 10 n []
 
-abbrev pub spaces : ℕ → List ℕ
+abbrev pub spaces : ℕ → List ℕ  -- n spaces
 spaces n = replicate n 0x20
 
 -- numbers are filled to the right
@@ -71,14 +71,14 @@ blockLines b =
 abbrev pub symbolHeader : List ℕ
 symbolHeader = ascii "ADDR | EXT | LABEL"
 
-abbrev pub symbolRow : Label → List ℕ
+abbrev pub symbolRow : Label → List ℕ  -- ADDR, EXT and LABEL
 symbolRow m = hex4 (m .address) ++ tableDiv ++ toRight 3 (decimal (flagBit (m .external))) ++ tableDiv ++ m .name
 
 -- labels by address, then name: names differ, so no two keys are equal
 abbrev pub byAddress : List Label → List Label
 byAddress ls = sorted (λ m. m .address ∷ m .name) ls
 
-unfoldable pub symbolTable : List Label → List ℕ
+unfoldable pub symbolTable : List Label → List ℕ  -- empty without labels
 symbolTable [] = []
 symbolTable (l ∷ ls) = textLine symbolHeader ++ flatMap (λ m. textLine (symbolRow m)) (byAddress (l ∷ ls))
 
@@ -86,7 +86,7 @@ symbolTable (l ∷ ls) = textLine symbolHeader ++ flatMap (λ m. textLine (symbo
 abbrev pub linkerHeader : List ℕ
 linkerHeader = ascii "ADDR | LABEL"
 
-abbrev pub linkerRow : Relocation → List ℕ
+abbrev pub linkerRow : Relocation → List ℕ  -- ADDR and LABEL
 linkerRow q = hex4 (q .address) ++ tableDiv ++ q .name
 
 -- relocations by address, as they stand
@@ -98,21 +98,21 @@ linkerTable (r ∷ rs) = textLine linkerHeader ++ flatMap (λ q. textLine (linke
 abbrev pub labelWidth : List Label → ℕ
 labelWidth ls = widest (λ m. length (m .name)) 5 ls
 
-abbrev pub indexWidth : List Label → ℕ
+abbrev pub indexWidth : List Label → ℕ  -- the longest index, at least 5
 indexWidth ls = widest (λ m. length (decimal (m .start))) 5 ls
 
 -- for columns of these widths
 abbrev pub labelHeader : ℕ → ℕ → List ℕ
 labelHeader names indices = toLeft names (ascii "LABEL") ++ tableDiv ++ toLeft indices (ascii "INDEX")
 
-abbrev pub labelRow : ℕ → ℕ → Label → List ℕ
+abbrev pub labelRow : ℕ → ℕ → Label → List ℕ  -- LABEL and INDEX
 labelRow names indices m = toLeft names (m .name) ++ tableDiv ++ toRight indices (decimal (m .start))
 
 -- labels by source start, then name: names differ, so no two keys are equal
 abbrev pub byStart : List Label → List Label
 byStart ls = sorted (λ m. m .start ∷ m .name) ls
 
-unfoldable pub labelTable : List Label → List ℕ
+unfoldable pub labelTable : List Label → List ℕ  -- empty without labels
 labelTable [] = []
 labelTable (l ∷ ls) =
     let names = labelWidth (l ∷ ls) in
@@ -131,7 +131,7 @@ escapeChar c =
     else if isBetween 0x20 0x7E c then c ∷ []
     else ascii "\\u{" ++ numeral 5 16 c [] ++ ascii "}"
 
-unfoldable pub escape : List ℕ → List ℕ
+unfoldable pub escape : List ℕ → List ℕ  -- of a text
 escape t = flatMap escapeChar (scalarsOf t)
 
 -- a row of the line table: a line number, and its address if it has one
@@ -139,7 +139,7 @@ pub record Row : Type 0 where
   pub number : ℕ
   pub address : Option ℕ
 
-abbrev pub rowKey : Row → List ℕ
+abbrev pub rowKey : Row → List ℕ  -- rows by line number
 rowKey r = r .number ∷ []
 
 -- n rows without addresses, from a line on: a row for each line of the source
@@ -152,18 +152,18 @@ unfoldable pub addRows : ℕ → List ℕ → List Row → List Row
 addRows i [] rows = rows
 addRows i (a ∷ xs) rows = addRows (suc i) xs (upsert rowKey (record { number = i % 2 ^ 64; address = some a }) rows)
 
-unfoldable pub addBlocks : List LineBlock → List Row → List Row
+unfoldable pub addBlocks : List LineBlock → List Row → List Row  -- line block by line block
 addBlocks [] rows = rows
 addBlocks (l ∷ ls) rows = addBlocks ls (addRows (l .first) (l .addresses) rows)
 
-unfoldable pub lineRows : List ℕ → List LineBlock → List Row
+unfoldable pub lineRows : List ℕ → List LineBlock → List Row  -- the rows of the source, with addresses
 lineRows s ls = addBlocks ls (plainRows 0 (lineCount s))
 
 -- a line with its newline, escaped. "Lines beyond the source have empty SOURCE."
 unfoldable pub sourceCell : List ℕ → ℕ → List ℕ
 sourceCell s i = givenOr (rawLineSpan s i >>= λ r. given (escape (spanBytes s r))) []
 
-abbrev pub lineHeader : ℕ → List ℕ
+abbrev pub lineHeader : ℕ → List ℕ  -- for a column of this width
 lineHeader numbers = toLeft numbers (ascii "LINE") ++ tableDiv ++ ascii "ADDR" ++ tableDiv ++ ascii "SOURCE"
 
 -- with the SOURCE cell of each line
@@ -171,22 +171,22 @@ abbrev pub lineRow : ℕ → (ℕ → List ℕ) → Row → List ℕ
 lineRow numbers cellOf r =
     toRight numbers (decimal (r .number)) ++ tableDiv ++ memoryText (r .address) ++ tableDiv ++ cellOf (r .number)
 
-abbrev pub lineWidth : List Row → ℕ
+abbrev pub lineWidth : List Row → ℕ  -- the longest line number, at least 4
 lineWidth rows = widest (λ r. length (decimal (r .number))) 4 rows
 
-unfoldable pub lineTable : List ℕ → List LineBlock → List ℕ
+unfoldable pub lineTable : List ℕ → List LineBlock → List ℕ  -- header and rows
 lineTable s ls =
     let rows = lineRows s ls in
     textLine (lineHeader (lineWidth rows)) ++ flatMap (λ r. textLine (lineRow (lineWidth rows) (sourceCell s) r)) rows
 
-abbrev pub barLine : List ℕ
+abbrev pub barLine : List ℕ  -- a divider line
 barLine = textLine (ascii "====================")
 
 -- "Without labels, source and relocations the crate's `sym` is None"
 unfoldable pub blocksOnly : ObjectFile → Bool
 blocksOnly h = isEmpty (h .labels) && not (isSome (h .source)) && isEmpty (h .relocations)
 
-unfoldable pub symbolGroups : ObjectFile → List ℕ
+unfoldable pub symbolGroups : ObjectFile → List ℕ  -- .SYMBOL, .LINKER_INFO and .DEBUG
 symbolGroups h =
     textLine (ascii ".SYMBOL") ++ symbolTable (h .labels) ++ textLine []
     ++ textLine (ascii ".LINKER_INFO") ++ linkerTable (h .relocations) ++ textLine []
@@ -194,7 +194,7 @@ symbolGroups h =
     ++ labelTable (h .labels) ++ barLine
     ++ Option·getD (andThen (h .source) λ s. some (lineTable s (h .lineBlocks) ++ barLine)) []
 
-unfoldable pub textFile : ObjectFile → List ℕ
+unfoldable pub textFile : ObjectFile → List ℕ  -- "byte for byte"
 textFile h =
     textLine (ascii "LC-3 OBJ FILE") ++ textLine [] ++ textLine (ascii ".TEXT") ++ flatMap blockLines (h .blocks) ++ textLine []
     ++ (if blocksOnly h then [] else symbolGroups h)

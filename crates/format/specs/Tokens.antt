@@ -30,13 +30,13 @@ pub record Parts (A : Type 0) : Type 0 where
   pub before : List A
   pub groups : List (A × List A)
 
-abbrev pub headOf : {A : Type 0} → A → Parts A → Parts A
+abbrev pub headOf : {A : Type 0} → A → Parts A → Parts A  -- a head opens a group
 headOf a p = record { before = []; groups = (a, p .before) ∷ p .groups }
 
-abbrev pub bodyOf : {A : Type 0} → A → Parts A → Parts A
+abbrev pub bodyOf : {A : Type 0} → A → Parts A → Parts A  -- another element goes on with it
 bodyOf a p = record { before = a ∷ p .before; groups = p .groups }
 
-unfoldable pub partsAt : {A : Type 0} → (A → Bool) → List A → Parts A
+unfoldable pub partsAt : {A : Type 0} → (A → Bool) → List A → Parts A  -- cut before each head
 partsAt isHead [] = record { before = []; groups = [] }
 partsAt isHead (a ∷ xs) = if isHead a then headOf a (partsAt isHead xs) else bodyOf a (partsAt isHead xs)
 

@@ -31,7 +31,7 @@ abbrev pub Writes : Form → List ℕ → List ℕ → Filled → Type 0
 Writes binary = WritesBinary
 Writes text = WritesText
 
-abbrev pub Reads : Form → List ℕ → List ℕ → Filled → Type 0
+abbrev pub Reads : Form → List ℕ → List ℕ → Filled → Type 0  -- of a read
 Reads binary = ReadsBinary
 Reads text = ReadsText
 
@@ -58,7 +58,7 @@ pub record LogEntry : Type 0 where
   pub number : ℕ
   pub after : List ℕ
 
-abbrev pub logEntry : Trip → List ℕ → ℕ → List ℕ → LogEntry
+abbrev pub logEntry : Trip → List ℕ → ℕ → List ℕ → LogEntry  -- its four values
 logEntry t ws n next = record { trip = t; before = ws; number = n; after = next }
 
 -- a list of trips from the words ws, each from what stands after the one before it: its log, and the words that stand last
@@ -108,7 +108,7 @@ unfoldable pub stepsOf : List LogEntry → ObjectFile → ObjectFile
 stepsOf [] h = h
 stepsOf (e ∷ es) h = stepsOf es (if eqb (e .number) 0 then tripStep (e .trip .form) h else h)
 
-abbrev pub isBinary : Form → Bool
+abbrev pub isBinary : Form → Bool  -- a binary trip
 isBinary binary = true
 isBinary text = false
 

@@ -51,14 +51,14 @@ scalarsFrom k [] = some []
 scalarsFrom zero (b ∷ bs) = andThen (charAt (b ∷ bs)) λ c. andThen (scalarsFrom (c .1) bs) λ cs. some (c .0 ∷ cs)
 scalarsFrom (suc k) (b ∷ bs) = scalarsFrom k bs
 
-abbrev pub scalars : List ℕ → Option (List ℕ)
+abbrev pub scalars : List ℕ → Option (List ℕ)  -- of a whole text
 scalars bs = scalarsFrom 0 bs
 
 -- the same of a text; nothing of what is not UTF-8, which no caller has
 abbrev pub scalarsOf : List ℕ → List ℕ
 scalarsOf bs = Option·getD (scalars bs) []
 
-unfoldable pub isUtf8 : List ℕ → Bool
+unfoldable pub isUtf8 : List ℕ → Bool  -- "Texts are UTF-8"
 isUtf8 bs = isSome (scalars bs)
 
 -- the number of characters of a text: of the bytes that are not 10xxxxxx
@@ -88,10 +88,10 @@ trimFrom k [] = []
 trimFrom zero (b ∷ bs) = passOver (whiteSpaceLength (charAt (b ∷ bs))) (b ∷ bs) (λ n. trimFrom n bs)
 trimFrom (suc k) (b ∷ bs) = trimFrom k bs
 
-unfoldable pub trimStart : List ℕ → List ℕ
+unfoldable pub trimStart : List ℕ → List ℕ  -- from the front
 trimStart bs = trimFrom 0 bs
 
-unfoldable pub isBlank : List ℕ → Bool
+unfoldable pub isBlank : List ℕ → Bool  -- White_Space only, or nothing
 isBlank bs = isEmpty (trimStart bs)
 
 -- a text up to where only White_Space follows
@@ -99,7 +99,7 @@ unfoldable pub trimEnd : List ℕ → List ℕ
 trimEnd [] = []
 trimEnd (b ∷ bs) = if isBlank (b ∷ bs) then [] else b ∷ trimEnd bs
 
-unfoldable pub trim : List ℕ → List ℕ
+unfoldable pub trim : List ℕ → List ℕ  -- "Trim .. by White_Space"
 trim bs = trimEnd (trimStart bs)
 
 unfoldable pub open-Utf8 : Unit {0}

@@ -18,7 +18,7 @@ use Rattle.format.specs.Records.{Record, block, label, lineBlock, source
 abbrev pub word : ℕ → ℕ → ℕ
 word kind bits = kind * 2 ^ 29 + bits
 
-abbrev pub flagBit : Bool → ℕ
+abbrev pub flagBit : Bool → ℕ  -- bit 16
 flagBit true = 1
 flagBit false = 0
 
@@ -38,7 +38,7 @@ textWords (a ∷ []) = word 7 (valueOf 8 (a ∷ 0 ∷ 0 ∷ 1 ∷ [])) ∷ []
 textWords (a ∷ b ∷ []) = word 7 (valueOf 8 (a ∷ b ∷ 0 ∷ 2 ∷ [])) ∷ []
 textWords (a ∷ b ∷ c ∷ bs) = word 7 (valueOf 8 (a ∷ b ∷ c ∷ 3 ∷ [])) ∷ textWords bs
 
-unfoldable pub recordWords : Record → List ℕ
+unfoldable pub recordWords : Record → List ℕ  -- the words of a record, by kind
 -- "0 block: bits 15..0 address. Then its memory words"
 recordWords (block b) = word 0 (b .address) ∷ map memoryWord (b .words)
 -- "2 label: bits 15..0 address, bit 16 external. Then a number (source start) and a text (name)."
@@ -50,7 +50,7 @@ recordWords (source s) = word 4 0 ∷ textWords s
 -- "5 relocation: bits 15..0 address. Then a text (name)."
 recordWords (relocation r) = word 5 (r .address) ∷ textWords (r .name)
 
-unfoldable pub wordsOf : ObjectFile → List ℕ
+unfoldable pub wordsOf : ObjectFile → List ℕ  -- an object as words
 wordsOf h = flatMap recordWords (recordsOf h)
 
 -- THE WAY BACK: each "no" is number 1, "Is it well formed?"
@@ -59,15 +59,15 @@ wordsOf h = flatMap recordWords (recordsOf h)
 unfoldable pub bitsOf : ℕ → ℕ → ℕ → Outcome ℕ
 bitsOf kind limit w = if eqb (w / 2 ^ 29) kind && ltb (w % 2 ^ 29) limit then given (w % 2 ^ 29) else refused 1
 
-unfoldable pub memoryOf : ℕ → Outcome (Option ℕ)
+unfoldable pub memoryOf : ℕ → Outcome (Option ℕ)  -- a memory word
 memoryOf w =
     bitsOf 1 (2 ^ 17) w >>= λ x. if eqb x 0 then given none else if leb (2 ^ 16) x then given (some (x - 2 ^ 16)) else refused 1
 
-unfoldable pub memoriesOf : List ℕ → Outcome (List (Option ℕ))
+unfoldable pub memoriesOf : List ℕ → Outcome (List (Option ℕ))  -- memory words
 memoriesOf [] = given []
 memoriesOf (w ∷ ws) = memoryOf w >>= λ m. memoriesOf ws >>= λ ms. given (m ∷ ms)
 
-unfoldable pub addressesOf : List ℕ → Outcome (List ℕ)
+unfoldable pub addressesOf : List ℕ → Outcome (List ℕ)  -- "a line's address, bit 16 set"
 addressesOf [] = given []
 addressesOf (w ∷ ws) =
     bitsOf 1 (2 ^ 17) w >>= λ x. ask 1 (leb (2 ^ 16) x) >>= λ _. addressesOf ws >>= λ xs. given ((x - 2 ^ 16) ∷ xs)
@@ -91,7 +91,7 @@ textPart w = do
   _ ← ask 1 (isBetween 1 3 n && ltb (x % 2 ^ 24) (2 ^ (8 * n)))
   given (digitsOf 8 n x)
 
-unfoldable pub textFrom : List ℕ → Outcome (List ℕ)
+unfoldable pub textFrom : List ℕ → Outcome (List ℕ)  -- "all but the last carry 3"
 textFrom [] = given []
 textFrom (w ∷ []) = textPart w
 textFrom (w ∷ v ∷ ws) = textPart w >>= λ bs. ask 1 (eqb (length bs) 3) >>= λ _. textFrom (v ∷ ws) >>= λ cs. given (bs ++ cs)
@@ -116,7 +116,7 @@ recordFrom g =
     then (bitsOf 4 1 (g .0) >>= λ _. textFrom (g .1) >>= λ t. given (source t))
     else (bitsOf 5 (2 ^ 16) (g .0) >>= λ a. textFrom (g .1) >>= λ t. given (relocation (record { address = a; name = t })))
 
-unfoldable pub recordsFrom : List (ℕ × List ℕ) → Outcome (List Record)
+unfoldable pub recordsFrom : List (ℕ × List ℕ) → Outcome (List Record)  -- all of them
 recordsFrom [] = given []
 recordsFrom (g ∷ gs) = recordFrom g >>= λ r. recordsFrom gs >>= λ rs. given (r ∷ rs)
 
