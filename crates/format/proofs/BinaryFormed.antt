@@ -1,5 +1,5 @@
 -- What the binary reader gives, for every input of bytes, is well formed and in range. What the reading of one record settles: it is no
--- longer than what is there, it is the same whatever follows, and of bytes it is sound. Assumes nothing.
+-- longer than what is there, it is the same whatever follows, and of bytes it is in range. Assumes nothing.
 use mathlib.Core.Path.{_≡_, refl, _∙_, ap}
 use mathlib.Core.Bool.{Bool, true, false, not}
 use mathlib.Core.List.{List, [], _∷_, _++_}

@@ -209,7 +209,7 @@ module _ (bs : List Block) where
       ap textObject short-lines
       ∙ text-path (flatMap textLine (title ∷ [] ∷ ascii ".TEXT" ∷ bl) ++ 0x0A ∷ []) (ascii ".TEXT" ∷ bl) ((ascii ".TEXT", bl) ∷ []) onlyBlocks (short-utf8 bl ob eb) (short-body bl ob eb) (short-parts bl ob eb) (rw r) refl
 
--- the count is in range too, as the object is sound
+-- the count is in range too, as the object is consistent
 blocks-in : (bs : List Block) → All (λ b. (b .address < 2 ^ 16) × All Word16 (b .words)) bs → All (λ b. length (b .words) ≤ 65535) bs → All TextBlock bs
 blocks-in bs h e =
     all-map (λ b p. (p .0 .0, omega (arith, p .1), p .0 .1)) bs (all-both (λ b. (b .address < 2 ^ 16) × All Word16 (b .words)) (λ b. length (b .words) ≤ 65535) bs h e)

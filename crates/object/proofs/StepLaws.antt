@@ -74,7 +74,7 @@ module _ (g : ℕ × List ℕ) (p : Past) where
     unfolding fits
     near h = ap (λ o. allows o (fits p)) e ∙ and-last (isLess (order (p .key) (recordKey r))) (soundRecord r) (apartFrom (p .end) r) h
 
-  -- a body that is not as it should be: not read, or not sound
+  -- a body that is not as it should be: not read, or not consistent
   pub bad-body : {A : Type 0} (o : Outcome A) (q : A → Bool) (make : A → Record) → ((a : A) → soundRecord (make a) ≡ q a) → recordFrom g
       ≡ (o >>= λ a. given (make a))
       → allows o q ≡ false → Refused

@@ -1,5 +1,5 @@
 -- The check of an object as one walk along its records. The definition reads all records, and then asks for their order and that the
--- object is sound; the walk asks everything of a record that the records before it leave to ask. Assumes nothing.
+-- object is consistent; the walk asks everything of a record that the records before it leave to ask. Assumes nothing.
 use mathlib.Core.Bool.{Bool, true, false, _&&_, _||_, not}
 use mathlib.Core.List.{List, [], _∷_}
 use Prim.Native.Nat.{ℕ}

@@ -246,7 +246,7 @@ module _ (t : List ℕ) (at a e n : ℕ) (l : RowAt t at a e n) where
     pub block-yes : (x q : ℕ) → d < 65536 → some x ≡ parseNumber 10 65536 (part c f t) → EntriesAt t m x q → BlockFrom t at d x m q
     block-yes x q small g w = let ws = there-is (wordsIn x (partsFrom t m .before)) (w .read) in block-of x q small g w (ws .0) (ws .1)
 
--- what the loop over blocks knows: the holding that the definition's scan has by now, whichever stood at first
+-- what the loop over blocks knows: the object that the definition's scan has by now, whichever stood at first
 pub record Marking (t : List ℕ) (at : ℕ) (seen₀ : List ℕ) (i : ℕ) (seen : List ℕ) : Type 0 where
   pub from : at ≤ i
   pub size : length seen ≡ length seen₀

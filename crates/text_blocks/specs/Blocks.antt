@@ -66,7 +66,7 @@ NextBlock t at (bl.At a n p q) = BlockFrom t at a n p q
 NextBlock t at bl.Done = partsFrom t at .before ≡ []
 NextBlock t at bl.Bad = NoBlock t at
 
--- the addresses that the holding has blocks at are marked by 1
+-- the addresses that the object has blocks at are marked by 1
 abbrev pub Seen : ObjectFile → List ℕ → Type 0
 Seen h seen = (a : ℕ) → isSome (atKey blockKey (a ∷ []) (h .blocks)) ≡ eqb (getD seen a 0) 1
 

@@ -25,7 +25,7 @@ pub record Named : Type 0 where
 abbrev pub labelColumns : List (List ℕ)
 labelColumns = ascii "LABEL" ∷ ascii "INDEX" ∷ []
 
--- what a row says, and what it does to the holding
+-- what a row says, and what it does to the object
 unfoldable pub labelIn : List ℕ → Option Named
 labelIn l =
     andThen (parseDecimal 18446744073709551616 (trim (getD (splitn 1 l) 1 []))) λ i.

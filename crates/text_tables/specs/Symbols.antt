@@ -35,7 +35,7 @@ symbolIn l =
     andThen (parseDecimal 256 (trim (getD (splitn 2 l) 1 []))) λ e.
     some (record { address = a; external = not (eqb e 0); name = trim (getD (splitn 2 l) 2 []) })
 
--- and what it does to the holding
+-- and what it does to the object
 unfoldable pub setSymbol : ObjectFile → Sym → ObjectFile
 setSymbol h s =
     let old = labelNamed (s .name) (h .labels) in
