@@ -1,6 +1,6 @@
 -- The bytes of a line and the position of an index, found in one pass. Assumes nothing.
 use mathlib.Core.Path.{_≡_, refl, sym, _∙_, ap}
-use mathlib.Core.Bool.{Bool, true, false}
+use mathlib.Core.Bool.{Bool}
 use mathlib.Core.List.{List, [], _∷_}
 use Prim.Native.Nat.{ℕ, zero, suc, _+_, _-_, _≤_, _<_, min}
 use native.Mathlib.Nat.{min-eq-left, min-eq-right, zero-add, add-zero}
@@ -10,12 +10,10 @@ use lib.ListN.{length, drop, getD, drop-of-length-le}
 use lib.Seq.{drop-cons}
 use lib.Dec.{ltb, eqb}
 use borrow.Author.Tests.{ltb-true, ltb-false, lt-ltb, le-ltb, eq-eqb, ne-eqb, eqb-true, eqb-false}
-use Rattle.format.specs.Basics.{Outcome, refused, given, _>>=_, ask, if_then_else_}
+use Rattle.format.specs.Basics.{Outcome, refused, _>>=_, ask, if_then_else_}
 use Rattle.format.specs.Source.{newlines, Span, lineCount, nlIndicesFrom, nlIndices, lineStart, rawLineSpan, Position, countBelow}
 use Rattle.format.specs.Source.{getPosPair}
 use Rattle.format.proofs.ListLaws.{by-test}
-use Rattle.object.specs.Texts.{textByte, textBytes}
-use Rattle.object.proofs.ByteLaws.{bytes-length, bytes-at}
 use Rattle.source_info.specs.Passing.{span, spanFrom, begins, posOf, posFrom}
 
 abbrev rawOf : ℕ → ℕ → ℕ → ℕ → List ℕ → Outcome Span
@@ -230,8 +228,3 @@ pos-past index line start i s h l = sym (ap (posFrom index line start i) (drop-o
     ∙ ap (λ k. posOf index line start k 0 (i ∷ [])) (below-yes index i [] l))
 
 -- a text's byte by its place in the words
-pub byte-is : (ws : List ℕ) (at n i : ℕ) → i < n → textByte ws at i ≡ getD (textBytes ws at n) i 0
-byte-is ws at n i h = let e : i ≡ 0 + i = omega arith in ap (textByte ws at) e ∙ sym (bytes-at ws at 0 n i h)
-
-pub size-is : (ws : List ℕ) (at n : ℕ) → length (textBytes ws at n) ≡ n
-size-is ws at n = bytes-length ws at 0 n

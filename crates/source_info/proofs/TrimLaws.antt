@@ -1,50 +1,24 @@
 -- A line less White_Space, by the bytes of a text in words. Assumes nothing.
 use mathlib.Core.Path.{_≡_, refl, sym, _∙_, ap, ap₂}
-use mathlib.Core.Bool.{Bool, true, false, _&&_}
-use mathlib.Core.List.{List, [], _∷_}
+use mathlib.Core.Bool.{Bool, false}
+use mathlib.Core.List.{List, _∷_}
 use Prim.Native.Nat.{ℕ, zero, suc, _+_, _-_, _≤_, _<_}
 use native.Mathlib.Omega.{arith}
-use lib.ListN.{length, take, drop, getD, length-drop, drop-of-length-le, List·getD-eq-default}
-use lib.Seq.{drop-drop, getD-drop, drop-cons}
-use lib.Dec.{leb, ltb, eqb}
+use lib.ListN.{length, take, drop, length-drop, drop-of-length-le}
+use lib.Seq.{drop-drop}
+use lib.Dec.{eqb}
 use borrow.Author.Tests.{le-leb, lt-leb}
-use Rattle.format.specs.Basics.{Outcome, given, if_then_else_}
-use Rattle.format.specs.Utf8.{charAt, follow, whiteSpaceLength, trimStart, trimEnd}
-use Rattle.format.specs.Source.{Span, spanBytes, trimmed}
-use Rattle.format.proofs.Utf8Laws.{char-ascii}
+use Rattle.format.specs.Basics.{if_then_else_}
+use Rattle.format.specs.Utf8.{charAt, whiteSpaceLength, trimStart, trimEnd}
+use Rattle.format.specs.Source.{spanBytes, trimmed}
 use Rattle.trim.specs.WhiteSpace.{whiteAt, endsWhite, whiteBefore}
 use Rattle.object.specs.Texts.{textByte, bytesFrom, textBytes}
-use Rattle.object.proofs.ByteLaws.{bytes-length}
 use Rattle.source_info.specs.Sources.{TrimsStart, TrimsEnd}
-use Rattle.source_info.proofs.LineLaws.{byte-is, size-is}
-
--- a character is known by four bytes, 0 past the end
-four : (b : ℕ) (bs : List ℕ) → charAt (b ∷ getD bs 0 0 ∷ getD bs 1 0 ∷ getD bs 2 0 ∷ []) ≡ charAt (b ∷ bs)
-unfolding charAt follow
-four b [] = char-ascii b [] (0 ∷ 0 ∷ []) 0 (omega arith)
-four b (c ∷ []) = char-ascii b (c ∷ []) (0 ∷ []) 0 (omega arith)
-four b (c ∷ d ∷ []) = char-ascii b (c ∷ d ∷ []) [] 0 (omega arith)
-four b (c ∷ d ∷ e ∷ rest) = refl
-
-pub char-four : (s : List ℕ) (p : ℕ) → p < length s
-    → charAt (getD s p 0 ∷ getD s (p + 1) 0 ∷ getD s (p + 2) 0 ∷ getD s (p + 3) 0 ∷ []) ≡ charAt (drop p s)
-char-four s p h =
-    let bs = drop (suc p) s in
-    let e0 : suc p + 0 ≡ p + 1 = omega arith in
-    let e1 : suc p + 1 ≡ p + 2 = omega arith in
-    let e2 : suc p + 2 ≡ p + 3 = omega arith in
-    let g : (k j : ℕ) → suc p + k ≡ j → getD s j 0 ≡ getD bs k 0 = λ k j e. sym (getD-drop (suc p) s k 0 ∙ ap (λ i. getD s i 0) e) in
-    ap (λ x. charAt (getD s p 0 ∷ x ∷ getD s (p + 2) 0 ∷ getD s (p + 3) 0 ∷ [])) (g 0 (p + 1) e0)
-    ∙ ap (λ x. charAt (getD s p 0 ∷ getD bs 0 0 ∷ x ∷ getD s (p + 3) 0 ∷ [])) (g 1 (p + 2) e1)
-    ∙ ap (λ x. charAt (getD s p 0 ∷ getD bs 0 0 ∷ getD bs 1 0 ∷ x ∷ [])) (g 2 (p + 3) e2)
-    ∙ four (getD s p 0) bs ∙ ap charAt (sym (drop-cons s p 0 h))
+use Rattle.word_chars.proofs.CharLaws.{size-is}
 
 pub white-out : (s : List ℕ) (p : ℕ) → length s ≤ p → 0 ≡ whiteAt s p
 unfolding charAt
 white-out s p h = sym (ap (λ t. whiteSpaceLength (charAt t)) (drop-of-length-le s h))
-
-pub byte-out : (s : List ℕ) (p : ℕ) → length s ≤ p → 0 ≡ getD s p 0
-byte-out s p h = sym (List·getD-eq-default s 0 h)
 
 -- a place of a line
 pub white-line : (s : List ℕ) (start i p : ℕ) → start + i ≡ p → whiteAt (drop start s) i ≡ whiteAt s p

@@ -163,16 +163,6 @@ pub fn raw_line_span(object: &[u32], line: Line) -> LineSpan
     }
 }
 
-// Byte `p` of the first `end` bytes of a text; 0 past them.
-fn byte_in(ws: &[u32], at: usize, p: usize, end: usize) -> u8
-    ensures { λ r. ⌜ r ≡ getD (textBytes (now (ws .entry)) at end) p 0 ⌝ }
-{
-    if end <= p {
-        return 0;
-    }
-    object::text_byte(ws, at, p)
-}
-
 // How many bytes the White_Space character has that begins at byte `p` of the first `end` bytes of a text; 0 if none begins there.
 fn white_at(ws: &[u32], at: usize, p: usize, end: usize) -> usize
     requires { ⌜ end ≤ 3 * length (now ws) ⌝ }
@@ -181,10 +171,10 @@ fn white_at(ws: &[u32], at: usize, p: usize, end: usize) -> usize
     if end <= p {
         return 0;
     }
-    let a = byte_in(ws, at, p, end);
-    let b = byte_in(ws, at, p + 1, end);
-    let c = byte_in(ws, at, p + 2, end);
-    let d = byte_in(ws, at, p + 3, end);
+    let a = word_chars::byte_in(ws, at, p, end);
+    let b = word_chars::byte_in(ws, at, p + 1, end);
+    let c = word_chars::byte_in(ws, at, p + 2, end);
+    let d = word_chars::byte_in(ws, at, p + 3, end);
     let four = [a, b, c, d];
     trim::white_at(&four, 0)
 }

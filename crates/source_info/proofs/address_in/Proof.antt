@@ -6,7 +6,7 @@ use mathlib.Core.Option.{some}
 use Prim.Native.Nat.{ℕ, _+_, _-_, _≤_, _<_}
 use lib.ListN.{length, getD, getElem?}
 use denote.Ref.{now}
-use Rattle.object.specs.Bodies.{bodyAt, numberAt}
+use Rattle.object.specs.Bodies.{bodyAt}
 use Rattle.object.specs.Access.{addressIn}
 use Rattle.object.proofs.ByteLaws.{body-word, body-within}
 use Rattle.source_info.specs.Tables.{addressBy, blockIn}

@@ -2,14 +2,13 @@ use borrow.Author.Needs.{needs}
 use native.Mathlib.Omega.{arith}
 use mathlib.Core.Path.{_≡_, sym, _∙_}
 use mathlib.Core.Logic.{⊎-elim}
-use mathlib.Core.List.{List}
-use Prim.Native.Nat.{ℕ, _+_, _-_, _≤_, _<_}
+use Prim.Native.Nat.{_+_, _-_, _≤_, _<_}
 use lib.ListN.{length, drop}
 use denote.Ref.{now}
 use Rattle.format.specs.Source.{newlines}
 use Rattle.format.proofs.Laws.{newlines-yes, newlines-no, newlines-end}
 use Rattle.object.specs.Texts.{textBytes}
-use Rattle.source_info.proofs.LineLaws.{byte-is, size-is}
+use Rattle.word_chars.proofs.CharLaws.{byte-is, size-is}
 use Rattle.source_info.proofs.count_newlines.Statement.{statement}
 use Rattle.source_info.proofs.count_newlines.Tie as tie
 

@@ -1,5 +1,5 @@
 use borrow.Author.Needs.{needs}
-use mathlib.Core.Path.{_≡_, sym, ap, subst, _∙_}
+use mathlib.Core.Path.{subst, _∙_}
 use denote.Ref.{now}
 use Rattle.source_info.specs.Sources.{SourceIs}
 use Rattle.source_info.proofs.TableLaws.{source-object, find-refused, find-is}

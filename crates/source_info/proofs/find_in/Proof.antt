@@ -1,9 +1,8 @@
 use borrow.Author.Needs.{needs}
 use native.Mathlib.Omega.{arith}
-use mathlib.Core.Path.{_≡_, sym, ap, subst, _∙_}
+use mathlib.Core.Path.{_≡_, sym, _∙_}
 use mathlib.Core.Logic.{⊎-elim}
-use mathlib.Core.List.{List}
-use Prim.Native.Nat.{ℕ, _+_, _-_}
+use Prim.Native.Nat.{_-_}
 use lib.ListN.{length}
 use denote.Ref.{now}
 use Rattle.format.specs.Basics.{given}
@@ -11,7 +10,7 @@ use Rattle.format.specs.ObjectFile.{ObjectFile}
 use Rattle.format.specs.Words.{objectOf}
 use Rattle.format.specs.Source.{findLine}
 use Rattle.source_info.specs.Tables.{lineAnswer}
-use Rattle.source_info.proofs.RecordLaws.{Left, Here, start, here}
+use Rattle.source_info.proofs.RecordLaws.{Left, start, here}
 use Rattle.source_info.proofs.TableLaws.{findIn, find-done, find-take, find-skip, find-other}
 use Rattle.source_info.proofs.find_in.Statement.{statement}
 use Rattle.source_info.proofs.find_in.Tie as tie

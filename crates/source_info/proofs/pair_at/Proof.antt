@@ -1,18 +1,18 @@
 use borrow.Author.Needs.{needs}
 use native.Mathlib.Omega.{arith}
 use native.Mathlib.Nat.{le-refl}
-use mathlib.Core.Path.{_≡_, sym, _∙_}
+use mathlib.Core.Path.{_≡_, _∙_}
 use mathlib.Core.Logic.{⊎-elim}
 use mathlib.Core.List.{List}
 use Prim.Native.Nat.{ℕ, _≤_, _<_}
-use lib.ListN.{length, drop}
+use lib.ListN.{drop}
 use denote.Ref.{now}
 use Rattle.format.specs.Source.{getPosPair}
 use Rattle.object.specs.Texts.{textBytes}
 use Rattle.source_info.specs.Passing.{posFrom}
-use Rattle.source_info.specs.Sources.{Passes}
 use Rattle.source_info.specs.declared.Passed.{Passed}
-use Rattle.source_info.proofs.LineLaws.{pos-start, pos-stop, pos-past, size-is}
+use Rattle.source_info.proofs.LineLaws.{pos-start, pos-stop, pos-past}
+use Rattle.word_chars.proofs.CharLaws.{size-is}
 use Rattle.source_info.proofs.pair_at.Statement.{statement}
 use Rattle.source_info.proofs.pair_at.Tie as tie
 

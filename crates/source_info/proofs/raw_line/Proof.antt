@@ -10,7 +10,8 @@ use Rattle.format.specs.Basics.{given}
 use Rattle.format.specs.Source.{rawLineSpan}
 use Rattle.object.specs.Texts.{textBytes}
 use Rattle.source_info.specs.Passing.{spanFrom}
-use Rattle.source_info.proofs.LineLaws.{span-start, span-other, span-pass, span-stop, span-end, span-past, byte-is, size-is}
+use Rattle.source_info.proofs.LineLaws.{span-start, span-other, span-pass, span-stop, span-end, span-past}
+use Rattle.word_chars.proofs.CharLaws.{byte-is, size-is}
 use Rattle.source_info.proofs.raw_line.Statement.{statement}
 use Rattle.source_info.proofs.raw_line.Tie as tie
 

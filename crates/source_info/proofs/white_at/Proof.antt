@@ -1,14 +1,15 @@
 use borrow.Author.Needs.{needs}
 use native.Mathlib.Omega.{arith}
-use mathlib.Core.Path.{_≡_, ap, _∙_}
-use mathlib.Core.List.{List, [], _∷_}
+use mathlib.Core.Path.{ap, _∙_}
+use mathlib.Core.List.{[], _∷_}
 use Prim.Native.Nat.{ℕ, _+_, _≤_, _<_}
 use lib.ListN.{length, getD}
 use denote.Ref.{now}
 use Rattle.format.specs.Utf8.{charAt, whiteSpaceLength}
 use Rattle.object.specs.Texts.{textBytes}
-use Rattle.source_info.proofs.LineLaws.{size-is}
-use Rattle.source_info.proofs.TrimLaws.{char-four, white-out}
+use Rattle.word_chars.proofs.CharLaws.{size-is}
+use Rattle.source_info.proofs.TrimLaws.{white-out}
+use Rattle.word_chars.proofs.CharLaws.{char-four}
 use Rattle.source_info.proofs.white_at.Statement.{statement}
 use Rattle.source_info.proofs.white_at.Tie as tie
 

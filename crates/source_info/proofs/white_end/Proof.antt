@@ -3,12 +3,12 @@ use native.Mathlib.Omega.{arith}
 use mathlib.Core.Path.{_≡_, sym, ap, _∙_}
 use mathlib.Core.Bool.{true}
 use mathlib.Core.List.{List}
-use Prim.Native.Nat.{ℕ, _+_, _-_, _≤_, _<_}
+use Prim.Native.Nat.{ℕ, _-_, _≤_, _<_}
 use lib.ListN.{length, drop, length-drop}
 use denote.Ref.{now}
 use Rattle.trim.proofs.TrimLaws.{blankAt, blank-end, back-stop, back-on}
 use Rattle.object.specs.Texts.{textBytes}
-use Rattle.source_info.proofs.LineLaws.{size-is}
+use Rattle.word_chars.proofs.CharLaws.{size-is}
 use Rattle.source_info.proofs.white_end.Statement.{statement}
 use Rattle.source_info.proofs.white_end.Tie as tie
 

@@ -2,13 +2,13 @@
 use native.Mathlib.Omega.{arith}
 use mathlib.Core.Path.{_≡_, refl, sym, _∙_}
 use mathlib.Core.List.{List}
-use Prim.Native.Nat.{ℕ, _+_, _-_, _≤_}
-use lib.ListN.{length, drop}
+use Prim.Native.Nat.{ℕ, _-_, _≤_}
+use lib.ListN.{drop}
 use denote.Ref.{now}
 use Rattle.format.specs.Utf8.{trimFrom, trimStart}
 use Rattle.trim.proofs.TrimLaws.{trim-stop, trim-on, white-left}
 use Rattle.object.specs.Texts.{textBytes}
-use Rattle.source_info.proofs.LineLaws.{size-is}
+use Rattle.word_chars.proofs.CharLaws.{size-is}
 use Rattle.source_info.proofs.white_start.Statement.{statement}
 use Rattle.source_info.proofs.white_start.Tie as tie
 

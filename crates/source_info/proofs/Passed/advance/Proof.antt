@@ -9,7 +9,8 @@ use denote.Ref.{now}
 use Rattle.object.specs.Texts.{textBytes}
 use Rattle.source_info.specs.Passing.{posFrom}
 use Rattle.source_info.specs.Sources.{Passes}
-use Rattle.source_info.proofs.LineLaws.{pos-other, pos-next, byte-is, size-is}
+use Rattle.source_info.proofs.LineLaws.{pos-other, pos-next}
+use Rattle.word_chars.proofs.CharLaws.{byte-is, size-is}
 use Rattle.source_info.proofs.Passed.advance.Statement.{statement}
 use Rattle.source_info.proofs.Passed.advance.Tie as tie
 

@@ -1,14 +1,13 @@
 use borrow.Author.Needs.{needs}
 use native.Mathlib.Omega.{arith}
-use mathlib.Core.Path.{_≡_, _∙_}
+use mathlib.Core.Path.{_∙_}
 use Prim.Native.Nat.{_≤_, _<_}
 use lib.ListN.{length}
 use denote.Ref.{now}
 use Rattle.object.specs.Texts.{textBytes}
-use Rattle.source_info.proofs.LineLaws.{byte-is, size-is}
-use Rattle.source_info.proofs.TrimLaws.{byte-out}
-use Rattle.source_info.proofs.byte_in.Statement.{statement}
-use Rattle.source_info.proofs.byte_in.Tie as tie
+use Rattle.word_chars.proofs.CharLaws.{byte-is, size-is, byte-out}
+use Rattle.word_chars.proofs.byte_in.Statement.{statement}
+use Rattle.word_chars.proofs.byte_in.Tie as tie
 
 returns : tie.Need-returns
 returns c =
