@@ -1,8 +1,10 @@
 #!/bin/sh
-# vectors.sh: makes vectors-queries.txt anew, the answers that test programs replay without Rust at hand. Same seed, same bytes.
+# vectors.sh: makes the lists of answers anew that test programs replay without Rust at hand, byte for byte the same.
 # src/vectors.rs says how a line reads.
 set -eu
 here=$(cd "$(dirname "$0")" && pwd)
 "$here/build.sh"
-"$here/target/release/differential" vectors > "$here/vectors-queries.txt"
-wc -l "$here/vectors-queries.txt"
+for list in queries binary; do
+    "$here/target/release/differential" vectors $list > "$here/vectors-$list.txt"
+done
+wc -l "$here"/vectors-*.txt

@@ -15,7 +15,7 @@ differential read-binary | read-text [--hex]         a file on standard input, r
 differential write-binary | write-text               an object's words in hex
 differential count_lines | raw_line_span N | line_span N | get_pos_pair N | get N | find N | is_fair    the same
 differential marked                                  document 01's cases marked M
-differential vectors                                 the list for the test programs
+differential vectors queries | binary | text         the lists for the test programs
 differential speed                                   times of the crate
 differential growth                                  times of the library's check and queries on objects that grow";
 
@@ -115,7 +115,12 @@ fn main() {
         "get" => query(Query::Get(argument())),
         "find" => query(Query::Find(u16::try_from(argument()).unwrap_or_else(|_| stop("an address has 16 bits")))),
         "marked" => exit(i32::from(!marked::print())),
-        "vectors" => vectors::print(),
+        "vectors" => match args.get(1).map(String::as_str) {
+            Some("queries") => vectors::queries(),
+            Some("binary") => vectors::binary(),
+            Some("text") => vectors::text(),
+            _ => stop("queries, binary or text?"),
+        },
         "speed" => speed::print(),
         "growth" => match ffi::calls().queries {
             Some(q) => speed::growth(&q),

@@ -1,20 +1,35 @@
-//! A list of queries and their answers, for programs that replay it without Rust at hand.
+//! Lists of calls and their answers, for programs that replay them without Rust at hand.
 //!
-//! A line is `CALL INPUT ARG NUMBER FIRST SECOND`, fields parted by one space. CALL is a letter: c count_lines, r raw_line_span,
-//! s line_span, p get_pos_pair, g get, f find, k check. INPUT is the object's words, 8 hexadecimal digits each, empty where it has none.
-//! ARG, FIRST and SECOND have 16 digits, NUMBER has 2; a value that a call doesn't have is 0.
+//! Queries: a line is `CALL INPUT ARG NUMBER FIRST SECOND`, fields parted by one space. CALL is a letter: c count_lines,
+//! r raw_line_span, s line_span, p get_pos_pair, g get, f find, k check. INPUT is the object's words, 8 hexadecimal digits each, empty
+//! where it has none. ARG, FIRST and SECOND have 16 digits, NUMBER has 2; a value that a call doesn't have is 0.
+//!
+//! Files: a line is `CALL INPUT NUMBER OUTPUT`. CALL is B binary read, b binary write, T text read, t text write. INPUT and OUTPUT are
+//! bytes, 2 digits each, or words; a refusal has no OUTPUT. A binary file that is written has its records in the object's order.
 use std::collections::{BTreeMap, BTreeSet};
 
 use crate::gen;
 use crate::numbers::query::{Query, Values};
+use crate::numbers::Excluded;
+use crate::object::encode;
+use crate::parts::{Label, Parts};
 use crate::prng::Prng;
-use crate::reference::{Answer, Object};
+use crate::reference::{self, Answer, Object};
 
-/// For each call and number, the shortest lines and others at random; the characters of a line; the objects that they are chosen from.
+/// For each call and number, the shortest lines and others at random; the characters of a line; the inputs that they are chosen from.
 const SHORTEST: usize = 5;
 const OTHERS: usize = 15;
 const WIDEST: usize = 4000;
 const OBJECTS: u64 = 30_000;
+
+/// In digits; of nothing, none.
+fn bytes(b: &[u8]) -> String {
+    b.iter().map(|x| format!("{x:02X}")).collect()
+}
+
+fn words(w: &[u32]) -> String {
+    w.iter().map(|x| format!("{x:08X}")).collect()
+}
 
 fn letter_and_argument(q: Query) -> (char, u64) {
     match q {
@@ -27,7 +42,7 @@ fn letter_and_argument(q: Query) -> (char, u64) {
     }
 }
 
-/// The lines of one call and number, with their rank: the length, or any number. An object is offered once.
+/// The lines of one call and number, with their rank: the length, or any number. An input is offered once.
 #[derive(Default)]
 struct Lines {
     shortest: BTreeSet<(u64, String)>,
@@ -39,9 +54,9 @@ struct Lines {
 struct Kept(BTreeMap<(char, u8), Lines>);
 
 impl Kept {
-    fn offer(&mut self, r: &mut Prng, words: &[u32], call: char, arg: u64, number: u8, (first, second): Values) {
-        let input: String = words.iter().map(|w| format!("{w:08X}")).collect();
-        let line = format!("{call} {input} {arg:016X} {number:02X} {first:016X} {second:016X}");
+    /// A line of the call and the number; `rest` follows the input.
+    fn offer(&mut self, r: &mut Prng, call: char, number: u8, input: String, rest: String) {
+        let line = format!("{call} {input} {rest}");
         let Lines { shortest, others, inputs } = self.0.entry((call, number)).or_default();
         if line.len() > WIDEST || !inputs.insert(input) {
             return;
@@ -53,28 +68,84 @@ impl Kept {
             }
         }
     }
+
+    /// A call that fills a buffer, where it is in the runs.
+    fn fills<T, U>(&mut self, r: &mut Prng, call: char, (input, show): (&[T], fn(&[T]) -> String), a: &Answer<Vec<U>>, out: fn(&[U]) -> String) {
+        held(a);
+        let unasked = matches!(a.excluded, Some(Excluded::IllFormed | Excluded::NotUtf8));
+        if a.excluded.is_none() || unasked {
+            let filled = a.value.as_deref().map(out).unwrap_or_default();
+            self.offer(r, call, a.number, show(input), format!("{:02X} {filled}", a.number));
+        }
+    }
+
+    fn print(&self) {
+        let kept = self.0.values().flat_map(|l| l.shortest.iter().chain(&l.others));
+        let lines: BTreeSet<&String> = kept.map(|(_, line)| line).collect();
+        lines.iter().for_each(|line| println!("{line}"));
+    }
 }
 
 fn held<T>(a: &Answer<T>) {
     assert_eq!(a.difference, None, "the crate and document 01's numbers differ");
 }
 
-/// The list; the same for every run.
-pub fn print() {
+/// The list of queries; the same for every run.
+pub fn queries() {
     let mut r = Prng::new(6);
     let mut kept = Kept::default();
     for _ in 0..OBJECTS {
         let object = Object::new(gen::object::case(&mut r));
         let check = object.check();
         held(&check);
-        kept.offer(&mut r, &object.words, 'k', 0, check.number, (0, 0));
+        let answer = |arg: u64, number: u8, (first, second): Values| format!("{arg:016X} {number:02X} {first:016X} {second:016X}");
+        kept.offer(&mut r, 'k', check.number, words(&object.words), answer(0, check.number, (0, 0)));
         for q in gen::query::one_of_each(&mut r, object.parts()) {
             let (call, arg) = letter_and_argument(q);
-            let answer = object.query(q);
-            held(&answer);
-            kept.offer(&mut r, &object.words, call, arg, answer.number, answer.value.unwrap_or_default());
+            let a = object.query(q);
+            held(&a);
+            kept.offer(&mut r, call, a.number, words(&object.words), answer(arg, a.number, a.value.unwrap_or_default()));
         }
     }
-    let lines: BTreeSet<&String> = kept.0.values().flat_map(|l| l.shortest.iter().chain(&l.others)).map(|(_, line)| line).collect();
-    lines.iter().for_each(|line| println!("{line}"));
+    kept.print();
+}
+
+/// The same letter composed and decomposed, as two labels and as two relocations.
+fn accents() -> Parts {
+    let names: [&[u8]; 2] = [b"e\xCC\x81", b"\xC3\xA9"];
+    let mut p = Parts { source: Some(b"\n".to_vec()), ..Parts::default() };
+    for (i, name) in names.into_iter().enumerate() {
+        *p.label_mut(name) = Label { name: name.into(), addr: 0x3000 + i as u16, external: true, start: i as u64 };
+        p.relocs.push((0x3010 + i as u16, name.into()));
+    }
+    p
+}
+
+/// The list of files of one form; the same for every run.
+fn files(read: (char, fn(&mut Prng) -> Vec<u8>, fn(&[u8]) -> Answer<Vec<u32>>), write: (char, fn(&Object) -> Answer<Vec<u8>>)) {
+    let mut r = Prng::new(7);
+    let mut kept = Kept::default();
+    let both = |kept: &mut Kept, r: &mut Prng, file: &[u8], object: Vec<u32>| {
+        kept.fills(r, read.0, (file, bytes), &(read.2)(file), words);
+        let object = Object::new(object);
+        kept.fills(r, write.0, (&object.words, words), &(write.1)(&object), bytes);
+    };
+    for _ in 0..OBJECTS {
+        let (file, object) = ((read.1)(&mut r), gen::object::case(&mut r));
+        both(&mut kept, &mut r, &file, object);
+    }
+    kept.print();
+    let mut accented = Kept::default();
+    let object = encode(&accents());
+    let file = (write.1)(&Object::new(object.clone())).value.expect("the accents are well formed");
+    both(&mut accented, &mut r, &file, object);
+    accented.print();
+}
+
+pub fn binary() {
+    files(('B', gen::binary::case, reference::read_binary), ('b', Object::write_binary));
+}
+
+pub fn text() {
+    files(('T', gen::text::case, reference::read_text), ('t', Object::write_text));
 }

@@ -3,6 +3,7 @@ use Rattle.format.specs.Calls as calls
 use Rattle.runs.specs.declared.Value.{Value}
 use Rattle.runs.specs.declared.Span.{Span}
 use Rattle.runs.specs.declared.Position.{Position}
+use Rattle.runs.specs.declared.Fair.{Fair}
 
 abbrev pub valueOf : Value → calls.Value
 valueOf r = record { number = r .number; value = r .value }
@@ -12,3 +13,6 @@ spanOf r = record { number = r .number; start = r .start; end = r .end }
 
 abbrev pub positionOf : Position → calls.PositionAnswer
 positionOf r = record { number = r .number; line = r .line; column = r .column }
+
+abbrev pub fairOf : Fair → calls.FairAnswer
+fairOf r = record { number = r .number; fair = r .fair }

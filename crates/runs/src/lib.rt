@@ -1,7 +1,9 @@
 // Exports for the differential runs: test-only, never linked by the host, so it may go beyond byte slices and numbers. Each is one call.
 ghost use mathlib.Core.Path.{_≡_};
 ghost use Rattle.format.specs.Calls.{checked, queryCountLines, queryRawLineSpan, queryLineSpan, queryPosPair, queryGet, queryFind};
-ghost use Rattle.runs.specs.Answers.{valueOf, spanOf, positionOf};
+ghost use Rattle.format.specs.Calls.{fairAnswer};
+ghost use Rattle.format.specs.Words.{objectOf};
+ghost use Rattle.runs.specs.Answers.{valueOf, spanOf, positionOf, fairOf};
 use units::Address;
 use units::ByteIndex;
 use units::Line;
@@ -27,6 +29,13 @@ pub struct Position {
     pub number: u8,
     pub line: u64,
     pub column: u64,
+}
+
+// Whether the object is fair.
+#[repr(C)]
+pub struct Fair {
+    pub number: u8,
+    pub fair: bool,
 }
 
 // Is the object well formed?
@@ -116,5 +125,17 @@ pub extern "C" fn runs_find(object: &[u32], address: u16) -> Value
     Value {
         number: r.number,
         value: line.0,
+    }
+}
+
+// Is the object fair?
+#[no_mangle]
+pub extern "C" fn runs_is_fair(object: &[u32]) -> Fair
+    ensures { λ r. ⌜ fairOf r ≡ fairAnswer (objectOf (now (object .entry))) ⌝ }
+{
+    let r = fair::is_fair(object);
+    Fair {
+        number: r.number,
+        fair: r.fair,
     }
 }
