@@ -1,26 +1,24 @@
 -- The records of a well formed object, one by one: what writers and queries walk by. `held` starts at place 0, `next` goes from a head to
 -- the next, `done` is the end, and `record-is` says what a record is by its words. Assumes nothing.
-use mathlib.Core.Path.{_≡_, refl, sym, _∙_, ap}
-use mathlib.Core.Bool.{Bool, true, false}
+use mathlib.Core.Path.{_≡_, sym, _∙_, ap}
 use mathlib.Core.List.{List, [], _∷_, map}
 use mathlib.Core.Option.{Option, none, some}
 use Prim.Native.Nat.{ℕ, _+_, _-_, _/_, _%_, _^_, _≤_, _<_}
 use native.Mathlib.Omega.{arith}
 use lib.ListN.{length, getD}
 use lib.Dec.{leb, ltb, eqb}
-use borrow.Author.Tests.{ltb-true, ltb-false, leb-true, leb-false, eqb-true, eqb-false, eq-eqb, ne-eqb}
+use borrow.Author.Tests.{ltb-true, leb-true, leb-false, eqb-true, eqb-false, eq-eqb, ne-eqb}
 use Rattle.format.specs.Basics.{Outcome, refused, given, _>>=_, ask, if_then_else_, isGiven, givenOr}
 use Rattle.format.specs.Records.{Record, block, label, lineBlock, source, relocation}
-use Rattle.format.specs.Words.{isHead, bitsOf, memoryOf, memoriesOf, addressesOf, numberFrom, textFrom, recordFrom, recordsFrom}
-use Rattle.format.proofs.ListLaws.{by-test, both}
+use Rattle.format.specs.Words.{bitsOf, memoryOf, memoriesOf, addressesOf, numberFrom, textFrom, recordFrom, recordsFrom}
+use Rattle.format.proofs.ListLaws.{by-test}
 use Rattle.format.proofs.WordsOnly.{bind-given, ask-given, given-same}
 use Rattle.object.specs.Bodies.{bodyAt, groupsAt, textAt, Text, numberAt, valueIn}
 use Rattle.object.specs.Access.{memoryIn, addressIn, kindAt, blockAt, labelAt, lineBlockAt, relocationAt, recordAt}
-use Rattle.object.proofs.Tests.{clash}
 use Rattle.object.proofs.WordLaws.{head-kind}
 use Rattle.object.proofs.BodyLaws.{after-body, after-groups, groups-out, groups-here, head-at}
 use Rattle.object.proofs.NumberLaws.{number-few, number-1, number-2, number-3, number-there}
-use Rattle.object.proofs.Formed.{Reads, reads}
+use Rattle.object.proofs.Formed.{reads}
 
 never : {A P : Type 0} {o : Outcome A} {a : A} → o ≡ given a → o ≡ refused 1 → P
 never e f = let z : _≡_ {A = ℕ} 0 1 = cc in absurd (omega arith)

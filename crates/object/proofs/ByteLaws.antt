@@ -1,6 +1,5 @@
 -- The bytes of a text by their places. Assumes nothing.
 use mathlib.Core.Path.{_≡_, refl, sym, _∙_, ap, subst}
-use mathlib.Core.Bool.{Bool, true, false}
 use mathlib.Core.List.{List, [], _∷_, _++_}
 use Prim.Native.Nat.{ℕ, zero, suc, _+_, _-_, _*_, _/_, _%_, _^_, _≤_, _<_}
 use native.Mathlib.Omega.{arith}
@@ -10,13 +9,12 @@ use lib.Dec.{ltb}
 use borrow.Author.Tests.{ltb-true, ltb-false, lt-ltb, le-ltb, le-leb, lt-leb}
 use lib.Seq.{getD-append-add, getD-drop, ext-getD}
 use Rattle.format.specs.Digits.{digitsOf}
-use Rattle.format.specs.Tokens.{Parts, partsAt, headOf, bodyOf}
+use Rattle.format.specs.Tokens.{partsAt}
 use Rattle.format.specs.Words.{isHead, textFrom}
 use Rattle.format.proofs.Laws.{digits-length}
 use Rattle.object.specs.Bodies.{bodyAt, textAt, Text}
 use Rattle.object.specs.Texts.{textLen, textByte, bytesFrom, textBytes}
 use Rattle.format.proofs.ListLaws.{by-test}
-use Rattle.object.proofs.Tests.{clash}
 use Rattle.object.proofs.BodyLaws.{head-parts, body-parts, body-out, body-fits}
 use Rattle.object.proofs.OrderLaws.{Word, Split, split, bytesIn}
 

@@ -1,10 +1,9 @@
 -- What writers and queries start from: a checked object is well formed, its records are read one by one. Assumes nothing.
-use mathlib.Core.Path.{_≡_, refl, sym, _∙_, ap, subst}
-use mathlib.Core.Bool.{Bool, true, false, cond}
+use mathlib.Core.Path.{_≡_, refl, sym, _∙_, ap}
+use mathlib.Core.Bool.{true, cond}
 use mathlib.Core.List.{List, [], _∷_}
-use Prim.Native.Nat.{ℕ, suc, _+_, _/_, _^_, _≤_, _<_}
+use Prim.Native.Nat.{ℕ}
 use native.Mathlib.Omega.{arith}
-use lib.ListN.{length, getD}
 use Rattle.format.specs.Basics.{Outcome, refused, given, _>>=_, ask, isEmpty, isGiven}
 use Rattle.format.specs.Tokens.{partsAt}
 use Rattle.format.specs.Sorted.{rises}

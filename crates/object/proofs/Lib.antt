@@ -1,15 +1,10 @@
 pub mod Tests
 pub mod BodyLaws
-pub mod RunLaws
 pub mod RefusalLaws
 pub mod WordLaws
 pub mod TextLaws
 pub mod NumberLaws
 pub mod OrderLaws
 pub mod ByteLaws
-pub mod KeyLaws
-pub mod StepLaws
-pub mod KindLaws
-pub mod WalkLaws
 pub mod Formed
 pub mod AccessLaws

@@ -1,18 +1,17 @@
 -- A number of three words. Assumes nothing.
-use mathlib.Core.Path.{_≡_, refl, sym, _∙_, ap, subst}
-use mathlib.Core.Bool.{Bool, true, false}
+use mathlib.Core.Path.{_≡_, refl, sym, _∙_, ap}
+use mathlib.Core.Bool.{false}
 use mathlib.Core.List.{List, [], _∷_}
-use Prim.Native.Nat.{ℕ, zero, suc, _+_, _-_, _*_, _/_, _%_, _^_, _≤_, _<_}
+use Prim.Native.Nat.{ℕ, _+_, _-_, _*_, _/_, _%_, _^_, _≤_, _<_}
 use native.Mathlib.Omega.{arith}
 use lib.ListN.{length, getD}
-use lib.Dec.{ltb, eqb}
-use borrow.Author.Tests.{ltb-true, ltb-false, eqb-true, eqb-false}
+use lib.Dec.{ltb}
+use borrow.Author.Tests.{ltb-true, ltb-false}
 use Rattle.format.specs.Basics.{Outcome, refused, given, _>>=_}
 use Rattle.format.specs.Digits.{valueOf}
 use Rattle.format.specs.Words.{bitsOf, numberFrom, isHead}
 use Rattle.object.specs.Bodies.{bodyAt}
 use Rattle.format.proofs.ListLaws.{by-test}
-use Rattle.object.proofs.Tests.{clash}
 use Rattle.object.proofs.BodyLaws.{body-out, body-stops, body-goes, body-fits}
 use Rattle.object.proofs.WordLaws.{bits-given, bits-refused, head-other}
 

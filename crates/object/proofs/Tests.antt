@@ -1,9 +1,8 @@
 -- Cases on a test. Assumes nothing.
 use mathlib.Core.Path.{_≡_, refl}
-use mathlib.Core.Bool.{Bool, true, false, true≢false, _&&_}
+use mathlib.Core.Bool.{Bool, true, false, true≢false}
 use Rattle.format.specs.Basics.{Outcome, refused, given}
-use Rattle.format.specs.Basics.{isGiven}
-use Rattle.object.specs.Run.{allows}
+use Rattle.object.specs.Bodies.{allows}
 
 pub clash : {P : Type 0} {t : Bool} → t ≡ true → t ≡ false → P
 clash p q = absurd (true≢false (cc))

@@ -1,23 +1,22 @@
 -- Text words, and a text word by word. Assumes nothing.
 use mathlib.Core.Path.{_≡_, refl, sym, _∙_, ap}
-use mathlib.Core.Bool.{Bool, true, false, _&&_, cond}
+use mathlib.Core.Bool.{Bool, true, false, _&&_}
 use mathlib.Core.List.{List, [], _∷_, _++_}
-use Prim.Native.Nat.{ℕ, zero, suc, _+_, _-_, _*_, _/_, _%_, _^_, _≤_, _<_}
+use Prim.Native.Nat.{ℕ, _+_, _-_, _*_, _/_, _%_, _^_, _≤_, _<_}
 use native.Mathlib.Omega.{arith}
 use lib.ListN.{length}
-use lib.Dec.{leb, ltb, eqb}
-use borrow.Author.Tests.{lt-ltb, le-ltb, le-leb, lt-leb, eq-eqb, ne-eqb, ltb-true, ltb-false, eqb-true, eqb-false}
+use lib.Dec.{ltb, eqb}
+use borrow.Author.Tests.{lt-ltb, le-ltb, le-leb, ltb-true, ltb-false, eqb-true, eqb-false}
 use Rattle.format.specs.Basics.{Outcome, refused, given, _>>=_, ask}
 use Rattle.format.specs.Digits.{digitsOf}
-use Rattle.format.specs.Utf8.{isUtf8, isBetween}
-use Rattle.format.specs.Words.{bitsOf, textPart, textFrom}
+use Rattle.format.specs.Utf8.{isUtf8}
+use Rattle.format.specs.Words.{textPart, textFrom}
 use Rattle.format.proofs.Laws.{digits-length}
 use Rattle.utf8.specs.declared.Utf8.{Utf8}
 use Rattle.utf8.specs.Utf8.{step, run, whole}
-use Rattle.object.specs.Run.{allows}
-use Rattle.object.specs.Bodies.{goodText, counted}
+use Rattle.object.specs.Bodies.{allows}
+use Rattle.object.specs.Bodies.{goodText}
 use Rattle.format.proofs.ListLaws.{by-test}
-use Rattle.object.proofs.Tests.{clash}
 use Rattle.object.proofs.WordLaws.{bits-given, bits-refused}
 use Rattle.utf8.proofs.TableLaws.{run-is-utf8}
 

@@ -1,23 +1,21 @@
 -- Words of each kind. Assumes nothing.
 use mathlib.Core.Path.{_≡_, refl, sym, _∙_, ap}
-use mathlib.Core.Bool.{Bool, true, false, _&&_, _||_, cond}
-use mathlib.Core.List.{List, [], _∷_, _++_}
-use mathlib.Core.Option.{Option, none, some}
-use Prim.Native.Nat.{ℕ, zero, suc, _+_, _-_, _*_, _/_, _%_, _^_, _≤_, _<_}
+use mathlib.Core.Bool.{Bool, true, false, _&&_, _||_}
+use mathlib.Core.List.{List, [], _∷_}
+use mathlib.Core.Option.{Option, none}
+use Prim.Native.Nat.{ℕ, _-_, _/_, _%_, _^_, _≤_, _<_}
 use native.Mathlib.Omega.{arith}
-use lib.ListN.{length}
-use lib.Dec.{leb, ltb, eqb}
-use borrow.Author.Tests.{lt-ltb, le-ltb, le-leb, lt-leb, eq-eqb, ne-eqb, ltb-true, ltb-false, leb-true, leb-false, eqb-true, eqb-false}
-use Rattle.format.specs.Basics.{Outcome, refused, given, _>>=_, ask, if_then_else_, chain}
-use Rattle.format.specs.Digits.{valueOf, digitsOf}
+use lib.Dec.{ltb, eqb}
+use borrow.Author.Tests.{lt-ltb, le-leb, lt-leb, eq-eqb, ne-eqb, ltb-true, ltb-false, eqb-true, eqb-false}
+use Rattle.format.specs.Basics.{Outcome, refused, given, _>>=_, chain}
 use Rattle.format.specs.Basics.{isGiven}
 use Rattle.format.specs.Utf8.{isBetween}
 use Rattle.format.specs.ObjectFile.{neverFall}
-use Rattle.format.specs.Words.{bitsOf, memoryOf, memoriesOf, addressesOf, numberFrom, textPart, textFrom, isHead}
-use Rattle.object.specs.Run.{allows}
-use Rattle.object.specs.Bodies.{goodMemory, goodAddresses, goodText, counted}
+use Rattle.format.specs.Words.{bitsOf, memoryOf, memoriesOf, addressesOf, isHead}
+use Rattle.object.specs.Bodies.{allows}
+use Rattle.object.specs.Bodies.{goodMemory, goodAddresses}
 use Rattle.format.proofs.ListLaws.{by-test}
-use Rattle.object.proofs.Tests.{clash, none-pass}
+use Rattle.object.proofs.Tests.{clash}
 
 pub head-one : (w : ℕ) → w / 2 ^ 29 ≡ 1 → false ≡ isHead w
 unfolding isHead

@@ -1,7 +1,7 @@
 -- The words of a record, by their place in the object. Assumes nothing.
 use mathlib.Core.Path.{_≡_}
 use mathlib.Core.Bool.{Bool, true, false, cond}
-use mathlib.Core.List.{List, [], _∷_}
+use mathlib.Core.List.{List, []}
 use Prim.Native.Nat.{ℕ, _+_, _*_, _/_, _%_, _≤_}
 use lib.ListN.{length, drop}
 use lib.Dec.{eqb}
@@ -11,12 +11,14 @@ use Rattle.format.specs.Tokens.{partsAt}
 use Rattle.format.specs.Utf8.{isUtf8}
 use Rattle.format.specs.Basics.{isGiven}
 use Rattle.format.specs.ObjectFile.{neverFall}
-use Rattle.format.specs.Words.{isHead, memoriesOf, addressesOf, numberFrom, textPart, textFrom}
-use Rattle.object.specs.Run.{allows}
+use Rattle.format.specs.Words.{isHead, memoriesOf, addressesOf, numberFrom, textFrom}
 use Rattle.object.specs.declared.Number.{Number}
 use Rattle.object.specs.declared.Number.the-variants as number
-use Rattle.object.specs.declared.Body.{Body}
-use Rattle.object.specs.declared.Body.the-variants as body
+
+-- given, and what is given passes
+abbrev pub allows : {A : Type 0} → Outcome A → (A → Bool) → Bool
+allows (refused n) p = false
+allows (given a) p = p a
 
 -- the words from a place up to the next head, and the records from there
 unfoldable pub bodyAt : List ℕ → ℕ → List ℕ
@@ -62,7 +64,3 @@ numberAt ws at = valueIn (numberFrom (bodyAt ws at))
 abbrev pub Numbered : List ℕ → ℕ → Number → Type 0
 Numbered ws at (number.Is v) = (numberFrom (bodyAt ws at) ≡ given (v, bodyAt ws (at + 3))) × (at + 3 ≤ length ws)
 Numbered ws at number.Bad = numberFrom (bodyAt ws at) ≡ refused 1
-
-abbrev pub Walked : (List ℕ → Bool) → List ℕ → ℕ → Body → Type 0
-Walked good ws at (body.Ends n) = (good (bodyAt ws at) ≡ true) × (n ≡ at + length (bodyAt ws at))
-Walked good ws at body.Bad = good (bodyAt ws at) ≡ false

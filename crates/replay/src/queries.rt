@@ -65,7 +65,7 @@ fn of_count(r: LineCount) -> Reply {
 fn answer(object: &[u32], call: u8, arg: u64) -> Reply {
     match call {
         b'k' => Reply {
-            number: object::check(object),
+            number: well_formed::check(object),
             first: 0,
             second: 0,
         },

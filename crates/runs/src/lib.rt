@@ -43,7 +43,7 @@ pub struct Fair {
 pub extern "C" fn runs_check(object: &[u32]) -> u8
     ensures { λ r. ⌜ r ≡ checked (now (object .entry)) ⌝ }
 {
-    object::check(object)
+    well_formed::check(object)
 }
 
 // The number of lines of the source.

@@ -69,7 +69,7 @@ fn source_at(ws: &[u32]) -> Place
 fn source_of(object: &[u32]) -> Source
     ensures { λ r. ⌜ SourceIs (now (object .entry)) r ⌝ }
 {
-    let n = object::check(object);
+    let n = well_formed::check(object);
     if n != 0 {
         return Source::Refused(n);
     }

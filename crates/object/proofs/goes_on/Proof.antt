@@ -1,9 +1,8 @@
 use borrow.Author.Needs.{needs}
-use mathlib.Core.Path.{_≡_, sym, ap, _∙_}
+use mathlib.Core.Path.{sym, ap, _∙_}
 use mathlib.Core.Bool.{Bool, not}
 use mathlib.Core.List.{List}
 use Prim.Native.Nat.{ℕ}
-use denote.Ref.{now}
 use Rattle.format.specs.Basics.{isEmpty}
 use Rattle.object.proofs.BodyLaws.{body-out, body-stops, body-goes}
 use Rattle.object.proofs.goes_on.Statement.{statement}

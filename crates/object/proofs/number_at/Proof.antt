@@ -1,5 +1,5 @@
 use borrow.Author.Needs.{needs}
-use mathlib.Core.Path.{_≡_, sym, ap, subst, _∙_}
+use mathlib.Core.Path.{sym, ap, subst}
 use denote.Ref.{now}
 use Rattle.object.specs.Bodies.{numberAt, valueIn, Numbered}
 use Rattle.object.proofs.number_at.Statement.{statement}

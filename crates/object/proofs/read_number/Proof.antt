@@ -1,11 +1,5 @@
 use borrow.Author.Needs.{needs}
 use native.Mathlib.Omega.{arith}
-use mathlib.Core.Path.{_≡_, sym, ap, _∙_}
-use Prim.Native.Nat.{ℕ, _+_, _*_, _%_, _^_}
-use lib.ListN.{getD}
-use denote.Ref.{now}
-use Rattle.format.specs.Basics.{given}
-use Rattle.object.specs.Bodies.{bodyAt}
 use Rattle.object.proofs.NumberLaws.{number-few, number-1, number-2, number-3, number-there}
 use Rattle.object.proofs.read_number.Statement.{statement}
 use Rattle.object.proofs.read_number.Tie as tie

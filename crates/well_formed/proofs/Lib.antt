@@ -1,0 +1,5 @@
+pub mod RunLaws
+pub mod KeyLaws
+pub mod StepLaws
+pub mod KindLaws
+pub mod WalkLaws
