@@ -1,16 +1,16 @@
 -- .DEBUG whole: its lines up to the last, the rows of its line table, and what its two tables leave of an object. Assumes nothing.
 use mathlib.Core.Path.{_≡_, refl, sym, ap, _∙_, subst}
 use mathlib.Core.Bool.{Bool, true, false, true≢false, not}
-use mathlib.Core.List.{List, [], _∷_, _++_, map, flatMap}
+use mathlib.Core.List.{List, [], _∷_, map, flatMap}
 use mathlib.Core.Option.{Option, none, some}
-use Prim.Native.Nat.{ℕ, suc, _-_, _≤_, _<_}
+use Prim.Native.Nat.{ℕ, suc, _-_, _<_}
 use native.Mathlib.Omega.{arith}
 use lib.ListN.{length, drop}
 use lib.Dec.{eqb}
 use Rattle.format.specs.Basics.{Outcome, refused, given, _>>=_, ask, need, andThen, allSome, givenOr, isSome, isEmpty, if_then_else_}
 use Rattle.format.specs.Tokens.{foldOutcome}
 use Rattle.format.specs.Utf8.{trim}
-use Rattle.format.specs.ObjectFile.{ObjectFile, LineBlock}
+use Rattle.format.specs.ObjectFile.{ObjectFile}
 use Rattle.format.specs.Records.{withLines, emptyObject, putRecord}
 use Rattle.format.specs.TextReader.{splitn, cellAt, sameCells, rowsUnder, parseDecimal, maybeHex2u16, parseLabelRow, parseLabelTable, parseLineRows, runsFrom, unescape, parseLineTable, splitAtBar, upToBar, parseDebugGroup}
 use Rattle.format.specs.Calls.{refusalOf}
@@ -20,7 +20,7 @@ use Rattle.text_lines.specs.Views.{StepAt}
 use Rattle.text_lines.specs.Groups.{partsFrom, RowAt}
 use Rattle.text_lines.proofs.RowLaws.{rows-on, parts-of}
 use Rattle.text_tables.specs.Debug.{butLast, lineView, labelView, BarAt}
-use Rattle.text_tables.specs.Labels.{labelColumns, labelIn, setLabel, Named}
+use Rattle.text_tables.specs.Labels.{labelColumns, labelIn, setLabel}
 use Rattle.text_tables.specs.LineRows.{lineIn}
 use Rattle.text_tables.proofs.DebugLaws.{up-all}
 use Rattle.text_tables.proofs.ReadLaws.{foldl, through-parse, table-any}
@@ -29,7 +29,7 @@ use Rattle.text_source.specs.Stream.{sourceCell}
 use Rattle.text_debug.specs.LineTable.{lineColumns, LineTableIs}
 use Rattle.text_debug.specs.DebugGroup.{LastBar, FirstRow, addressIn, lineBlocksIn, sourceIn, withoutRows, DebugSettles, DebugChecked}
 use Rattle.text_lines.specs.declared.Passed.the-variants as pa
-use Rattle.text_debug.proofs.RefusalLaws.{Numbered, numbered-bind, numbered-ask, numbered-if, given-by, refused-by, numbered-unescape}
+use Rattle.text_debug.proofs.RefusalLaws.{Numbered, numbered-ask, refused-by, numbered-unescape}
 use Rattle.text_debug.proofs.LineTableLaws.{Parsed, row, end, rows-28, source-of, rest, opened}
 
 -- THE LINES UP TO THE LAST
@@ -86,13 +86,16 @@ module _ {R : Type 0} (one : ObjectFile → List ℕ → Outcome ObjectFile) (pa
       let b = kept-all (set h r) rs in
       (b .0 ∙ a .0, b .1 ∙ a .1, b .2 ∙ a .2)
 
-  kept-rows : (h : ObjectFile) (o : Option (List R)) → Keeps h (refusalOf (need k o >>= λ rs. given (foldl set h rs))) (need k o >>= λ rs. given (foldl set h rs))
+  kept-rows : (h : ObjectFile) (o : Option (List R))
+      → Keeps h (refusalOf (need k o >>= λ rs. given (foldl set h rs))) (need k o >>= λ rs. given (foldl set h rs))
   kept-rows h none = (refl, few)
   kept-rows h (some rs) = (refl, kept-all h rs)
 
-  kept-under : (h : ObjectFile) (t : Outcome (List (List ℕ))) → Numbered t → Keeps h (refusalOf (t >>= λ rows. foldOutcome one h rows)) (t >>= λ rows. foldOutcome one h rows)
+  kept-under : (h : ObjectFile) (t : Outcome (List (List ℕ))) → Numbered t
+      → Keeps h (refusalOf (t >>= λ rows. foldOutcome one h rows)) (t >>= λ rows. foldOutcome one h rows)
   kept-under h (refused n) q = (refl, q)
-  kept-under h (given rows) q = subst (λ (o : Outcome ObjectFile). Keeps h (refusalOf o) o) (sym (through-parse one parse set k splits h rows)) (kept-rows h (allSome parse rows))
+  kept-under h (given rows) q =
+      subst (λ (o : Outcome ObjectFile). Keeps h (refusalOf o) o) (sym (through-parse one parse set k splits h rows)) (kept-rows h (allSome parse rows))
 
   numbered-rows : (ls : List (List ℕ)) → Numbered (rowsUnder k columns ls)
   unfolding rowsUnder
@@ -101,14 +104,17 @@ module _ {R : Type 0} (one : ObjectFile → List ℕ → Outcome ObjectFile) (pa
       numbered-ask {B = List (List ℕ)} k (sameCells (map trim (splitn (length columns - 1) l)) columns) (λ _. given ls) few tt
 
   -- a table's number is of its lines alone, and an object is kept but for what its rows set
-  pub table-keeps : (h : ObjectFile) (ls : List (List ℕ)) (number : ℕ) → number ≡ refusalOf (rowsUnder k columns ls >>= λ rows. foldOutcome one emptyObject rows)
+  pub table-keeps : (h : ObjectFile) (ls : List (List ℕ)) (number : ℕ)
+      → number ≡ refusalOf (rowsUnder k columns ls >>= λ rows. foldOutcome one emptyObject rows)
       → Keeps h number (rowsUnder k columns ls >>= λ rows. foldOutcome one h rows)
   table-keeps h ls number e =
       subst (λ (n : ℕ). Keeps h n (rowsUnder k columns ls >>= λ rows. foldOutcome one h rows)) (sym (e ∙ table-any one parse set k splits columns emptyObject h ls)) (kept-under h (rowsUnder k columns ls) (numbered-rows ls))
 
-pub label-keeps : (h : ObjectFile) (ls : List (List ℕ)) (number : ℕ) → number ≡ refusalOf (parseLabelTable emptyObject ls) → Keeps h number (parseLabelTable h ls)
+pub label-keeps : (h : ObjectFile) (ls : List (List ℕ)) (number : ℕ) → number ≡ refusalOf (parseLabelTable emptyObject ls)
+    → Keeps h number (parseLabelTable h ls)
 unfolding parseLabelTable setLabel putRecord
-label-keeps h ls number e = table-keeps parseLabelRow labelIn setLabel 26 label-row (omega arith) (λ g r. (refl, refl, refl)) labelColumns h ls number e
+label-keeps h ls number e =
+    table-keeps parseLabelRow labelIn setLabel 26 label-row (omega arith) (λ g r. (refl, refl, refl)) labelColumns h ls number e
 
 -- THE LINE TABLE
 end-address : (n : ℕ) (cell : List ℕ) (x : Option (Option ℕ)) (q : Outcome (List Parsed)) (ps : List Parsed) → end cell x q ≡ given ps
@@ -117,7 +123,8 @@ end-address n cell none q ps e = let z : _≡_ {A = ℕ} 0 1 = cc in absurd (ome
 end-address n cell (some a) (refused m) ps e = let z : _≡_ {A = ℕ} 0 1 = cc in absurd (omega arith)
 end-address n cell (some a) (given rows) ps e = let r : (a, cell) ∷ rows ≡ ps = cc in (rows, refl, sym r)
 
-row-address : (i : ℕ) (cell : List ℕ) (p : Option ℕ) (x : Option (Option ℕ)) (q : Outcome (List Parsed)) (ps : List Parsed) → row i cell p x q ≡ given ps
+row-address : (i : ℕ) (cell : List ℕ) (p : Option ℕ) (x : Option (Option ℕ)) (q : Outcome (List Parsed)) (ps : List Parsed)
+    → row i cell p x q ≡ given ps
     → (rows : List Parsed) × (q ≡ given rows) × (ps ≡ ((andThen (andThen {B = ℕ × Option ℕ} p λ n. andThen {B = ℕ × Option ℕ} x λ a. some (n, a)) λ r. r .1), cell) ∷ rows)
 row-address i cell none x q ps e = let z : _≡_ {A = ℕ} 0 1 = cc in absurd (omega arith)
 row-address i cell (some n) x q ps e =
@@ -126,7 +133,8 @@ row-address i cell (some n) x q ps e =
     (λ t. let f : refused 28 ≡ given ps = simp t at e in let z : _≡_ {A = ℕ} 0 1 = cc in absurd (omega arith))
 
 -- the parsed rows have the addresses
-pub addresses-of : (i : ℕ) (ls : List (List ℕ)) (ps : List Parsed) → parseLineRows i ls ≡ given ps → map (λ (r : Parsed). r .0) ps ≡ map addressIn ls
+pub addresses-of : (i : ℕ) (ls : List (List ℕ)) (ps : List Parsed) → parseLineRows i ls ≡ given ps
+    → map (λ (r : Parsed). r .0) ps ≡ map addressIn ls
 unfolding parseLineRows addressIn lineIn
 addresses-of i [] ps e = let r : [] ≡ ps = cc in ap (map (λ (r : Parsed). r .0)) (sym r)
 addresses-of i (l ∷ ls) ps e =
@@ -142,10 +150,12 @@ module _ (h : ObjectFile) where
   Numbers ls (refused n) = 0 < n
   Numbers ls (given h′) = Set ls h′
 
-  unescaped : (ls : List (List ℕ)) (o : Outcome (List ℕ)) → isEmpty ls ≡ false → Numbered o → unescape (flatMap sourceCell ls) ≡ o → Numbers ls (o >>= λ s. given (withLines h (lineBlocksIn ls) (some s)))
+  unescaped : (ls : List (List ℕ)) (o : Outcome (List ℕ)) → isEmpty ls ≡ false → Numbered o → unescape (flatMap sourceCell ls) ≡ o
+      → Numbers ls (o >>= λ s. given (withLines h (lineBlocksIn ls) (some s)))
   unfolding sourceIn
   unescaped ls (refused n) e q f = q
-  unescaped ls (given s) e q f = ((λ t. absurd (true≢false (sym t ∙ e))), λ t. ap (λ (o : Outcome (List ℕ)). withLines h (lineBlocksIn ls) (some (givenOr o []))) (sym f))
+  unescaped ls (given s) e q f =
+      ((λ t. absurd (true≢false (sym t ∙ e))), λ t. ap (λ (o : Outcome (List ℕ)). withLines h (lineBlocksIn ls) (some (givenOr o []))) (sym f))
 
   -- what is asked of the rows, by whether there are any, their source and their addresses
   abbrev restOf : Bool → List ℕ → List (Option ℕ) → Outcome ObjectFile
@@ -173,7 +183,8 @@ module _ (h : ObjectFile) where
       ∙ ap (restOf (isEmpty ps) (flatMap (λ (r : Parsed). r .1) ps)) (sym (addresses-of 0 ls ps e)))
       (rest-numbers ls (isEmpty ls) refl)
 
-  table-28 : (l : List ℕ) (rows : List (List ℕ)) → sameCells (map trim (splitn 2 l)) lineColumns ≡ false → parseLineTable h (l ∷ rows) ≡ refused 28
+  table-28 : (l : List ℕ) (rows : List (List ℕ)) → sameCells (map trim (splitn 2 l)) lineColumns ≡ false
+      → parseLineTable h (l ∷ rows) ≡ refused 28
   unfolding parseLineTable rowsUnder
   table-28 l rows t = rw t
 
@@ -207,14 +218,16 @@ module _ (h : ObjectFile) (ls : List (List ℕ)) (l : List ℕ) (ks : List (List
       ∙ ap (λ (x : Option (List (List ℕ))). need 27 x >>= λ rows. parseLabelTable h (splitAtBar ls .before) >>= λ h′. parseLineTable h′ rows) u
 
   module _ (xs : List (List ℕ)) where
-    settled : (lined : Bool) (n : ℕ) (o : Outcome ObjectFile) → parseDebugGroup h ls ≡ o → DebugSettles lined xs h n o → DebugSettles lined xs h n (parseDebugGroup h ls)
+    settled : (lined : Bool) (n : ℕ) (o : Outcome ObjectFile) → parseDebugGroup h ls ≡ o → DebugSettles lined xs h n o
+        → DebugSettles lined xs h n (parseDebugGroup h ls)
     settled lined n o q s = subst (DebugSettles lined xs h n) (sym q) s
 
     -- "does a first line beginning `=` exist, the last line begin `=`, and these differ? 27"
     pub debug-first : splitAtBar ls .after ≡ none → DebugSettles false xs h 27 (parseDebugGroup h ls)
     debug-first q = settled false 27 (refused 27) (debug-bars none q) (refl, omega arith)
 
-    pub debug-last : (a : List (List ℕ)) → splitAtBar ls .after ≡ some a → upToBar a ≡ none → DebugSettles false xs h 27 (parseDebugGroup h ls)
+    pub debug-last : (a : List (List ℕ)) → splitAtBar ls .after ≡ some a → upToBar a ≡ none
+        → DebugSettles false xs h 27 (parseDebugGroup h ls)
     debug-last a q u = settled false 27 (refused 27) (debug-up a q none u) (refl, omega arith)
 
     module _ (a rows : List (List ℕ)) (q : splitAtBar ls .after ≡ some a) (u : upToBar a ≡ some rows) where
@@ -222,8 +235,10 @@ module _ (h : ObjectFile) (ls : List (List ℕ)) (l : List ℕ) (ks : List (List
       lines o = o >>= λ h′. parseLineTable h′ rows
 
       -- 26
-      pub debug-labels : (n : ℕ) → n ≡ refusalOf (parseLabelTable emptyObject (splitAtBar ls .before)) → (n ≡ 0 → ⊥) → DebugSettles false xs h n (parseDebugGroup h ls)
-      debug-labels n k ne = settled false n _ (debug-up a q (some rows) u) (go (parseLabelTable h (splitAtBar ls .before)) (label-keeps h (splitAtBar ls .before) n k))
+      pub debug-labels : (n : ℕ) → n ≡ refusalOf (parseLabelTable emptyObject (splitAtBar ls .before)) → (n ≡ 0 → ⊥)
+          → DebugSettles false xs h n (parseDebugGroup h ls)
+      debug-labels n k ne =
+          settled false n _ (debug-up a q (some rows) u) (go (parseLabelTable h (splitAtBar ls .before)) (label-keeps h (splitAtBar ls .before) n k))
         where
           go : (o : Outcome ObjectFile) → Keeps h n o → DebugSettles false xs h n (lines o)
           go (refused m) s = s
@@ -235,17 +250,22 @@ module _ (h : ObjectFile) (ls : List (List ℕ)) (l : List ℕ) (ks : List (List
 
         -- 28, 29, 30
         pub debug-lines : (m ≡ 0 → ⊥) → DebugSettles false xs h m (parseDebugGroup h ls)
-        debug-lines ne = settled false m _ (debug-up a q (some rows) u) (go (parseLabelTable h (splitAtBar ls .before)) (label-keeps h (splitAtBar ls .before) 0 k))
+        debug-lines ne =
+            settled false m _ (debug-up a q (some rows) u) (go (parseLabelTable h (splitAtBar ls .before)) (label-keeps h (splitAtBar ls .before) 0 k))
           where
             go : (o : Outcome ObjectFile) → Keeps h 0 o → DebugSettles false xs h m (lines o)
             go (refused n) s = absurd (omega (arith, s .0, s .1))
-            go (given h′) s = subst (DebugSettles false xs h m) (sym (refused-by (parseLineTable h′ rows) m (sym (number-of h′ (s .1))) ne)) (refl, omega (arith, ne))
+            go (given h′) s =
+                subst (DebugSettles false xs h m) (sym (refused-by (parseLineTable h′ rows) m (sym (number-of h′ (s .1))) ne)) (refl, omega (arith, ne))
 
         module _ (z : m ≡ 0) where
-          answer : (lined : Bool) → ((h′ h″ : ObjectFile) → Kept h h′ → Set h′ (drop 1 rows) h″ → DebugSettles lined xs h 0 (given h″)) → DebugSettles lined xs h 0 (parseDebugGroup h ls)
-          answer lined f = settled lined 0 _ (debug-up a q (some rows) u) (go (parseLabelTable h (splitAtBar ls .before)) (label-keeps h (splitAtBar ls .before) 0 k))
+          answer : (lined : Bool) → ((h′ h″ : ObjectFile) → Kept h h′ → Set h′ (drop 1 rows) h″ → DebugSettles lined xs h 0 (given h″))
+              → DebugSettles lined xs h 0 (parseDebugGroup h ls)
+          answer lined f =
+              settled lined 0 _ (debug-up a q (some rows) u) (go (parseLabelTable h (splitAtBar ls .before)) (label-keeps h (splitAtBar ls .before) 0 k))
             where
-              last : (h′ : ObjectFile) → Kept h h′ → (o : Outcome ObjectFile) → parseLineTable h′ rows ≡ o → Numbers h′ (drop 1 rows) o → DebugSettles lined xs h 0 o
+              last : (h′ : ObjectFile) → Kept h h′ → (o : Outcome ObjectFile) → parseLineTable h′ rows ≡ o → Numbers h′ (drop 1 rows) o
+                  → DebugSettles lined xs h 0 o
               last h′ s (refused n) e w = absurd (omega (arith, w, z, number-of h′ s ∙ ap refusalOf e))
               last h′ s (given h″) e w = f h′ h″ s w
 
@@ -274,7 +294,13 @@ checked-no t at b n ne f = record { from = omega arith; after = λ z. absurd (ne
 
 pub checked-none : (t : List ℕ) (at : ℕ) (b : Bool) → partsFrom t at .before ≡ [] → DebugChecked t at b (withoutRows 0 at)
 checked-none t at b e =
-    record { from = omega arith; after = λ z. parts-of t at _ e refl; inside = omega arith; settles = λ h g. debug-none h (partsFrom t at .before) (lineView t 0 .0) e }
+    record {
+      from =
+          omega arith;
+      after = λ z. parts-of t at _ e refl;
+      inside = omega arith;
+      settles = λ h g. debug-none h (partsFrom t at .before) (lineView t 0 .0) e;
+    }
 
 module _ (t : List ℕ) (at a e n : ℕ) (r : RowAt t at a e n) (b : Bool) where
   abbrev first : partsFrom t at .before ≡ part a e t ∷ partsFrom t n .before
@@ -288,7 +314,8 @@ module _ (t : List ℕ) (at a e n : ℕ) (r : RowAt t at a e n) (b : Bool) where
     checked-last u = checked-no t at b 27 (λ z. omega (arith, z)) λ h g. debug-last h _ _ _ first _ _ (bar .after) u
 
     module _ (m : ℕ) (u : LastBar t q (pa.To m)) where
-      pub checked-labels : (k : ℕ) → k ≡ refusalOf (parseLabelTable emptyObject (labelView t at .0)) → (k ≡ 0 → ⊥) → DebugChecked t at b (withoutRows k at)
+      pub checked-labels : (k : ℕ) → k ≡ refusalOf (parseLabelTable emptyObject (labelView t at .0)) → (k ≡ 0 → ⊥)
+          → DebugChecked t at b (withoutRows k at)
       checked-labels k w ne = checked-no t at b k ne λ h g. debug-labels h _ _ _ first _ _ _ (bar .after) (u .2) k w ne
 
       module _ (w : 0 ≡ refusalOf (parseLabelTable emptyObject (labelView t at .0))) (k : ℕ) (is : LineTableIs (lineView t q .0) b k) where
@@ -301,8 +328,21 @@ module _ (t : List ℕ) (at a e n : ℕ) (r : RowAt t at a e n) (b : Bool) where
         module _ (z : k ≡ 0) where
           pub checked-unlined : isEmpty (drop 1 (lineView t q .0)) ≡ true → DebugChecked t at b (withoutRows 0 m)
           checked-unlined o =
-              record { from = omega (arith, bar .on, u .0); after = λ y. after-bars; inside = omega arith; settles = λ h g. debug-unlined h _ _ _ first _ _ _ (bar .after) (u .2) w b k is g z o }
+              record {
+                from =
+                    omega (arith, bar .on, u .0);
+                after = λ y. after-bars;
+                inside = omega arith;
+                settles = λ h g. debug-unlined h _ _ _ first _ _ _ (bar .after) (u .2) w b k is g z o;
+              }
 
-          pub checked-lined : (p : ℕ) → FirstRow t q (pa.To p) → DebugChecked t at b (record { number = 0; next = m; lined = true; rows = p })
+          pub checked-lined : (p : ℕ) → FirstRow t q (pa.To p)
+              → DebugChecked t at b (record { number = 0; next = m; lined = true; rows = p })
           checked-lined p o =
-              record { from = omega (arith, bar .on, u .0); after = λ y. after-bars; inside = o .0; settles = λ h g. debug-lined h _ _ _ first _ _ _ (bar .after) (u .2) w b k is g z (o .1) (o .2) }
+              record {
+                from =
+                    omega (arith, bar .on, u .0);
+                after = λ y. after-bars;
+                inside = o .0;
+                settles = λ h g. debug-lined h _ _ _ first _ _ _ (bar .after) (u .2) w b k is g z (o .1) (o .2);
+              }

@@ -1,7 +1,7 @@
 -- No refusal has number 0, question by question. Assumes nothing.
-use mathlib.Core.Path.{_≡_, refl, sym, ap, _∙_}
+use mathlib.Core.Path.{_≡_, refl, sym, ap}
 use mathlib.Core.Bool.{Bool, true, false, _&&_}
-use mathlib.Core.List.{List, [], _∷_, flatMap}
+use mathlib.Core.List.{List, [], _∷_}
 use mathlib.Core.Option.{Option, none, some}
 use Prim.Native.Nat.{ℕ, zero, suc, _+_, _<_}
 use native.Mathlib.Omega.{arith}
@@ -9,7 +9,7 @@ use lib.ListN.{take, drop}
 use lib.Dec.{eqb}
 use Rattle.format.specs.Basics.{Outcome, refused, given, _>>=_, ask, need, if_then_else_, beginsWith, ascii}
 use Rattle.format.specs.Tokens.{tokens, scanTokens, foldOutcome}
-use Rattle.format.specs.Utf8.{isBetween, isScalar, encodeScalar}
+use Rattle.format.specs.Utf8.{isBetween, isScalar}
 use Rattle.format.specs.TextReader.{hexDigits, digitsFrom, scalarOf, unicodeEscape, afterBackslash, unescapeAt, unescape}
 use Rattle.format.specs.Calls.{refusalOf}
 
@@ -51,7 +51,8 @@ module _ {A B : Type 0} (one : List A → Outcome (B × ℕ)) (step : (xs : List
   unfolding tokens
   numbered-tokens k [] = tt
   numbered-tokens (suc k) (a ∷ xs) = numbered-tokens k xs
-  numbered-tokens zero (a ∷ xs) = numbered-bind (one (a ∷ xs)) _ (step (a ∷ xs)) λ t. numbered-bind (tokens one (t .1) xs) _ (numbered-tokens (t .1) xs) λ ts. tt
+  numbered-tokens zero (a ∷ xs) =
+      numbered-bind (one (a ∷ xs)) _ (step (a ∷ xs)) λ t. numbered-bind (tokens one (t .1) xs) _ (numbered-tokens (t .1) xs) λ ts. tt
 
 module _ {A S : Type 0} (one : S → List A → Outcome (S × ℕ)) (step : (s : S) (xs : List A) → Numbered (one s xs)) where
   pub numbered-scan : (s : S) (k : ℕ) (xs : List A) → Numbered (scanTokens one s k xs)

@@ -84,7 +84,7 @@ pub struct DebugGroup {
 }
 
 // The place after the group, if its last line begins with `=`.
-pub fn last_bar(t: &[u8], from: usize) -> Passed
+fn last_bar(t: &[u8], from: usize) -> Passed
     ensures { λ r. ⌜ LastBar (now (t .entry)) from r ⌝ }
 {
     let mut at = from;
@@ -102,7 +102,7 @@ pub fn last_bar(t: &[u8], from: usize) -> Passed
 }
 
 // The place of the line table's first row, if there is one.
-pub fn first_line_row(t: &[u8], from: usize) -> Passed
+fn first_line_row(t: &[u8], from: usize) -> Passed
     ensures { λ r. ⌜ FirstRow (now (t .entry)) from r ⌝ }
 {
     let Line::At {

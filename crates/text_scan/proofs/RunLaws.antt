@@ -13,7 +13,6 @@ use Rattle.format.specs.TextReader.{runsFrom}
 use Rattle.trim.specs.Span.{part}
 use Rattle.text_lines.specs.Views.{StepAt}
 use Rattle.text_lines.proofs.TestLaws.{by-test}
-use Rattle.text_tables.specs.declared.LineRow.{LineRow}
 use Rattle.text_tables.specs.declared.LineRow.the-variants as lr
 use Rattle.text_tables.specs.Debug.{Groups, lineView}
 use Rattle.text_tables.specs.LineRows.{lineIn, lineOf}
@@ -52,13 +51,15 @@ fall-snoc : (run : List ℕ) (a : ℕ) → not (neverFall (run ++ a ∷ [])) ≡
 unfolding chain lastOf
 fall-snoc [] a = sym (le-ltb a 0 (omega arith))
 fall-snoc (x ∷ []) a = falls-two x a
-fall-snoc (x ∷ y ∷ run) a = fall-on (leb x y) (neverFall (y ∷ run)) (neverFall (y ∷ run ++ a ∷ [])) (ltb a (lastOf (y ∷ run))) (fall-snoc (y ∷ run) a)
+fall-snoc (x ∷ y ∷ run) a =
+    fall-on (leb x y) (neverFall (y ∷ run)) (neverFall (y ∷ run ++ a ∷ [])) (ltb a (lastOf (y ∷ run))) (fall-snoc (y ∷ run) a)
 
 not-not : (b : Bool) → not (not b) ≡ b
 not-not true = refl
 not-not false = refl
 
-rises : (i : ℕ) (run : List ℕ) (rows : List (Option ℕ)) → every (λ l. neverFall (l .addresses)) (runsFrom i run rows) ≡ risesFrom (not (neverFall run)) (lastOf run) rows
+rises : (i : ℕ) (run : List ℕ) (rows : List (Option ℕ))
+    → every (λ l. neverFall (l .addresses)) (runsFrom i run rows) ≡ risesFrom (not (neverFall run)) (lastOf run) rows
 unfolding every runsFrom risesFrom lastOf chain
 rises i run [] = refl
 rises i run (some a ∷ rows) =
@@ -90,10 +91,13 @@ module _ (t : List ℕ) (at a e n : ℕ) (l : StepAt (lineView t) t at a e n) (f
   abbrev rest : List (Option ℕ)
   rest = map addressIn (lineView t n .0)
 
-  step : (o : Option ℕ) → addressIn (part a e t) ≡ o → risesFrom fell last (o ∷ rest) ≡ risesFrom fell last (map addressIn (lineView t at .0))
-  step o q = sym (ap (λ (p : List (List ℕ) × Groups). risesFrom fell last (map addressIn (p .0))) (l .same) ∙ ap (λ (x : Option ℕ). risesFrom fell last (x ∷ rest)) q)
+  step : (o : Option ℕ) → addressIn (part a e t) ≡ o
+      → risesFrom fell last (o ∷ rest) ≡ risesFrom fell last (map addressIn (lineView t at .0))
+  step o q =
+      sym (ap (λ (p : List (List ℕ) × Groups). risesFrom fell last (map addressIn (p .0))) (l .same) ∙ ap (λ (x : Option ℕ). risesFrom fell last (x ∷ rest)) q)
 
-  pub rises-known : (k x : ℕ) → lineOf (lr.Known k x) ≡ lineIn (part a e t) → risesFrom (fell || ltb x last) x rest ≡ risesFrom fell last (map addressIn (lineView t at .0))
+  pub rises-known : (k x : ℕ) → lineOf (lr.Known k x) ≡ lineIn (part a e t)
+      → risesFrom (fell || ltb x last) x rest ≡ risesFrom fell last (map addressIn (lineView t at .0))
   unfolding risesFrom
   rises-known k x q = step (some x) (address-known (part a e t) k x q)
 
@@ -126,7 +130,8 @@ module _ (t : List ℕ) (at a e n : ℕ) (l : StepAt (lineView t) t at a e n) (f
     pub bad-no : fell ≡ true → false ≡ risesFrom fell last (map addressIn (lineView t at .0))
     bad-no = rises-no (address-none (part a e t) q)
 
-pub rises-done : (t : List ℕ) (at : ℕ) (fell : Bool) (last : ℕ) → lineView t at .0 ≡ [] → true ≡ risesFrom fell last (map addressIn (lineView t at .0))
+pub rises-done : (t : List ℕ) (at : ℕ) (fell : Bool) (last : ℕ) → lineView t at .0 ≡ []
+    → true ≡ risesFrom fell last (map addressIn (lineView t at .0))
 unfolding risesFrom
 rises-done t at fell last q = sym (ap (λ (ls : List (List ℕ)). risesFrom fell last (map addressIn ls)) q)
 

@@ -1,18 +1,17 @@
 -- A file's first line, its groups, and the last question. Assumes nothing.
 use mathlib.Core.Path.{_≡_, refl, sym, ap, _∙_, subst}
-use mathlib.Core.Bool.{Bool, true, false, true≢false}
+use mathlib.Core.Bool.{Bool, true, false}
 use mathlib.Core.List.{List, [], _∷_}
-use mathlib.Core.Option.{none}
 use Prim.Native.Nat.{ℕ, zero, suc, _-_, _≤_}
 use native.Mathlib.Omega.{arith}
 use lib.ListN.{length, take, drop, getD, replicate}
 use lib.Seq.{take-nil, length-take-le}
 use lib.Dec.{leb, eqb}
 use Rattle.format.specs.Basics.{Outcome, refused, given, _>>=_, ask, every, chain, isSome, isEmpty, eqs, beginsWith, ascii}
-use Rattle.format.specs.Tokens.{Parts, partsAt, foldOutcome}
+use Rattle.format.specs.Tokens.{partsAt, foldOutcome}
 use Rattle.format.specs.Sorted.{atKey}
 use Rattle.format.specs.Utf8.{isUtf8, trim}
-use Rattle.format.specs.ObjectFile.{ObjectFile, LineBlock, blockKey}
+use Rattle.format.specs.ObjectFile.{ObjectFile, LineBlock}
 use Rattle.format.specs.Records.{emptyObject, askAll, concluded, textQuestions, dropStrayRelocations}
 use Rattle.format.specs.TextReader.{keptLines, afterMagic, parseGroup, textObject}
 use Rattle.format.specs.Calls.{refusalOf}
@@ -49,7 +48,8 @@ pub magic-none : (t : List ℕ) (start : ℕ) → kept (drop start t) ≡ [] →
 unfolding trimmedObject afterMagic
 magic-none t start e = rw e
 
-after-22 : (b : Bool) (o : Outcome ObjectFile) (f : ObjectFile → Outcome ObjectFile) → (ask 22 b >>= λ _. o >>= f) ≡ ((ask 22 b >>= λ _. o) >>= f)
+after-22 : (b : Bool) (o : Outcome ObjectFile) (f : ObjectFile → Outcome ObjectFile)
+    → (ask 22 b >>= λ _. o >>= f) ≡ ((ask 22 b >>= λ _. o) >>= f)
 after-22 true o f = refl
 after-22 false o f = refl
 
@@ -60,11 +60,13 @@ afterLine ls =
     foldOutcome parseGroup emptyObject (partsAt (beginsWith (ascii ".")) ls .groups) >>= λ h. concluded textQuestions h
 
 module _ (t : List ℕ) (start a e n : ℕ) (l : LineAt kept t start a e n) where
-  first-line : (b : Bool) → eqs (part a e t) (ascii "LC-3 OBJ FILE") ≡ b → trimmedObject t start ≡ (ask 21 b >>= λ _. afterLine (kept (drop n t)))
+  first-line : (b : Bool) → eqs (part a e t) (ascii "LC-3 OBJ FILE") ≡ b
+      → trimmedObject t start ≡ (ask 21 b >>= λ _. afterLine (kept (drop n t)))
   unfolding trimmedObject afterMagic
   first-line b q = ap (λ (ls : List (List ℕ)). afterMagic ls >>= afterLine) (l .same) ∙ go (eqs (part a e t) (ascii "LC-3 OBJ FILE")) b q
     where
-      go : (x y : Bool) → x ≡ y → ((ask 21 x >>= λ _. given (kept (drop n t))) >>= afterLine) ≡ (ask 21 y >>= λ _. afterLine (kept (drop n t)))
+      go : (x y : Bool) → x ≡ y
+          → ((ask 21 x >>= λ _. given (kept (drop n t))) >>= afterLine) ≡ (ask 21 y >>= λ _. afterLine (kept (drop n t)))
       go true y q = ap (λ (z : Bool). ask 21 z >>= λ _. afterLine (kept (drop n t))) q
       go false y q = ap (λ (z : Bool). ask 21 z >>= λ _. afterLine (kept (drop n t))) q
 
@@ -74,7 +76,9 @@ module _ (t : List ℕ) (start a e n : ℕ) (l : LineAt kept t start a e n) wher
   module _ (q : eqs (part a e t) (ascii "LC-3 OBJ FILE") ≡ true) where
     magic-yes : trimmedObject t start ≡ (groupsFrom t n emptyObject >>= concluded textQuestions)
     unfolding groupsFrom partsFrom
-    magic-yes = first-line true q ∙ after-22 (isEmpty (partsAt (beginsWith (ascii ".")) (kept (drop n t)) .before)) (foldOutcome parseGroup emptyObject (partsAt (beginsWith (ascii ".")) (kept (drop n t)) .groups)) (concluded textQuestions)
+    magic-yes =
+        first-line true q
+        ∙ after-22 (isEmpty (partsAt (beginsWith (ascii ".")) (kept (drop n t)) .before)) (foldOutcome parseGroup emptyObject (partsAt (beginsWith (ascii ".")) (kept (drop n t)) .groups)) (concluded textQuestions)
 
     from-groups : (o : Outcome ObjectFile) → groupsFrom t n emptyObject ≡ o → trimmedObject t start ≡ (o >>= concluded textQuestions)
     from-groups o g = magic-yes ∙ ap (λ (x : Outcome ObjectFile). x >>= concluded textQuestions) g
@@ -84,7 +88,8 @@ module _ (t : List ℕ) (start a e n : ℕ) (l : LineAt kept t start a e n) wher
       pub scan-groups : (w .number ≡ 0 → ⊥) → trimmedObject t start ≡ refused (w .number)
       scan-groups ne = go (groupsFrom t n emptyObject) refl c
         where
-          go : (o : Outcome ObjectFile) → groupsFrom t n emptyObject ≡ o → Comes (Lined t (w .sourced) (w .rows)) (w .number) o → trimmedObject t start ≡ refused (w .number)
+          go : (o : Outcome ObjectFile) → groupsFrom t n emptyObject ≡ o → Comes (Lined t (w .sourced) (w .rows)) (w .number) o
+              → trimmedObject t start ≡ refused (w .number)
           go (refused m) g s = from-groups (refused m) g ∙ ap refused (sym (s .0))
           go (given h) g s = absurd (ne (s .0))
 
@@ -92,19 +97,23 @@ module _ (t : List ℕ) (start a e n : ℕ) (l : LineAt kept t start a e n) wher
         groups-given : (h : ObjectFile) × (groupsFrom t n emptyObject ≡ given h) × Lined t (w .sourced) (w .rows) h
         groups-given = go (groupsFrom t n emptyObject) refl c
           where
-            go : (o : Outcome ObjectFile) → groupsFrom t n emptyObject ≡ o → Comes (Lined t (w .sourced) (w .rows)) (w .number) o → (h : ObjectFile) × (groupsFrom t n emptyObject ≡ given h) × Lined t (w .sourced) (w .rows) h
+            go : (o : Outcome ObjectFile) → groupsFrom t n emptyObject ≡ o → Comes (Lined t (w .sourced) (w .rows)) (w .number) o
+                → (h : ObjectFile) × (groupsFrom t n emptyObject ≡ given h) × Lined t (w .sourced) (w .rows) h
             go (refused m) g s = absurd (omega (arith, s .0, s .1, z))
             go (given h) g s = (h, g, s .1)
 
-        concluded-by : (h : ObjectFile) (b : Bool) → blocksRise (h .lineBlocks) ≡ b → concluded textQuestions h ≡ (ask 31 b >>= λ _. given (dropStrayRelocations h))
+        concluded-by : (h : ObjectFile) (b : Bool) → blocksRise (h .lineBlocks) ≡ b
+            → concluded textQuestions h ≡ (ask 31 b >>= λ _. given (dropStrayRelocations h))
         unfolding concluded askAll blocksRise
         concluded-by h b q = go (every (λ (l : LineBlock). chain leb (l .addresses)) (h .lineBlocks)) b q
           where
-            go : (x y : Bool) → x ≡ y → ((ask 31 x >>= λ _. given (tt {0})) >>= λ _. given (dropStrayRelocations h)) ≡ (ask 31 y >>= λ _. given (dropStrayRelocations h))
+            go : (x y : Bool) → x ≡ y
+                → ((ask 31 x >>= λ _. given (tt {0})) >>= λ _. given (dropStrayRelocations h)) ≡ (ask 31 y >>= λ _. given (dropStrayRelocations h))
             go true y q = ap (λ (v : Bool). ask 31 v >>= λ _. given (dropStrayRelocations h)) q
             go false y q = ap (λ (v : Bool). ask 31 v >>= λ _. given (dropStrayRelocations h)) q
 
-        concludes : (b : Bool) → blocksRise (lineBlocksOf (w .sourced) (lineView t (w .rows) .0)) ≡ b → trimmedObject t start ≡ (ask 31 b >>= λ _. given (dropStrayRelocations (groups-given .0)))
+        concludes : (b : Bool) → blocksRise (lineBlocksOf (w .sourced) (lineView t (w .rows) .0)) ≡ b
+            → trimmedObject t start ≡ (ask 31 b >>= λ _. given (dropStrayRelocations (groups-given .0)))
         concludes b q =
             from-groups (given (groups-given .0)) (groups-given .1)
             ∙ concluded-by (groups-given .0) b (ap blocksRise (groups-given .2 .blocks) ∙ q)
@@ -129,7 +138,8 @@ drop-take : (x n : ℕ) (l : List ℕ) → drop x (take n l) ≡ take (n - x) (d
 drop-take zero n l = let k : n ≡ n - 0 = omega arith in ap (λ (j : ℕ). take j l) k
 drop-take (suc x) zero l = let k : 0 - suc x ≡ 0 = omega arith in ap (λ (j : ℕ). take j (drop (suc x) l)) (sym k)
 drop-take (suc x) (suc n) [] = sym (take-nil (suc n - suc x))
-drop-take (suc x) (suc n) (b ∷ bs) = drop-take x n bs ∙ (let k : n - x ≡ suc n - suc x = omega arith in ap (λ (j : ℕ). take j (drop x bs)) k)
+drop-take (suc x) (suc n) (b ∷ bs) =
+    drop-take x n bs ∙ (let k : n - x ≡ suc n - suc x = omega arith in ap (λ (j : ℕ). take j (drop x bs)) k)
 
 module _ (s : List ℕ) where
   pub scan-bytes : isUtf8 s ≡ false → textObject s ≡ refused 20
@@ -138,7 +148,8 @@ module _ (s : List ℕ) where
 
   module _ (start end : ℕ) (u : isUtf8 s ≡ true) (p : Spans s start end (trim (part 0 (length s) s))) where
     trimmed-lines : keptLines s ≡ kept (drop start (take end s))
-    trimmed-lines = kept-trimmed s ∙ ap (λ (x : List ℕ). kept (trim x)) (sym (to-end s 0)) ∙ ap kept (sym (p .same) ∙ sym (drop-take start end s))
+    trimmed-lines =
+        kept-trimmed s ∙ ap (λ (x : List ℕ). kept (trim x)) (sym (to-end s 0)) ∙ ap kept (sym (p .same) ∙ sym (drop-take start end s))
 
     pub scan-file : textObject s ≡ trimmedObject (take end s) start
     unfolding textObject trimmedObject
@@ -152,7 +163,8 @@ scans-number t (refused n) r s = ap (λ (x : Scanned). x .number) s
 scans-number t (given h) r s = s .yes
 
 -- of a file up to the end that is handed back
-pub scans-end : (s : List ℕ) (end : ℕ) (o : Outcome ObjectFile) (r : Scanned) → end ≤ length s → Scans (take end s) o r → Scans (take (r .end) s) o r
+pub scans-end : (s : List ℕ) (end : ℕ) (o : Outcome ObjectFile) (r : Scanned) → end ≤ length s → Scans (take end s) o r
+    → Scans (take (r .end) s) o r
 scans-end s end (refused n) r h q = q
 scans-end s end (given h′) r h q =
     let e : r .end ≡ end = q .end ∙ length-take-le end s h in

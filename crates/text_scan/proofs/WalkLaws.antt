@@ -3,16 +3,16 @@ use mathlib.Core.Path.{_≡_, refl, sym, ap, _∙_, subst}
 use mathlib.Core.Bool.{Bool, true, false, not}
 use mathlib.Core.List.{List, [], _∷_}
 use mathlib.Core.Option.{Option, none, some}
-use Prim.Native.Nat.{ℕ, zero, suc, _≤_, _<_, _^_}
+use Prim.Native.Nat.{ℕ, zero, suc, _≤_, _^_}
 use native.Mathlib.Omega.{arith}
 use lib.ListN.{length, take}
-use lib.Dec.{leb, eqb}
+use lib.Dec.{leb}
 use borrow.Author.Tests.{ne-eqb}
-use Rattle.format.specs.Basics.{Outcome, refused, given, _>>=_, ask, need, allSome, isSome, isEmpty, if_then_else_}
+use Rattle.format.specs.Basics.{Outcome, refused, given, _>>=_, ask, need, allSome, isSome, isEmpty}
 use Rattle.format.specs.Tokens.{Parts, scanTokens, foldOutcome}
 use Rattle.format.specs.Sorted.{atKey}
 use Rattle.format.specs.ObjectFile.{ObjectFile, Block, blockKey}
-use Rattle.format.specs.Records.{emptyObject, putRecord, block}
+use Rattle.format.specs.Records.{emptyObject, putRecord}
 use Rattle.format.specs.TextReader.{hex2u16, parseDecimal, maybeHex2u16, blockAt, parseTextGroup, parseSymbolRow, parseSymbolGroup, parseLinkerRow, parseLinkerGroup, parseDebugGroup, parseGroup}
 use Rattle.format.specs.Calls.{refusalOf}
 use Rattle.format.proofs.Outcomes.{Gives, gives-ask, gives-bind}
@@ -27,7 +27,7 @@ use Rattle.text_linker.proofs.LinkerLaws.{linker-row}
 use Rattle.text_blocks.specs.Blocks.{Seen, Settles, BlocksChecked}
 use Rattle.text_debug.specs.declared.DebugGroup.{DebugGroup}
 use Rattle.text_debug.specs.DebugGroup.{DebugSettles, DebugChecked}
-use Rattle.text_debug.proofs.RefusalLaws.{Numbered, numbered-bind, numbered-need, numbered-ask, numbered-scan}
+use Rattle.text_debug.proofs.RefusalLaws.{Numbered, numbered-need, numbered-ask, numbered-scan}
 use Rattle.text_debug.proofs.DebugGroupLaws.{Kept, Keeps, table-keeps}
 use Rattle.text_scan.specs.declared.Walked.{Walked}
 use Rattle.text_scan.specs.Walk.{lineBlocksOf, sourceOf, Lined, Agrees, Comes, LinesChecked, GroupChecked, DebugWalked, groupsFrom, GroupsWalked}
@@ -37,7 +37,8 @@ abbrev Stands : List ℕ → ObjectFile → ObjectFile → Type 0
 Stands seen′ h h′ = Seen h′ seen′ × (h′ .lineBlocks ≡ h .lineBlocks) × (h′ .source ≡ h .source)
 
 -- .TEXT
-gives-need : {A B : Type 0} (Q : B → Type 0) (n : ℕ) (o : Option A) (f : A → Outcome B) → ((a : A) → Gives Q (f a)) → Gives Q (need n o >>= f)
+gives-need : {A B : Type 0} (Q : B → Type 0) (n : ℕ) (o : Option A) (f : A → Outcome B) → ((a : A) → Gives Q (f a))
+    → Gives Q (need n o >>= f)
 gives-need Q n none f k = tt
 gives-need Q n (some a) f k = k a
 
@@ -82,7 +83,8 @@ pub text-numbered : (h : ObjectFile) (ls : List (List ℕ)) → Numbered (parseT
 unfolding parseTextGroup
 text-numbered h ls = numbered-scan blockAt block-numbered h 0 ls
 
-text-comes : (h : ObjectFile) (seen′ : List ℕ) (n : ℕ) (o : Outcome ObjectFile) → Settles o n seen′ → Gives (Same h) o → Numbered o → Comes (Stands seen′ h) n o
+text-comes : (h : ObjectFile) (seen′ : List ℕ) (n : ℕ) (o : Outcome ObjectFile) → Settles o n seen′ → Gives (Same h) o → Numbered o
+    → Comes (Stands seen′ h) n o
 text-comes h seen′ n (refused m) s g q = (s, q)
 text-comes h seen′ n (given h′) s g q = (s .0, (s .1, g .0, g .1))
 
@@ -93,13 +95,17 @@ keeps-comes h seen m n (given h′) s =
     let k : Kept h h′ = s .1 in
     (s .0, ((λ a. ap (λ (bs : List Block). isSome (atKey blockKey (a ∷ []) bs)) (k .0) ∙ m a), k .1, k .2))
 
-pub symbol-keeps : (h : ObjectFile) (ls : List (List ℕ)) (n : ℕ) → n ≡ refusalOf (parseSymbolGroup emptyObject ls) → Keeps h n (parseSymbolGroup h ls)
+pub symbol-keeps : (h : ObjectFile) (ls : List (List ℕ)) (n : ℕ) → n ≡ refusalOf (parseSymbolGroup emptyObject ls)
+    → Keeps h n (parseSymbolGroup h ls)
 unfolding parseSymbolGroup setSymbol putRecord
-symbol-keeps h ls n e = table-keeps parseSymbolRow symbolIn setSymbol 26 symbol-row (omega arith) (λ g r. (refl, refl, refl)) symbolColumns h ls n e
+symbol-keeps h ls n e =
+    table-keeps parseSymbolRow symbolIn setSymbol 26 symbol-row (omega arith) (λ g r. (refl, refl, refl)) symbolColumns h ls n e
 
-pub linker-keeps : (h : ObjectFile) (ls : List (List ℕ)) (n : ℕ) → n ≡ refusalOf (parseLinkerGroup emptyObject ls) → Keeps h n (parseLinkerGroup h ls)
+pub linker-keeps : (h : ObjectFile) (ls : List (List ℕ)) (n : ℕ) → n ≡ refusalOf (parseLinkerGroup emptyObject ls)
+    → Keeps h n (parseLinkerGroup h ls)
 unfolding parseLinkerGroup setLinker putRecord
-linker-keeps h ls n e = table-keeps parseLinkerRow linkerIn setLinker 26 linker-row (omega arith) (λ g r. (refl, refl, refl)) linkerColumns h ls n e
+linker-keeps h ls n e =
+    table-keeps parseLinkerRow linkerIn setLinker 26 linker-row (omega arith) (λ g r. (refl, refl, refl)) linkerColumns h ls n e
 
 -- BY KIND
 module _ (h : ObjectFile) (name : List ℕ) (ls : List (List ℕ)) (k : ℕ) (e : k ≡ kindOf name) where
@@ -128,9 +134,11 @@ module _ (h : ObjectFile) (name : List ℕ) (ls : List (List ℕ)) (k : ℕ) (e 
 
 module _ (t : List ℕ) (kind at : ℕ) (seen : List ℕ) where
   abbrev Settled : List ℕ → ℕ → Type 0
-  Settled seen′ n = (name : List ℕ) → kind ≡ kindOf name → (h : ObjectFile) → Seen h seen → Comes (Stands seen′ h) n (parseGroup h (name, partsFrom t at .before))
+  Settled seen′ n =
+      (name : List ℕ) → kind ≡ kindOf name → (h : ObjectFile) → Seen h seen → Comes (Stands seen′ h) n (parseGroup h (name, partsFrom t at .before))
 
-  pub lines-text : (seen′ : List ℕ) (r : Group) → kind ≡ 0 → 65536 ≤ length seen → BlocksChecked t at seen seen′ (r .number) (r .next) → LinesChecked t kind at seen seen′ r
+  pub lines-text : (seen′ : List ℕ) (r : Group) → kind ≡ 0 → 65536 ≤ length seen → BlocksChecked t at seen seen′ (r .number) (r .next)
+      → LinesChecked t kind at seen seen′ r
   lines-text seen′ r k l c =
       let f : Settled seen′ (r .number) = λ name e h s.
       subst (Comes (Stands seen′ h) (r .number)) (sym (is-text h name (partsFrom t at .before) kind e k))
@@ -151,7 +159,8 @@ module _ (t : List ℕ) (kind at : ℕ) (seen : List ℕ) where
       (keeps-comes h seen s (r .number) (parseLinkerGroup h (partsFrom t at .before)) (linker-keeps h (partsFrom t at .before) (r .number) (c .same))) in
       record { from = c .from; after = c .after; settles = f }
 
-  pub lines-unknown : (kind ≡ 0 → ⊥) → (kind ≡ 1 → ⊥) → (kind ≡ 2 → ⊥) → (kind ≡ 3 → ⊥) → LinesChecked t kind at seen seen (record { number = 23; next = at })
+  pub lines-unknown : (kind ≡ 0 → ⊥) → (kind ≡ 1 → ⊥) → (kind ≡ 2 → ⊥) → (kind ≡ 3 → ⊥)
+      → LinesChecked t kind at seen seen (record { number = 23; next = at })
   lines-unknown a b c d =
       let f : Settled seen 23 = λ name e h s. subst (Comes (Stands seen h) 23) (sym (is-none h name (partsFrom t at .before) kind e a b c d)) (refl, omega arith) in
       record { from = omega arith; after = λ z. absurd (omega (arith, z)); settles = f }
@@ -163,25 +172,41 @@ lined-some t true rows h l = ap isSome (l .source)
 lined-some t false rows h l = ap isSome (l .source)
 
 module _ (t : List ℕ) (at : ℕ) (sourced : Bool) (rows : ℕ) (g : DebugGroup) (c : DebugChecked t at sourced g) where
-  lined-new : (h : ObjectFile) (n : ℕ) (o : Outcome ObjectFile) → DebugSettles true (lineView t (g .rows) .0) h n o → Comes (λ h′. (h′ .blocks ≡ h .blocks) × Lined t true (g .rows) h′) n o
+  lined-new : (h : ObjectFile) (n : ℕ) (o : Outcome ObjectFile) → DebugSettles true (lineView t (g .rows) .0) h n o
+      → Comes (λ h′. (h′ .blocks ≡ h .blocks) × Lined t true (g .rows) h′) n o
   unfolding lineBlocksOf sourceOf
   lined-new h n (refused m) s = s
   lined-new h n (given h′) s = (s .0, (s .1, record { blocks = s .2 .0; source = s .2 .1 }))
 
-  lined-old : (h : ObjectFile) → Lined t sourced rows h → (ls : List (List ℕ)) (n : ℕ) (o : Outcome ObjectFile) → DebugSettles false ls h n o → Comes (λ h′. (h′ .blocks ≡ h .blocks) × Lined t sourced rows h′) n o
+  lined-old : (h : ObjectFile) → Lined t sourced rows h → (ls : List (List ℕ)) (n : ℕ) (o : Outcome ObjectFile)
+      → DebugSettles false ls h n o → Comes (λ h′. (h′ .blocks ≡ h .blocks) × Lined t sourced rows h′) n o
   lined-old h l ls n (refused m) s = s
   lined-old h l ls n (given h′) s = (s .0, (s .1, record { blocks = s .2 .0 ∙ l .blocks; source = s .2 .1 ∙ l .source }))
 
-  settles-as : (b : Bool) → g .lined ≡ b → (h : ObjectFile) → Lined t sourced rows h → DebugSettles b (lineView t (g .rows) .0) h (g .number) (parseDebugGroup h (partsFrom t at .before))
-  settles-as b e h l = subst (λ (x : Bool). DebugSettles x (lineView t (g .rows) .0) h (g .number) (parseDebugGroup h (partsFrom t at .before))) e (c .settles h (lined-some t sourced rows h l))
+  settles-as : (b : Bool) → g .lined ≡ b → (h : ObjectFile) → Lined t sourced rows h
+      → DebugSettles b (lineView t (g .rows) .0) h (g .number) (parseDebugGroup h (partsFrom t at .before))
+  settles-as b e h l =
+      subst (λ (x : Bool). DebugSettles x (lineView t (g .rows) .0) h (g .number) (parseDebugGroup h (partsFrom t at .before))) e (c .settles h (lined-some t sourced rows h l))
 
-  pub debug-new : g .lined ≡ true → DebugWalked t at sourced rows (record { number = g .number; next = g .next; sourced = true; rows = g .rows })
+  pub debug-new : g .lined ≡ true
+      → DebugWalked t at sourced rows (record { number = g .number; next = g .next; sourced = true; rows = g .rows })
   debug-new e =
-      record { from = c .from; after = c .after; settles = λ h l. lined-new h (g .number) (parseDebugGroup h (partsFrom t at .before)) (settles-as true e h l) }
+      record {
+        from =
+            c .from;
+        after = c .after;
+        settles = λ h l. lined-new h (g .number) (parseDebugGroup h (partsFrom t at .before)) (settles-as true e h l);
+      }
 
-  pub debug-old : g .lined ≡ false → DebugWalked t at sourced rows (record { number = g .number; next = g .next; sourced = sourced; rows = rows })
+  pub debug-old : g .lined ≡ false
+      → DebugWalked t at sourced rows (record { number = g .number; next = g .next; sourced = sourced; rows = rows })
   debug-old e =
-      record { from = c .from; after = c .after; settles = λ h l. lined-old h l (lineView t (g .rows) .0) (g .number) (parseDebugGroup h (partsFrom t at .before)) (settles-as false e h l) }
+      record {
+        from =
+            c .from;
+        after = c .after;
+        settles = λ h l. lined-old h l (lineView t (g .rows) .0) (g .number) (parseDebugGroup h (partsFrom t at .before)) (settles-as false e h l);
+      }
 
 -- ANY GROUP
 comes-map : (P Q : ObjectFile → Type 0) → ((h : ObjectFile) → P h → Q h) → (n : ℕ) (o : Outcome ObjectFile) → Comes P n o → Comes Q n o
@@ -198,7 +223,8 @@ module _ (t : List ℕ) (kind at : ℕ) (sourced : Bool) (rows : ℕ) (seen : Li
       (r .number) (parseDebugGroup h (partsFrom t at .before)) (c .settles h (s .lines))) in
       record { from = c .from; after = c .after; settles = f }
 
-  pub group-lines : (seen′ : List ℕ) (r : Group) → LinesChecked t kind at seen seen′ r → GroupChecked t kind at sourced rows seen seen′ (record { number = r .number; next = r .next; sourced = sourced; rows = rows })
+  pub group-lines : (seen′ : List ℕ) (r : Group) → LinesChecked t kind at seen seen′ r
+      → GroupChecked t kind at sourced rows seen seen′ (record { number = r .number; next = r .next; sourced = sourced; rows = rows })
   group-lines seen′ r c =
       let f : (name : List ℕ) → kind ≡ kindOf name → (h : ObjectFile) → Agrees t seen sourced rows h → Comes (Agrees t seen′ sourced rows) (r .number) (parseGroup h (name, partsFrom t at .before)) = λ name e h s.
       comes-map (Stands seen′ h) (Agrees t seen′ sourced rows)
@@ -215,7 +241,8 @@ module _ (t : List ℕ) (at k n : ℕ) (l : HeadAt t at k n) (h : ObjectFile) wh
   pub groups-refused : (m : ℕ) → parseGroup h (l .name, partsFrom t n .before) ≡ refused m → groupsFrom t at h ≡ refused m
   groups-refused m e = groups-head ∙ ap (λ (o : Outcome ObjectFile). o >>= λ h′. foldOutcome parseGroup h′ (partsFrom t n .groups)) e
 
-  pub groups-on : (h′ : ObjectFile) → parseGroup h (l .name, partsFrom t n .before) ≡ given h′ → (q : ℕ) → partsFrom t q ≡ record { before = []; groups = partsFrom t n .groups } → groupsFrom t q h′ ≡ groupsFrom t at h
+  pub groups-on : (h′ : ObjectFile) → parseGroup h (l .name, partsFrom t n .before) ≡ given h′ → (q : ℕ)
+      → partsFrom t q ≡ record { before = []; groups = partsFrom t n .groups } → groupsFrom t q h′ ≡ groupsFrom t at h
   unfolding groupsFrom isEmpty
   groups-on h′ e q p =
       ap (λ (x : Parts (List ℕ)). ask 22 (isEmpty (x .before)) >>= λ _. foldOutcome parseGroup h′ (x .groups)) p
@@ -239,10 +266,12 @@ pub record Walking (t : List ℕ) (first : ℕ) (seen₀ : List ℕ) (at : ℕ) 
 
 pub walking-begin : (t : List ℕ) (first : ℕ) (seen : List ℕ) → Seen emptyObject seen → Walking t first seen first seen false 0
 unfolding lineBlocksOf sourceOf emptyObject
-walking-begin t first seen s = record { size = refl; object = emptyObject; same = refl; agrees = record { marks = s; lines = record { blocks = refl; source = refl } } }
+walking-begin t first seen s =
+    record { size = refl; object = emptyObject; same = refl; agrees = record { marks = s; lines = record { blocks = refl; source = refl } } }
 
 module _ (t : List ℕ) (first : ℕ) (seen₀ : List ℕ) (at : ℕ) (seen : List ℕ) (sourced : Bool) (rows : ℕ) (w : Walking t first seen₀ at seen sourced rows) where
-  settled : (P : ObjectFile → Type 0) (n : ℕ) (o : Outcome ObjectFile) → groupsFrom t at (w .object) ≡ o → Comes P n o → Comes P n (groupsFrom t first emptyObject)
+  settled : (P : ObjectFile → Type 0) (n : ℕ) (o : Outcome ObjectFile) → groupsFrom t at (w .object) ≡ o → Comes P n o
+      → Comes P n (groupsFrom t first emptyObject)
   settled P n o e s = subst (Comes P n) (sym e ∙ w .same) s
 
   module _ (k n : ℕ) (l : HeadAt t at k n) (seen′ : List ℕ) (r : Walked) (g : GroupChecked t k n sourced rows seen seen′ r) where
@@ -255,9 +284,11 @@ module _ (t : List ℕ) (first : ℕ) (seen₀ : List ℕ) (at : ℕ) (seen : Li
     pub walking-on : length seen′ ≡ length seen → r .number ≡ 0 → Walking t first seen₀ (r .next) seen′ (r .sourced) (r .rows)
     walking-on q z = go parsed refl comes
       where
-        go : (o : Outcome ObjectFile) → parsed ≡ o → Comes (Agrees t seen′ (r .sourced) (r .rows)) (r .number) o → Walking t first seen₀ (r .next) seen′ (r .sourced) (r .rows)
+        go : (o : Outcome ObjectFile) → parsed ≡ o → Comes (Agrees t seen′ (r .sourced) (r .rows)) (r .number) o
+            → Walking t first seen₀ (r .next) seen′ (r .sourced) (r .rows)
         go (refused m) e s = absurd (omega (arith, s .0, s .1, z))
-        go (given h′) e s = record { size = q ∙ w .size; object = h′; same = groups-on t at k n l (w .object) h′ e (r .next) (g .after z) ∙ w .same; agrees = s .1 }
+        go (given h′) e s =
+            record { size = q ∙ w .size; object = h′; same = groups-on t at k n l (w .object) h′ e (r .next) (g .after z) ∙ w .same; agrees = s .1 }
 
     pub walking-refused : (r .number ≡ 0 → ⊥) → GroupsWalked t first r
     walking-refused ne = go parsed refl comes
@@ -266,8 +297,10 @@ module _ (t : List ℕ) (first : ℕ) (seen₀ : List ℕ) (at : ℕ) (seen : Li
         go (refused m) e s = settled (Lined t (r .sourced) (r .rows)) (r .number) (refused m) (groups-refused t at k n l (w .object) m e) s
         go (given h′) e s = absurd (ne (s .0))
 
-  pub walking-loose : isEmpty (partsFrom t at .before) ≡ false → GroupsWalked t first (record { number = 22; next = at; sourced = false; rows = 0 })
+  pub walking-loose : isEmpty (partsFrom t at .before) ≡ false
+      → GroupsWalked t first (record { number = 22; next = at; sourced = false; rows = 0 })
   walking-loose e = settled (Lined t false 0) 22 (refused 22) (groups-loose t at (w .object) e) (refl, omega arith)
 
-  pub walking-done : partsFrom t at ≡ record { before = []; groups = [] } → GroupsWalked t first (record { number = 0; next = at; sourced = sourced; rows = rows })
+  pub walking-done : partsFrom t at ≡ record { before = []; groups = [] }
+      → GroupsWalked t first (record { number = 0; next = at; sourced = sourced; rows = rows })
   walking-done e = settled (Lined t sourced rows) 0 (given (w .object)) (groups-done t at (w .object) e) (refl, w .agrees .lines)

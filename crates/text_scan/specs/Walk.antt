@@ -1,6 +1,6 @@
 -- The walk over the groups of a text file: what it knows of the object so far. Assumes nothing.
 use mathlib.Core.Path.{_≡_}
-use mathlib.Core.Bool.{Bool, true, false}
+use mathlib.Core.Bool.{Bool}
 use mathlib.Core.List.{List, []}
 use mathlib.Core.Option.{Option, none, some}
 use Prim.Native.Nat.{ℕ, _≤_, _<_}
@@ -65,7 +65,8 @@ pub record DebugWalked (t : List ℕ) (at : ℕ) (sourced : Bool) (rows : ℕ) (
   pub from : at ≤ r .next
   pub after : r .number ≡ 0 → partsFrom t (r .next) ≡ record { before = []; groups = partsFrom t at .groups }
   pub settles : (h : ObjectFile) → Lined t sourced rows h
-      → Comes (λ h′. (h′ .blocks ≡ h .blocks) × Lined t (r .sourced) (r .rows) h′) (r .number) (parseDebugGroup h (partsFrom t at .before))
+      → Comes (λ h′. (h′ .blocks ≡ h .blocks) × Lined t (r .sourced) (r .rows) h′) (r .number)
+      (parseDebugGroup h (partsFrom t at .before))
 
 -- "Every later kept line in a group? 22", "Then per group": from a place on, with an object so far
 unfoldable pub groupsFrom : List ℕ → ℕ → ObjectFile → Outcome ObjectFile

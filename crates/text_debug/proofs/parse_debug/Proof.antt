@@ -1,6 +1,6 @@
 -- Question by question. Assumes nothing.
 use borrow.Author.Needs.{needs}
-use mathlib.Core.Path.{_≡_, sym, _∙_, subst}
+use mathlib.Core.Path.{sym, _∙_, subst}
 use denote.Ref.{now}
 use Rattle.text_lines.specs.Groups.{NextRow, RowAt}
 use Rattle.text_lines.specs.declared.Passed.the-variants as pa

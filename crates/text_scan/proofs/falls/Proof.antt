@@ -1,5 +1,4 @@
 -- Both ways of the test. Assumes nothing.
-use borrow.Author.Needs.{needs}
 use mathlib.Core.Path.{sym}
 use Rattle.text_scan.proofs.falls.Statement.{statement}
 use Rattle.text_scan.proofs.falls.Tie as tie

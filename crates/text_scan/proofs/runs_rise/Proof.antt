@@ -7,10 +7,9 @@ use mathlib.Core.List.{map}
 use Prim.Native.Nat.{_-_}
 use denote.Ref.{now}
 use lib.ListN.{length}
-use Rattle.trim.specs.Span.{part}
 use Rattle.text_lines.specs.Views.{StepAt}
 use Rattle.text_tables.specs.Debug.{NextIn, lineView}
-use Rattle.text_tables.specs.LineRows.{lineIn, lineOf}
+use Rattle.text_tables.specs.LineRows.{lineOf}
 use Rattle.text_debug.specs.DebugGroup.{addressIn}
 use Rattle.text_scan.specs.Walk.{runsRise}
 use Rattle.text_scan.proofs.RunLaws.{risesFrom, rises-begin, rises-known, unknown-end, unknown-no, bad-end, bad-no, rises-done}
