@@ -144,7 +144,9 @@ addresses-of i (l ∷ ls) ps e =
 module _ (h : ObjectFile) where
   -- what is given of parsed rows
   abbrev Set : List (List ℕ) → ObjectFile → Type 0
-  Set ls h′ = (isEmpty ls ≡ true → h′ ≡ h) × (isEmpty ls ≡ false → h′ ≡ withLines h (lineBlocksIn ls) (some (sourceIn ls)))
+  Set ls h′ =
+      (isEmpty ls ≡ true → h′ ≡ h)
+      × (isEmpty ls ≡ false → (h′ ≡ withLines h (lineBlocksIn ls) (some (sourceIn ls))) × (unescape (flatMap sourceCell ls) ≡ given (sourceIn ls)))
 
   abbrev Numbers : List (List ℕ) → Outcome ObjectFile → Type 0
   Numbers ls (refused n) = 0 < n
@@ -155,7 +157,8 @@ module _ (h : ObjectFile) where
   unfolding sourceIn
   unescaped ls (refused n) e q f = q
   unescaped ls (given s) e q f =
-      ((λ t. absurd (true≢false (sym t ∙ e))), λ t. ap (λ (o : Outcome (List ℕ)). withLines h (lineBlocksIn ls) (some (givenOr o []))) (sym f))
+      let r : s ≡ sourceIn ls = ap (λ (o : Outcome (List ℕ)). givenOr o []) (sym f) in
+      ((λ t. absurd (true≢false (sym t ∙ e))), λ t. (ap (λ (x : List ℕ). withLines h (lineBlocksIn ls) (some x)) r, f ∙ ap given r))
 
   -- what is asked of the rows, by whether there are any, their source and their addresses
   abbrev restOf : Bool → List ℕ → List (Option ℕ) → Outcome ObjectFile
@@ -282,8 +285,15 @@ module _ (h : ObjectFile) (ls : List (List ℕ)) (l : List ℕ) (ks : List (List
           pub debug-lined : isEmpty (drop 1 rows) ≡ false → xs ≡ drop 1 rows → DebugSettles true xs h 0 (parseDebugGroup h ls)
           debug-lined n x =
               answer true λ h′ h″ s w.
-              let v = w .1 n in
-              (refl, ap (λ (x : ObjectFile). x .blocks) v ∙ s .0, (ap (λ (x : ObjectFile). x .lineBlocks) v ∙ ap lineBlocksIn (sym x), ap (λ (x : ObjectFile). x .source) v ∙ ap (λ (y : List (List ℕ)). some (sourceIn y)) (sym x)))
+              let v = w .1 n .0 in (
+                refl,
+                ap (λ (y : ObjectFile). y .blocks) v ∙ s .0,
+                (
+                  ap (λ (y : ObjectFile). y .lineBlocks) v ∙ ap lineBlocksIn (sym x),
+                  ap (λ (y : ObjectFile). y .source) v ∙ ap (λ (y : List (List ℕ)). some (sourceIn y)) (sym x),
+                  ap (λ (y : List (List ℕ)). unescape (flatMap sourceCell y)) x ∙ w .1 n .1 ∙ ap (λ (y : List (List ℕ)). given (sourceIn y)) (sym x),
+                ),
+              )
 
 -- AT A PLACE
 -- a refusal

@@ -40,9 +40,10 @@ lineBlocksIn ls = runsFrom 0 [] (map addressIn ls)
 unfoldable pub sourceIn : List (List ℕ) → List ℕ
 sourceIn ls = givenOr (unescape (flatMap sourceCell ls)) []
 
--- from one object to the next: the line blocks and the source are those of a line table's rows, or stand as before
+-- from one object to the next: the line blocks and the source are those of a line table's rows, which unescape, or stand as before
 abbrev pub LinesSet : Bool → List (List ℕ) → ObjectFile → ObjectFile → Type 0
-LinesSet true ls h h′ = (h′ .lineBlocks ≡ lineBlocksIn ls) × (h′ .source ≡ some (sourceIn ls))
+LinesSet true ls h h′ =
+    (h′ .lineBlocks ≡ lineBlocksIn ls) × (h′ .source ≡ some (sourceIn ls)) × (unescape (flatMap sourceCell ls) ≡ given (sourceIn ls))
 LinesSet false ls h h′ = (h′ .lineBlocks ≡ h .lineBlocks) × (h′ .source ≡ h .source)
 
 -- the answer for a group that has no rows of lines

@@ -24,6 +24,7 @@ use Rattle.text_blocks.specs.Blocks.{Seen}
 use Rattle.text_scan.specs.declared.Walked.{Walked}
 use Rattle.text_scan.specs.declared.Scanned.{Scanned}
 use Rattle.text_scan.specs.Walk.{blocksRise, lineBlocksOf, Lined, Comes, groupsFrom, GroupsWalked}
+use Rattle.text_scan.proofs.WalkLaws.{groups-read}
 use Rattle.text_scan.specs.Scan.{trimmedObject, refusedScan, Read, Scans}
 
 -- NO BLOCK IS MARKED
@@ -127,7 +128,16 @@ module _ (t : List ℕ) (start a e n : ℕ) (l : LineAt kept t start a e n) wher
         scan-read q =
             let r : Scanned = record { number = 0; first = n; end = length t; sourced = w .sourced; rows = w .rows } in
             subst (λ (o : Outcome ObjectFile). Scans t o r) (sym (concludes true q))
-            (record { yes = refl; end = refl; inside = l .next; object = groups-given .0; groups = groups-given .1; lines = groups-given .2; whole = refl })
+            (record {
+              yes = refl;
+              end = refl;
+              inside = l .next;
+              object = groups-given .0;
+              before = groups-read t n emptyObject (groups-given .0) (groups-given .1) .0;
+              groups = groups-read t n emptyObject (groups-given .0) (groups-given .1) .1;
+              lines = groups-given .2;
+              whole = refl;
+            })
 
 -- a refusal
 pub scans-no : (t : List ℕ) (o : Outcome ObjectFile) (n : ℕ) (r : Scanned) → o ≡ refused n → r ≡ refusedScan n → Scans t o r

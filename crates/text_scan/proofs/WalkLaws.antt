@@ -1,6 +1,6 @@
 -- A walk over the groups of a file: what a group does to the object so far, and the same answer from the place after it. Assumes nothing.
 use mathlib.Core.Path.{_≡_, refl, sym, ap, _∙_, subst}
-use mathlib.Core.Bool.{Bool, true, false, not}
+use mathlib.Core.Bool.{Bool, true, false, true≢false, not}
 use mathlib.Core.List.{List, [], _∷_}
 use mathlib.Core.Option.{Option, none, some}
 use Prim.Native.Nat.{ℕ, zero, suc, _≤_, _^_}
@@ -176,12 +176,12 @@ module _ (t : List ℕ) (at : ℕ) (sourced : Bool) (rows : ℕ) (g : DebugGroup
       → Comes (λ h′. (h′ .blocks ≡ h .blocks) × Lined t true (g .rows) h′) n o
   unfolding lineBlocksOf sourceOf
   lined-new h n (refused m) s = s
-  lined-new h n (given h′) s = (s .0, (s .1, record { blocks = s .2 .0; source = s .2 .1 }))
+  lined-new h n (given h′) s = (s .0, (s .1, record { blocks = s .2 .0; source = s .2 .1; reads = λ z. s .2 .2 }))
 
   lined-old : (h : ObjectFile) → Lined t sourced rows h → (ls : List (List ℕ)) (n : ℕ) (o : Outcome ObjectFile)
       → DebugSettles false ls h n o → Comes (λ h′. (h′ .blocks ≡ h .blocks) × Lined t sourced rows h′) n o
   lined-old h l ls n (refused m) s = s
-  lined-old h l ls n (given h′) s = (s .0, (s .1, record { blocks = s .2 .0 ∙ l .blocks; source = s .2 .1 ∙ l .source }))
+  lined-old h l ls n (given h′) s = (s .0, (s .1, record { blocks = s .2 .0 ∙ l .blocks; source = s .2 .1 ∙ l .source; reads = l .reads }))
 
   settles-as : (b : Bool) → g .lined ≡ b → (h : ObjectFile) → Lined t sourced rows h
       → DebugSettles b (lineView t (g .rows) .0) h (g .number) (parseDebugGroup h (partsFrom t at .before))
@@ -228,7 +228,7 @@ module _ (t : List ℕ) (kind at : ℕ) (sourced : Bool) (rows : ℕ) (seen : Li
   group-lines seen′ r c =
       let f : (name : List ℕ) → kind ≡ kindOf name → (h : ObjectFile) → Agrees t seen sourced rows h → Comes (Agrees t seen′ sourced rows) (r .number) (parseGroup h (name, partsFrom t at .before)) = λ name e h s.
       comes-map (Stands seen′ h) (Agrees t seen′ sourced rows)
-      (λ h′ p. record { marks = p .0; lines = record { blocks = p .1 ∙ s .lines .blocks; source = p .2 ∙ s .lines .source } })
+      (λ h′ p. record { marks = p .0; lines = record { blocks = p .1 ∙ s .lines .blocks; source = p .2 ∙ s .lines .source; reads = s .lines .reads } })
       (r .number) (parseGroup h (name, partsFrom t at .before)) (c .settles name e h (s .marks)) in
       record { from = c .from; after = c .after; settles = f }
 
@@ -257,6 +257,17 @@ module _ (t : List ℕ) (at : ℕ) (h : ObjectFile) where
   unfolding groupsFrom foldOutcome isEmpty
   groups-done e = ap (λ (x : Parts (List ℕ)). ask 22 (isEmpty (x .before)) >>= λ _. foldOutcome parseGroup h (x .groups)) e
 
+-- groups that read: no line stands before them
+pub groups-read : (t : List ℕ) (at : ℕ) (h g : ObjectFile) → groupsFrom t at h ≡ given g
+    → (isEmpty (partsFrom t at .before) ≡ true) × (foldOutcome parseGroup h (partsFrom t at .groups) ≡ given g)
+unfolding groupsFrom
+groups-read t at h g e = go (isEmpty (partsFrom t at .before)) e
+  where
+    go : (b : Bool) → (ask 22 b >>= λ _. foldOutcome parseGroup h (partsFrom t at .groups)) ≡ given g
+        → (b ≡ true) × (foldOutcome parseGroup h (partsFrom t at .groups) ≡ given g)
+    go true q = (refl, q)
+    go false q = let z : _≡_ {A = ℕ} 0 1 = cc in absurd (omega arith)
+
 -- what the walk knows: the object that the definition's fold has by now
 pub record Walking (t : List ℕ) (first : ℕ) (seen₀ : List ℕ) (at : ℕ) (seen : List ℕ) (sourced : Bool) (rows : ℕ) : Type 0 where
   pub size : length seen ≡ length seen₀
@@ -267,7 +278,7 @@ pub record Walking (t : List ℕ) (first : ℕ) (seen₀ : List ℕ) (at : ℕ) 
 pub walking-begin : (t : List ℕ) (first : ℕ) (seen : List ℕ) → Seen emptyObject seen → Walking t first seen first seen false 0
 unfolding lineBlocksOf sourceOf emptyObject
 walking-begin t first seen s =
-    record { size = refl; object = emptyObject; same = refl; agrees = record { marks = s; lines = record { blocks = refl; source = refl } } }
+    record { size = refl; object = emptyObject; same = refl; agrees = record { marks = s; lines = record { blocks = refl; source = refl; reads = λ z. absurd (true≢false (sym z)) } } }
 
 module _ (t : List ℕ) (first : ℕ) (seen₀ : List ℕ) (at : ℕ) (seen : List ℕ) (sourced : Bool) (rows : ℕ) (w : Walking t first seen₀ at seen sourced rows) where
   settled : (P : ObjectFile → Type 0) (n : ℕ) (o : Outcome ObjectFile) → groupsFrom t at (w .object) ≡ o → Comes P n o

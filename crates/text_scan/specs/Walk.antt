@@ -1,17 +1,18 @@
 -- The walk over the groups of a text file: what it knows of the object so far. Assumes nothing.
 use mathlib.Core.Path.{_≡_}
-use mathlib.Core.Bool.{Bool}
-use mathlib.Core.List.{List, []}
+use mathlib.Core.Bool.{Bool, true}
+use mathlib.Core.List.{List, [], flatMap}
 use mathlib.Core.Option.{Option, none, some}
 use Prim.Native.Nat.{ℕ, _≤_, _<_}
 use Rattle.format.specs.Basics.{Outcome, refused, given, _>>=_, ask, every, isEmpty, if_then_else_}
 use Rattle.format.specs.Tokens.{foldOutcome}
 use Rattle.format.specs.ObjectFile.{LineBlock, ObjectFile, neverFall}
 use Rattle.format.specs.Records.{emptyObject}
-use Rattle.format.specs.TextReader.{parseGroup, parseDebugGroup}
+use Rattle.format.specs.TextReader.{unescape, parseGroup, parseDebugGroup}
 use Rattle.text_lines.specs.declared.Group.{Group}
 use Rattle.text_lines.specs.Groups.{partsFrom, kindOf}
 use Rattle.text_tables.specs.Debug.{lineView}
+use Rattle.text_source.specs.Stream.{sourceCell}
 use Rattle.text_blocks.specs.Blocks.{Seen}
 use Rattle.text_debug.specs.DebugGroup.{lineBlocksIn, sourceIn}
 use Rattle.text_scan.specs.declared.Walked.{Walked}
@@ -30,10 +31,12 @@ lineBlocksOf sourced ls = if sourced then lineBlocksIn ls else []
 unfoldable pub sourceOf : Bool → List (List ℕ) → Option (List ℕ)
 sourceOf sourced ls = if sourced then some (sourceIn ls) else none
 
--- THE OBJECT SO FAR agrees with what the walk keeps of it: a source is there or not, and the rows that it comes from start at a place
+-- THE OBJECT SO FAR agrees with what the walk keeps of it: a source is there or not, and the rows that it comes from, which unescape, start
+-- at a place
 pub record Lined (t : List ℕ) (sourced : Bool) (rows : ℕ) (h : ObjectFile) : Type 0 where
   pub blocks : h .lineBlocks ≡ lineBlocksOf sourced (lineView t rows .0)
   pub source : h .source ≡ sourceOf sourced (lineView t rows .0)
+  pub reads : sourced ≡ true → unescape (flatMap sourceCell (lineView t rows .0)) ≡ given (sourceIn (lineView t rows .0))
 
 -- and the addresses of its blocks are marked
 pub record Agrees (t : List ℕ) (seen : List ℕ) (sourced : Bool) (rows : ℕ) (h : ObjectFile) : Type 0 where
