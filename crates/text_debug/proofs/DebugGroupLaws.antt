@@ -12,7 +12,8 @@ use Rattle.format.specs.Tokens.{foldOutcome}
 use Rattle.format.specs.Utf8.{trim}
 use Rattle.format.specs.ObjectFile.{ObjectFile}
 use Rattle.format.specs.Records.{withLines, emptyObject, putRecord}
-use Rattle.format.specs.TextReader.{splitn, cellAt, sameCells, rowsUnder, parseDecimal, maybeHex2u16, parseLabelRow, parseLabelTable, parseLineRows, runsFrom, unescape, parseLineTable, splitAtBar, upToBar, parseDebugGroup}
+use Rattle.format.specs.TextReader.{splitn, cellAt, sameCells, rowsUnder, parseDecimal, maybeHex2u16, parseLabelRow, parseLabelTable}
+use Rattle.format.specs.TextReader.{parseLineRows, runsFrom, unescape, parseLineTable, splitAtBar, upToBar, parseDebugGroup}
 use Rattle.format.specs.Calls.{refusalOf}
 use Rattle.text_lines.proofs.TestLaws.{by-test}
 use Rattle.trim.specs.Span.{part}
@@ -27,7 +28,8 @@ use Rattle.text_tables.proofs.ReadLaws.{foldl, through-parse, table-any}
 use Rattle.text_tables.proofs.LabelLaws.{label-row}
 use Rattle.text_source.specs.Stream.{sourceCell}
 use Rattle.text_debug.specs.LineTable.{lineColumns, LineTableIs}
-use Rattle.text_debug.specs.DebugGroup.{LastBar, FirstRow, addressIn, lineBlocksIn, sourceIn, withoutRows, DebugSettles, DebugChecked}
+use Rattle.text_debug.specs.DebugGroup.{LastBar, FirstRow, addressIn, lineBlocksIn}
+use Rattle.text_debug.specs.DebugGroup.{sourceIn, LinesSet, withoutRows, DebugSettles, DebugChecked}
 use Rattle.text_lines.specs.declared.Passed.the-variants as pa
 use Rattle.text_debug.proofs.RefusalLaws.{Numbered, numbered-ask, refused-by, numbered-unescape}
 use Rattle.text_debug.proofs.LineTableLaws.{Parsed, row, end, rows-28, source-of, rest, opened}
@@ -75,7 +77,8 @@ abbrev pub Keeps : ObjectFile → ℕ → Outcome ObjectFile → Type 0
 Keeps h number (refused n) = (number ≡ n) × (0 < n)
 Keeps h number (given h′) = (number ≡ 0) × Kept h h′
 
-module _ {R : Type 0} (one : ObjectFile → List ℕ → Outcome ObjectFile) (parse : List ℕ → Option R) (set : ObjectFile → R → ObjectFile) (k : ℕ)
+module _ {R : Type 0} (one : ObjectFile → List ℕ → Outcome ObjectFile) (parse : List ℕ → Option R) (set : ObjectFile → R → ObjectFile)
+    (k : ℕ)
     (splits : (s : ObjectFile) (a : List ℕ) → one s a ≡ (need k (parse a) >>= λ r. given (set s r))) (few : 0 < k)
     (keeps : (h : ObjectFile) (r : R) → Kept h (set h r)) (columns : List (List ℕ)) where
   kept-all : (h : ObjectFile) (rs : List R) → Kept h (foldl set h rs)
@@ -95,7 +98,8 @@ module _ {R : Type 0} (one : ObjectFile → List ℕ → Outcome ObjectFile) (pa
       → Keeps h (refusalOf (t >>= λ rows. foldOutcome one h rows)) (t >>= λ rows. foldOutcome one h rows)
   kept-under h (refused n) q = (refl, q)
   kept-under h (given rows) q =
-      subst (λ (o : Outcome ObjectFile). Keeps h (refusalOf o) o) (sym (through-parse one parse set k splits h rows)) (kept-rows h (allSome parse rows))
+      subst (λ (o : Outcome ObjectFile). Keeps h (refusalOf o) o) (sym (through-parse one parse set k splits h rows))
+      (kept-rows h (allSome parse rows))
 
   numbered-rows : (ls : List (List ℕ)) → Numbered (rowsUnder k columns ls)
   unfolding rowsUnder
@@ -108,7 +112,8 @@ module _ {R : Type 0} (one : ObjectFile → List ℕ → Outcome ObjectFile) (pa
       → number ≡ refusalOf (rowsUnder k columns ls >>= λ rows. foldOutcome one emptyObject rows)
       → Keeps h number (rowsUnder k columns ls >>= λ rows. foldOutcome one h rows)
   table-keeps h ls number e =
-      subst (λ (n : ℕ). Keeps h n (rowsUnder k columns ls >>= λ rows. foldOutcome one h rows)) (sym (e ∙ table-any one parse set k splits columns emptyObject h ls)) (kept-under h (rowsUnder k columns ls) (numbered-rows ls))
+      subst (λ (n : ℕ). Keeps h n (rowsUnder k columns ls >>= λ rows. foldOutcome one h rows))
+      (sym (e ∙ table-any one parse set k splits columns emptyObject h ls)) (kept-under h (rowsUnder k columns ls) (numbered-rows ls))
 
 pub label-keeps : (h : ObjectFile) (ls : List (List ℕ)) (number : ℕ) → number ≡ refusalOf (parseLabelTable emptyObject ls)
     → Keeps h number (parseLabelTable h ls)
@@ -125,7 +130,8 @@ end-address n cell (some a) (given rows) ps e = let r : (a, cell) ∷ rows ≡ p
 
 row-address : (i : ℕ) (cell : List ℕ) (p : Option ℕ) (x : Option (Option ℕ)) (q : Outcome (List Parsed)) (ps : List Parsed)
     → row i cell p x q ≡ given ps
-    → (rows : List Parsed) × (q ≡ given rows) × (ps ≡ ((andThen (andThen {B = ℕ × Option ℕ} p λ n. andThen {B = ℕ × Option ℕ} x λ a. some (n, a)) λ r. r .1), cell) ∷ rows)
+    → (rows : List Parsed) × (q ≡ given rows)
+    × (ps ≡ ((andThen (andThen {B = ℕ × Option ℕ} p λ n. andThen {B = ℕ × Option ℕ} x λ a. some (n, a)) λ r. r .1), cell) ∷ rows)
 row-address i cell none x q ps e = let z : _≡_ {A = ℕ} 0 1 = cc in absurd (omega arith)
 row-address i cell (some n) x q ps e =
     by-test (eqb n i)
@@ -138,7 +144,9 @@ pub addresses-of : (i : ℕ) (ls : List (List ℕ)) (ps : List Parsed) → parse
 unfolding parseLineRows addressIn lineIn
 addresses-of i [] ps e = let r : [] ≡ ps = cc in ap (map (λ (r : Parsed). r .0)) (sym r)
 addresses-of i (l ∷ ls) ps e =
-    let s = row-address i (cellAt 2 (splitn 2 l)) (parseDecimal (18446744073709551616) (trim (cellAt 0 (splitn 2 l)))) (maybeHex2u16 (trim (cellAt 1 (splitn 2 l)))) (parseLineRows (suc i) ls) ps e in
+    let n = parseDecimal (18446744073709551616) (trim (cellAt 0 (splitn 2 l))) in
+    let a = maybeHex2u16 (trim (cellAt 1 (splitn 2 l))) in
+    let s = row-address i (cellAt 2 (splitn 2 l)) n a (parseLineRows (suc i) ls) ps e in
     ap (map (λ (r : Parsed). r .0)) (s .2) ∙ ap (λ (r : List (Option ℕ)). addressIn l ∷ r) (addresses-of (suc i) ls (s .0) (s .1))
 
 module _ (h : ObjectFile) where
@@ -146,7 +154,8 @@ module _ (h : ObjectFile) where
   abbrev Set : List (List ℕ) → ObjectFile → Type 0
   Set ls h′ =
       (isEmpty ls ≡ true → h′ ≡ h)
-      × (isEmpty ls ≡ false → (h′ ≡ withLines h (lineBlocksIn ls) (some (sourceIn ls))) × (unescape (flatMap sourceCell ls) ≡ given (sourceIn ls)))
+      × (isEmpty ls ≡ false
+      → (h′ ≡ withLines h (lineBlocksIn ls) (some (sourceIn ls))) × (unescape (flatMap sourceCell ls) ≡ given (sourceIn ls)))
 
   abbrev Numbers : List (List ℕ) → Outcome ObjectFile → Type 0
   Numbers ls (refused n) = 0 < n
@@ -208,6 +217,9 @@ abbrev afterBars : ObjectFile → List (List ℕ) → Option (List (List ℕ)) �
 afterBars h before o = need 27 o >>= λ after. need 27 (upToBar after) >>= λ rows. parseLabelTable h before >>= λ h′. parseLineTable h′ rows
 
 module _ (h : ObjectFile) (ls : List (List ℕ)) (l : List ℕ) (ks : List (List ℕ)) (e : ls ≡ l ∷ ks) where
+  abbrev labelled : Outcome ObjectFile
+  labelled = parseLabelTable h (splitAtBar ls .before)
+
   debug-bars : (o : Option (List (List ℕ))) → splitAtBar ls .after ≡ o → parseDebugGroup h ls ≡ afterBars h (splitAtBar ls .before) o
   unfolding parseDebugGroup
   debug-bars o q =
@@ -218,7 +230,7 @@ module _ (h : ObjectFile) (ls : List (List ℕ)) (l : List ℕ) (ks : List (List
       → parseDebugGroup h ls ≡ (need 27 o >>= λ rows. parseLabelTable h (splitAtBar ls .before) >>= λ h′. parseLineTable h′ rows)
   debug-up a q o u =
       debug-bars (some a) q
-      ∙ ap (λ (x : Option (List (List ℕ))). need 27 x >>= λ rows. parseLabelTable h (splitAtBar ls .before) >>= λ h′. parseLineTable h′ rows) u
+      ∙ ap (λ (x : Option (List (List ℕ))). need 27 x >>= λ rows. labelled >>= λ h′. parseLineTable h′ rows) u
 
   module _ (xs : List (List ℕ)) where
     settled : (lined : Bool) (n : ℕ) (o : Outcome ObjectFile) → parseDebugGroup h ls ≡ o → DebugSettles lined xs h n o
@@ -241,31 +253,33 @@ module _ (h : ObjectFile) (ls : List (List ℕ)) (l : List ℕ) (ks : List (List
       pub debug-labels : (n : ℕ) → n ≡ refusalOf (parseLabelTable emptyObject (splitAtBar ls .before)) → (n ≡ 0 → ⊥)
           → DebugSettles false xs h n (parseDebugGroup h ls)
       debug-labels n k ne =
-          settled false n _ (debug-up a q (some rows) u) (go (parseLabelTable h (splitAtBar ls .before)) (label-keeps h (splitAtBar ls .before) n k))
+          settled false n _ (debug-up a q (some rows) u) (go labelled (label-keeps h (splitAtBar ls .before) n k))
         where
           go : (o : Outcome ObjectFile) → Keeps h n o → DebugSettles false xs h n (lines o)
           go (refused m) s = s
           go (given h′) s = absurd (ne (s .0))
 
-      module _ (k : 0 ≡ refusalOf (parseLabelTable emptyObject (splitAtBar ls .before))) (b : Bool) (m : ℕ) (is : LineTableIs rows b m) (g : isSome (h .source) ≡ b) where
+      module _ (k : 0 ≡ refusalOf (parseLabelTable emptyObject (splitAtBar ls .before))) (b : Bool) (m : ℕ) (is : LineTableIs rows b m)
+          (g : isSome (h .source) ≡ b) where
         number-of : (h′ : ObjectFile) → Kept h h′ → m ≡ refusalOf (parseLineTable h′ rows)
         number-of h′ s = is h′ (ap isSome (s .2) ∙ g)
 
         -- 28, 29, 30
         pub debug-lines : (m ≡ 0 → ⊥) → DebugSettles false xs h m (parseDebugGroup h ls)
         debug-lines ne =
-            settled false m _ (debug-up a q (some rows) u) (go (parseLabelTable h (splitAtBar ls .before)) (label-keeps h (splitAtBar ls .before) 0 k))
+            settled false m _ (debug-up a q (some rows) u) (go labelled (label-keeps h (splitAtBar ls .before) 0 k))
           where
             go : (o : Outcome ObjectFile) → Keeps h 0 o → DebugSettles false xs h m (lines o)
             go (refused n) s = absurd (omega (arith, s .0, s .1))
             go (given h′) s =
-                subst (DebugSettles false xs h m) (sym (refused-by (parseLineTable h′ rows) m (sym (number-of h′ (s .1))) ne)) (refl, omega (arith, ne))
+                subst (DebugSettles false xs h m) (sym (refused-by (parseLineTable h′ rows) m (sym (number-of h′ (s .1))) ne))
+                (refl, omega (arith, ne))
 
         module _ (z : m ≡ 0) where
           answer : (lined : Bool) → ((h′ h″ : ObjectFile) → Kept h h′ → Set h′ (drop 1 rows) h″ → DebugSettles lined xs h 0 (given h″))
               → DebugSettles lined xs h 0 (parseDebugGroup h ls)
           answer lined f =
-              settled lined 0 _ (debug-up a q (some rows) u) (go (parseLabelTable h (splitAtBar ls .before)) (label-keeps h (splitAtBar ls .before) 0 k))
+              settled lined 0 _ (debug-up a q (some rows) u) (go labelled (label-keeps h (splitAtBar ls .before) 0 k))
             where
               last : (h′ : ObjectFile) → Kept h h′ → (o : Outcome ObjectFile) → parseLineTable h′ rows ≡ o → Numbers h′ (drop 1 rows) o
                   → DebugSettles lined xs h 0 o
@@ -280,7 +294,9 @@ module _ (h : ObjectFile) (ls : List (List ℕ)) (l : List ℕ) (ks : List (List
           debug-unlined n =
               answer false λ h′ h″ s w.
               let v = w .0 n in
-              (refl, ap (λ (x : ObjectFile). x .blocks) v ∙ s .0, (ap (λ (x : ObjectFile). x .lineBlocks) v ∙ s .1, ap (λ (x : ObjectFile). x .source) v ∙ s .2))
+              let lines : LinesSet false xs h h″ =
+              (ap (λ (x : ObjectFile). x .lineBlocks) v ∙ s .1, ap (λ (x : ObjectFile). x .source) v ∙ s .2) in
+              (refl, ap (λ (x : ObjectFile). x .blocks) v ∙ s .0, lines)
 
           pub debug-lined : isEmpty (drop 1 rows) ≡ false → xs ≡ drop 1 rows → DebugSettles true xs h 0 (parseDebugGroup h ls)
           debug-lined n x =
@@ -291,7 +307,8 @@ module _ (h : ObjectFile) (ls : List (List ℕ)) (l : List ℕ) (ks : List (List
                 (
                   ap (λ (y : ObjectFile). y .lineBlocks) v ∙ ap lineBlocksIn (sym x),
                   ap (λ (y : ObjectFile). y .source) v ∙ ap (λ (y : List (List ℕ)). some (sourceIn y)) (sym x),
-                  ap (λ (y : List (List ℕ)). unescape (flatMap sourceCell y)) x ∙ w .1 n .1 ∙ ap (λ (y : List (List ℕ)). given (sourceIn y)) (sym x),
+                  ap (λ (y : List (List ℕ)). unescape (flatMap sourceCell y)) x ∙ w .1 n .1
+                      ∙ ap (λ (y : List (List ℕ)). given (sourceIn y)) (sym x),
                 ),
               )
 

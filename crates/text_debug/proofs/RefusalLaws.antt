@@ -77,7 +77,8 @@ unfolding unicodeEscape
 numbered-unicode bs =
     numbered-ask 30 (beginsWith (ascii "{") bs) _ (omega arith)
     (numbered-ask 30 (isBetween 1 6 (hexDigits (drop 1 bs)) && beginsWith (ascii "}") (drop (1 + hexDigits (drop 1 bs)) bs)) _ (omega arith)
-    (numbered-bind (scalarOf (digitsFrom 16 0 (take (hexDigits (drop 1 bs)) (drop 1 bs)))) _ (numbered-scalar (digitsFrom 16 0 (take (hexDigits (drop 1 bs)) (drop 1 bs)))) λ c. tt))
+    (numbered-bind (scalarOf (digitsFrom 16 0 (take (hexDigits (drop 1 bs)) (drop 1 bs)))) _
+    (numbered-scalar (digitsFrom 16 0 (take (hexDigits (drop 1 bs)) (drop 1 bs)))) λ c. tt))
 
 numbered-backslash : (bs : List ℕ) → Numbered (afterBackslash bs)
 unfolding afterBackslash

@@ -33,10 +33,11 @@ FirstRow t from pa.Bad = isEmpty (drop 1 (lineView t from .0)) ≡ true
 unfoldable pub addressIn : List ℕ → Option ℕ
 addressIn l = andThen (lineIn l) λ r. r .1
 
--- the kept runs of a line table's rows, and the source in them
+-- the kept runs of a line table's rows
 unfoldable pub lineBlocksIn : List (List ℕ) → List LineBlock
 lineBlocksIn ls = runsFrom 0 [] (map addressIn ls)
 
+-- "Joined source unescapes": the source in them, empty where it doesn't
 unfoldable pub sourceIn : List (List ℕ) → List ℕ
 sourceIn ls = givenOr (unescape (flatMap sourceCell ls)) []
 

@@ -68,7 +68,8 @@ rises i run (some a ∷ rows) =
     ∙ ap (λ (n : ℕ). risesFrom (not (neverFall run) || ltb a (lastOf run)) n rows) (last-snoc run a)
 rises i [] (none ∷ rows) = rises (suc i) [] rows
 rises i (a ∷ run) (none ∷ rows) =
-    ap (λ (b : Bool). b && every (λ (l : LineBlock). neverFall (l .addresses)) (runsFrom (suc i) [] rows)) (sym (not-not (neverFall (a ∷ run))))
+    ap (λ (b : Bool). b && every (λ (l : LineBlock). neverFall (l .addresses)) (runsFrom (suc i) [] rows))
+    (sym (not-not (neverFall (a ∷ run))))
     ∙ ap (λ (b : Bool). not (not (neverFall (a ∷ run))) && b) (rises (suc i) [] rows)
 
 pub rises-begin : (ls : List (List ℕ)) → risesFrom false 0 (map addressIn ls) ≡ runsRise ls
@@ -94,7 +95,9 @@ module _ (t : List ℕ) (at a e n : ℕ) (l : StepAt (lineView t) t at a e n) (f
   step : (o : Option ℕ) → addressIn (part a e t) ≡ o
       → risesFrom fell last (o ∷ rest) ≡ risesFrom fell last (map addressIn (lineView t at .0))
   step o q =
-      sym (ap (λ (p : List (List ℕ) × Groups). risesFrom fell last (map addressIn (p .0))) (l .same) ∙ ap (λ (x : Option ℕ). risesFrom fell last (x ∷ rest)) q)
+      sym
+      (ap (λ (p : List (List ℕ) × Groups). risesFrom fell last (map addressIn (p .0))) (l .same)
+      ∙ ap (λ (x : Option ℕ). risesFrom fell last (x ∷ rest)) q)
 
   pub rises-known : (k x : ℕ) → lineOf (lr.Known k x) ≡ lineIn (part a e t)
       → risesFrom (fell || ltb x last) x rest ≡ risesFrom fell last (map addressIn (lineView t at .0))

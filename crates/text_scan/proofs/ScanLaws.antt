@@ -79,7 +79,8 @@ module _ (t : List ℕ) (start a e n : ℕ) (l : LineAt kept t start a e n) wher
     unfolding groupsFrom partsFrom
     magic-yes =
         first-line true q
-        ∙ after-22 (isEmpty (partsAt (beginsWith (ascii ".")) (kept (drop n t)) .before)) (foldOutcome parseGroup emptyObject (partsAt (beginsWith (ascii ".")) (kept (drop n t)) .groups)) (concluded textQuestions)
+        ∙ after-22 (isEmpty (partsAt (beginsWith (ascii ".")) (kept (drop n t)) .before))
+        (foldOutcome parseGroup emptyObject (partsAt (beginsWith (ascii ".")) (kept (drop n t)) .groups)) (concluded textQuestions)
 
     from-groups : (o : Outcome ObjectFile) → groupsFrom t n emptyObject ≡ o → trimmedObject t start ≡ (o >>= concluded textQuestions)
     from-groups o g = magic-yes ∙ ap (λ (x : Outcome ObjectFile). x >>= concluded textQuestions) g
@@ -109,7 +110,8 @@ module _ (t : List ℕ) (start a e n : ℕ) (l : LineAt kept t start a e n) wher
         concluded-by h b q = go (every (λ (l : LineBlock). chain leb (l .addresses)) (h .lineBlocks)) b q
           where
             go : (x y : Bool) → x ≡ y
-                → ((ask 31 x >>= λ _. given (tt {0})) >>= λ _. given (dropStrayRelocations h)) ≡ (ask 31 y >>= λ _. given (dropStrayRelocations h))
+                → ((ask 31 x >>= λ _. given (tt {0})) >>= λ _. given (dropStrayRelocations h))
+                ≡ (ask 31 y >>= λ _. given (dropStrayRelocations h))
             go true y q = ap (λ (v : Bool). ask 31 v >>= λ _. given (dropStrayRelocations h)) q
             go false y q = ap (λ (v : Bool). ask 31 v >>= λ _. given (dropStrayRelocations h)) q
 

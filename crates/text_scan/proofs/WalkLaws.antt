@@ -13,7 +13,8 @@ use Rattle.format.specs.Tokens.{Parts, scanTokens, foldOutcome}
 use Rattle.format.specs.Sorted.{atKey}
 use Rattle.format.specs.ObjectFile.{ObjectFile, Block, blockKey}
 use Rattle.format.specs.Records.{emptyObject, putRecord}
-use Rattle.format.specs.TextReader.{hex2u16, parseDecimal, maybeHex2u16, blockAt, parseTextGroup, parseSymbolRow, parseSymbolGroup, parseLinkerRow, parseLinkerGroup, parseDebugGroup, parseGroup}
+use Rattle.format.specs.TextReader.{hex2u16, parseDecimal, maybeHex2u16, blockAt, parseTextGroup, parseSymbolRow, parseSymbolGroup}
+use Rattle.format.specs.TextReader.{parseLinkerRow, parseLinkerGroup, parseDebugGroup, parseGroup}
 use Rattle.format.specs.Calls.{refusalOf}
 use Rattle.format.proofs.Outcomes.{Gives, gives-ask, gives-bind}
 use Rattle.text_lines.specs.declared.Group.{Group}
@@ -30,7 +31,8 @@ use Rattle.text_debug.specs.DebugGroup.{DebugSettles, DebugChecked}
 use Rattle.text_debug.proofs.RefusalLaws.{Numbered, numbered-need, numbered-ask, numbered-scan}
 use Rattle.text_debug.proofs.DebugGroupLaws.{Kept, Keeps, table-keeps}
 use Rattle.text_scan.specs.declared.Walked.{Walked}
-use Rattle.text_scan.specs.Walk.{lineBlocksOf, sourceOf, Lined, Agrees, Comes, LinesChecked, GroupChecked, DebugWalked, groupsFrom, GroupsWalked}
+use Rattle.text_scan.specs.Walk.{lineBlocksOf, sourceOf, Lined, Agrees, Comes, LinesChecked, GroupChecked, DebugWalked}
+use Rattle.text_scan.specs.Walk.{groupsFrom, GroupsWalked}
 
 -- from one object to the next: the blocks are marked, the lines stand
 abbrev Stands : List ℕ → ObjectFile → ObjectFile → Type 0
@@ -62,7 +64,8 @@ module _ (h₀ : ObjectFile) where
   scan-keeps h k [] s = s
   scan-keeps h (suc k) (l ∷ ls) s = scan-keeps h k ls s
   scan-keeps h zero (l ∷ ls) s =
-      gives-bind Same (λ (t : ObjectFile × ℕ). Same (t .0)) (blockAt h (l ∷ ls)) _ (block-keeps h (l ∷ ls) s) λ t u. scan-keeps (t .0) (t .1) ls u
+      gives-bind Same (λ (t : ObjectFile × ℕ). Same (t .0)) (blockAt h (l ∷ ls)) _ (block-keeps h (l ∷ ls) s) λ t u.
+      scan-keeps (t .0) (t .1) ls u
 
   text-keeps : (ls : List (List ℕ)) → Gives Same (parseTextGroup h₀ ls)
   unfolding parseTextGroup
@@ -133,36 +136,40 @@ module _ (h : ObjectFile) (name : List ℕ) (ls : List (List ℕ)) (k : ℕ) (e 
   is-none a b c d = group-is k refl ∙ simp (ne-eqb k 0 a, ne-eqb k 1 b, ne-eqb k 2 c, ne-eqb k 3 d)
 
 module _ (t : List ℕ) (kind at : ℕ) (seen : List ℕ) where
+  abbrev lines : List (List ℕ)
+  lines = partsFrom t at .before
+
   abbrev Settled : List ℕ → ℕ → Type 0
   Settled seen′ n =
-      (name : List ℕ) → kind ≡ kindOf name → (h : ObjectFile) → Seen h seen → Comes (Stands seen′ h) n (parseGroup h (name, partsFrom t at .before))
+      (name : List ℕ) → kind ≡ kindOf name → (h : ObjectFile) → Seen h seen → Comes (Stands seen′ h) n (parseGroup h (name, lines))
 
   pub lines-text : (seen′ : List ℕ) (r : Group) → kind ≡ 0 → 65536 ≤ length seen → BlocksChecked t at seen seen′ (r .number) (r .next)
       → LinesChecked t kind at seen seen′ r
   lines-text seen′ r k l c =
       let f : Settled seen′ (r .number) = λ name e h s.
-      subst (Comes (Stands seen′ h) (r .number)) (sym (is-text h name (partsFrom t at .before) kind e k))
-      (text-comes h seen′ (r .number) (parseTextGroup h (partsFrom t at .before)) (c .settles l h s) (text-keeps h (partsFrom t at .before)) (text-numbered h (partsFrom t at .before))) in
+      subst (Comes (Stands seen′ h) (r .number)) (sym (is-text h name lines kind e k))
+      (text-comes h seen′ (r .number) (parseTextGroup h lines) (c .settles l h s) (text-keeps h lines) (text-numbered h lines)) in
       record { from = c .from; after = c .after; settles = f }
 
   pub lines-symbol : (r : Group) → kind ≡ 1 → SymbolsChecked t at (r .number) (r .next) → LinesChecked t kind at seen seen r
   lines-symbol r k c =
       let f : Settled seen (r .number) = λ name e h s.
-      subst (Comes (Stands seen h) (r .number)) (sym (is-symbol h name (partsFrom t at .before) kind e k))
-      (keeps-comes h seen s (r .number) (parseSymbolGroup h (partsFrom t at .before)) (symbol-keeps h (partsFrom t at .before) (r .number) (c .same))) in
+      subst (Comes (Stands seen h) (r .number)) (sym (is-symbol h name lines kind e k))
+      (keeps-comes h seen s (r .number) (parseSymbolGroup h lines) (symbol-keeps h lines (r .number) (c .same))) in
       record { from = c .from; after = c .after; settles = f }
 
   pub lines-linker : (r : Group) → kind ≡ 2 → LinkerChecked t at (r .number) (r .next) → LinesChecked t kind at seen seen r
   lines-linker r k c =
       let f : Settled seen (r .number) = λ name e h s.
-      subst (Comes (Stands seen h) (r .number)) (sym (is-linker h name (partsFrom t at .before) kind e k))
-      (keeps-comes h seen s (r .number) (parseLinkerGroup h (partsFrom t at .before)) (linker-keeps h (partsFrom t at .before) (r .number) (c .same))) in
+      subst (Comes (Stands seen h) (r .number)) (sym (is-linker h name lines kind e k))
+      (keeps-comes h seen s (r .number) (parseLinkerGroup h lines) (linker-keeps h lines (r .number) (c .same))) in
       record { from = c .from; after = c .after; settles = f }
 
   pub lines-unknown : (kind ≡ 0 → ⊥) → (kind ≡ 1 → ⊥) → (kind ≡ 2 → ⊥) → (kind ≡ 3 → ⊥)
       → LinesChecked t kind at seen seen (record { number = 23; next = at })
   lines-unknown a b c d =
-      let f : Settled seen 23 = λ name e h s. subst (Comes (Stands seen h) 23) (sym (is-none h name (partsFrom t at .before) kind e a b c d)) (refl, omega arith) in
+      let f : Settled seen 23 = λ name e h s.
+      subst (Comes (Stands seen h) 23) (sym (is-none h name lines kind e a b c d)) (refl, omega arith) in
       record { from = omega arith; after = λ z. absurd (omega (arith, z)); settles = f }
 
 -- .DEBUG
@@ -186,7 +193,8 @@ module _ (t : List ℕ) (at : ℕ) (sourced : Bool) (rows : ℕ) (g : DebugGroup
   settles-as : (b : Bool) → g .lined ≡ b → (h : ObjectFile) → Lined t sourced rows h
       → DebugSettles b (lineView t (g .rows) .0) h (g .number) (parseDebugGroup h (partsFrom t at .before))
   settles-as b e h l =
-      subst (λ (x : Bool). DebugSettles x (lineView t (g .rows) .0) h (g .number) (parseDebugGroup h (partsFrom t at .before))) e (c .settles h (lined-some t sourced rows h l))
+      subst (λ (x : Bool). DebugSettles x (lineView t (g .rows) .0) h (g .number) (parseDebugGroup h (partsFrom t at .before))) e
+      (c .settles h (lined-some t sourced rows h l))
 
   pub debug-new : g .lined ≡ true
       → DebugWalked t at sourced rows (record { number = g .number; next = g .next; sourced = true; rows = g .rows })
@@ -205,7 +213,8 @@ module _ (t : List ℕ) (at : ℕ) (sourced : Bool) (rows : ℕ) (g : DebugGroup
         from =
             c .from;
         after = c .after;
-        settles = λ h l. lined-old h l (lineView t (g .rows) .0) (g .number) (parseDebugGroup h (partsFrom t at .before)) (settles-as false e h l);
+        settles = λ h l.
+            lined-old h l (lineView t (g .rows) .0) (g .number) (parseDebugGroup h (partsFrom t at .before)) (settles-as false e h l);
       }
 
 -- ANY GROUP
@@ -214,9 +223,14 @@ comes-map P Q f n (refused m) s = s
 comes-map P Q f n (given h) s = (s .0, f h (s .1))
 
 module _ (t : List ℕ) (kind at : ℕ) (sourced : Bool) (rows : ℕ) (seen : List ℕ) where
+  abbrev Fits : List ℕ → Walked → Type 0
+  Fits seen′ r =
+      (name : List ℕ) → kind ≡ kindOf name → (h : ObjectFile) → Agrees t seen sourced rows h
+      → Comes (Agrees t seen′ (r .sourced) (r .rows)) (r .number) (parseGroup h (name, partsFrom t at .before))
+
   pub group-debug : (r : Walked) → kind ≡ 3 → DebugWalked t at sourced rows r → GroupChecked t kind at sourced rows seen seen r
   group-debug r k c =
-      let f : (name : List ℕ) → kind ≡ kindOf name → (h : ObjectFile) → Agrees t seen sourced rows h → Comes (Agrees t seen (r .sourced) (r .rows)) (r .number) (parseGroup h (name, partsFrom t at .before)) = λ name e h s.
+      let f : Fits seen r = λ name e h s.
       subst (Comes (Agrees t seen (r .sourced) (r .rows)) (r .number)) (sym (is-debug h name (partsFrom t at .before) kind e k))
       (comes-map (λ h′. (h′ .blocks ≡ h .blocks) × Lined t (r .sourced) (r .rows) h′) (Agrees t seen (r .sourced) (r .rows))
       (λ h′ p. record { marks = λ a. ap (λ (bs : List Block). isSome (atKey blockKey (a ∷ []) bs)) (p .0) ∙ s .marks a; lines = p .1 })
@@ -226,15 +240,19 @@ module _ (t : List ℕ) (kind at : ℕ) (sourced : Bool) (rows : ℕ) (seen : Li
   pub group-lines : (seen′ : List ℕ) (r : Group) → LinesChecked t kind at seen seen′ r
       → GroupChecked t kind at sourced rows seen seen′ (record { number = r .number; next = r .next; sourced = sourced; rows = rows })
   group-lines seen′ r c =
-      let f : (name : List ℕ) → kind ≡ kindOf name → (h : ObjectFile) → Agrees t seen sourced rows h → Comes (Agrees t seen′ sourced rows) (r .number) (parseGroup h (name, partsFrom t at .before)) = λ name e h s.
+      let f : Fits seen′ (record { number = r .number; next = r .next; sourced = sourced; rows = rows }) = λ name e h s.
       comes-map (Stands seen′ h) (Agrees t seen′ sourced rows)
-      (λ h′ p. record { marks = p .0; lines = record { blocks = p .1 ∙ s .lines .blocks; source = p .2 ∙ s .lines .source; reads = s .lines .reads } })
+      (λ h′ p.
+      let o : Lined t sourced rows h = s .lines in
+      let b : Lined t sourced rows h′ = record { blocks = p .1 ∙ o .blocks; source = p .2 ∙ o .source; reads = o .reads } in
+      record { marks = p .0; lines = b })
       (r .number) (parseGroup h (name, partsFrom t at .before)) (c .settles name e h (s .marks)) in
       record { from = c .from; after = c .after; settles = f }
 
 -- THE SAME ANSWER FROM THE NEXT GROUP
 module _ (t : List ℕ) (at k n : ℕ) (l : HeadAt t at k n) (h : ObjectFile) where
-  pub groups-head : groupsFrom t at h ≡ (parseGroup h (l .name, partsFrom t n .before) >>= λ h′. foldOutcome parseGroup h′ (partsFrom t n .groups))
+  pub groups-head : groupsFrom t at h
+      ≡ (parseGroup h (l .name, partsFrom t n .before) >>= λ h′. foldOutcome parseGroup h′ (partsFrom t n .groups))
   unfolding groupsFrom foldOutcome isEmpty
   groups-head = ap (λ (p : Parts (List ℕ)). ask 22 (isEmpty (p .before)) >>= λ _. foldOutcome parseGroup h (p .groups)) (l .same)
 
@@ -278,9 +296,11 @@ pub record Walking (t : List ℕ) (first : ℕ) (seen₀ : List ℕ) (at : ℕ) 
 pub walking-begin : (t : List ℕ) (first : ℕ) (seen : List ℕ) → Seen emptyObject seen → Walking t first seen first seen false 0
 unfolding lineBlocksOf sourceOf emptyObject
 walking-begin t first seen s =
-    record { size = refl; object = emptyObject; same = refl; agrees = record { marks = s; lines = record { blocks = refl; source = refl; reads = λ z. absurd (true≢false (sym z)) } } }
+    let b : Lined t false 0 emptyObject = record { blocks = refl; source = refl; reads = λ z. absurd (true≢false (sym z)) } in
+    record { size = refl; object = emptyObject; same = refl; agrees = record { marks = s; lines = b } }
 
-module _ (t : List ℕ) (first : ℕ) (seen₀ : List ℕ) (at : ℕ) (seen : List ℕ) (sourced : Bool) (rows : ℕ) (w : Walking t first seen₀ at seen sourced rows) where
+module _ (t : List ℕ) (first : ℕ) (seen₀ : List ℕ) (at : ℕ) (seen : List ℕ) (sourced : Bool) (rows : ℕ)
+    (w : Walking t first seen₀ at seen sourced rows) where
   settled : (P : ObjectFile → Type 0) (n : ℕ) (o : Outcome ObjectFile) → groupsFrom t at (w .object) ≡ o → Comes P n o
       → Comes P n (groupsFrom t first emptyObject)
   settled P n o e s = subst (Comes P n) (sym e ∙ w .same) s
@@ -299,7 +319,8 @@ module _ (t : List ℕ) (first : ℕ) (seen₀ : List ℕ) (at : ℕ) (seen : Li
             → Walking t first seen₀ (r .next) seen′ (r .sourced) (r .rows)
         go (refused m) e s = absurd (omega (arith, s .0, s .1, z))
         go (given h′) e s =
-            record { size = q ∙ w .size; object = h′; same = groups-on t at k n l (w .object) h′ e (r .next) (g .after z) ∙ w .same; agrees = s .1 }
+            let f = groups-on t at k n l (w .object) h′ e (r .next) (g .after z) in
+            record { size = q ∙ w .size; object = h′; same = f ∙ w .same; agrees = s .1 }
 
     pub walking-refused : (r .number ≡ 0 → ⊥) → GroupsWalked t first r
     walking-refused ne = go parsed refl comes

@@ -17,18 +17,18 @@ use Rattle.text_blocks.specs.Blocks.{Seen}
 use Rattle.text_debug.specs.DebugGroup.{lineBlocksIn, sourceIn}
 use Rattle.text_scan.specs.declared.Walked.{Walked}
 
--- "addresses in each kept run never fall", of line blocks, and of a line table's rows
+-- "addresses in each kept run never fall", of line blocks
 unfoldable pub blocksRise : List LineBlock → Bool
 blocksRise ls = every (λ l. neverFall (l .addresses)) ls
 
-abbrev pub runsRise : List (List ℕ) → Bool
+abbrev pub runsRise : List (List ℕ) → Bool  -- and of a line table's rows
 runsRise ls = blocksRise (lineBlocksIn ls)
 
--- the line blocks and the source of an object, from the rows of the line table that has rows, if there is one
+-- the line blocks of an object, from the rows of the line table that has rows, if there is one
 unfoldable pub lineBlocksOf : Bool → List (List ℕ) → List LineBlock
 lineBlocksOf sourced ls = if sourced then lineBlocksIn ls else []
 
-unfoldable pub sourceOf : Bool → List (List ℕ) → Option (List ℕ)
+unfoldable pub sourceOf : Bool → List (List ℕ) → Option (List ℕ)  -- and its source
 sourceOf sourced ls = if sourced then some (sourceIn ls) else none
 
 -- THE OBJECT SO FAR agrees with what the walk keeps of it: a source is there or not, and the rows that it comes from, which unescape, start
