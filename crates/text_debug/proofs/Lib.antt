@@ -1,1 +1,3 @@
+pub mod RefusalLaws
 pub mod LineTableLaws
+pub mod DebugGroupLaws

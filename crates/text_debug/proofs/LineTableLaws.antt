@@ -23,10 +23,10 @@ abbrev pub Parsed : Type 0
 Parsed = Option ℕ × List ℕ
 
 -- a row, its cell, and the rows after it
-abbrev row : ℕ → List ℕ → Option ℕ → Option (Option ℕ) → Outcome (List Parsed) → Outcome (List Parsed)
+abbrev pub row : ℕ → List ℕ → Option ℕ → Option (Option ℕ) → Outcome (List Parsed) → Outcome (List Parsed)
 row i cell p x q = need 28 p >>= λ n. ask 28 (eqb n i) >>= λ _. need 28 x >>= λ a. q >>= λ rows. given ((a, cell) ∷ rows)
 
-abbrev end : List ℕ → Option (Option ℕ) → Outcome (List Parsed) → Outcome (List Parsed)
+abbrev pub end : List ℕ → Option (Option ℕ) → Outcome (List Parsed) → Outcome (List Parsed)
 end cell x q = need 28 x >>= λ a. q >>= λ rows. given ((a, cell) ∷ rows)
 
 abbrev Taken : List ℕ → Outcome (List Parsed) → List Parsed → Type 0
@@ -57,13 +57,13 @@ row-28 i cell (some k) x q n f e =
     (λ t. let g : end cell x q ≡ refused n = simp t at e in end-28 cell x q n f g)
     (λ t. let g : refused 28 ≡ refused n = simp t at e in let r : _≡_ {A = ℕ} 28 n = cc in sym r)
 
-rows-28 : (i : ℕ) (ls : List (List ℕ)) (n : ℕ) → parseLineRows i ls ≡ refused n → n ≡ 28
+pub rows-28 : (i : ℕ) (ls : List (List ℕ)) (n : ℕ) → parseLineRows i ls ≡ refused n → n ≡ 28
 unfolding parseLineRows
 rows-28 i [] n e = let z : _≡_ {A = ℕ} 0 1 = cc in absurd (omega arith)
 rows-28 i (l ∷ ls) n e = row-28 i (cellAt 2 (splitn 2 l)) (parseDecimal (18446744073709551616) (trim (cellAt 0 (splitn 2 l)))) (maybeHex2u16 (trim (cellAt 1 (splitn 2 l)))) (parseLineRows (suc i) ls) n (λ m. rows-28 (suc i) ls m) e
 
 -- the parsed rows have the SOURCE cells
-source-of : (i : ℕ) (ls : List (List ℕ)) (ps : List Parsed) → parseLineRows i ls ≡ given ps → (flatMap (λ (r : Parsed). r .1) ps ≡ flatMap sourceCell ls) × (isEmpty ps ≡ isEmpty ls)
+pub source-of : (i : ℕ) (ls : List (List ℕ)) (ps : List Parsed) → parseLineRows i ls ≡ given ps → (flatMap (λ (r : Parsed). r .1) ps ≡ flatMap sourceCell ls) × (isEmpty ps ≡ isEmpty ls)
 unfolding parseLineRows flatMap isEmpty
 source-of i [] ps e = let r : [] ≡ ps = cc in (ap (flatMap (λ (r : Parsed). r .1)) (sym r), ap isEmpty (sym r))
 source-of i (l ∷ ls) ps e =
@@ -73,12 +73,12 @@ source-of i (l ∷ ls) ps e =
 
 module _ (h : ObjectFile) where
   -- what is asked of the rows
-  abbrev rest : List Parsed → Outcome ObjectFile
+  abbrev pub rest : List Parsed → Outcome ObjectFile
   rest ps =
       if isEmpty ps then given h
       else (ask 29 (not (isSome (h .source))) >>= λ _. unescape (flatMap (λ (r : Parsed). r .1) ps) >>= λ s. given (withLines h (runsFrom 0 [] (map (λ (r : Parsed). r .0) ps)) (some s)))
 
-  opened : (l : List ℕ) (rows : List (List ℕ)) → sameCells (map trim (splitn 2 l)) lineColumns ≡ true → parseLineTable h (l ∷ rows) ≡ (parseLineRows 0 rows >>= rest)
+  pub opened : (l : List ℕ) (rows : List (List ℕ)) → sameCells (map trim (splitn 2 l)) lineColumns ≡ true → parseLineTable h (l ∷ rows) ≡ (parseLineRows 0 rows >>= rest)
   unfolding parseLineTable rowsUnder
   opened l rows t = rw t
 

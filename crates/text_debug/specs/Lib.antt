@@ -1,1 +1,2 @@
 pub mod LineTable
+pub mod DebugGroup

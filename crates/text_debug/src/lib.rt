@@ -1,9 +1,14 @@
-// The text reader's line table, whole: questions 28, 29 and 30.
+// The text reader's .DEBUG group, whole: questions 27, 26, 28, 29 and 30.
 use text_cells::cell_is;
 use text_lines::Line;
+use text_lines::Passed;
+use text_lines::begins_with;
+use text_lines::next_row;
 use text_source::Source;
 use text_source::unescape;
+use text_tables::first_bar;
 use text_tables::next_source_line;
+use text_tables::parse_label_table;
 use text_tables::parse_line_rows;
 ghost use mathlib.Core.Path.{_≡_};
 ghost use mathlib.Core.List.{map};
@@ -11,6 +16,7 @@ ghost use Rattle.format.specs.Utf8.{trim};
 ghost use Rattle.format.specs.TextReader.{splitn, sameCells};
 ghost use Rattle.text_tables.specs.Debug.{lineView};
 ghost use Rattle.text_debug.specs.LineTable.{lineColumns, LineTableIs};
+ghost use Rattle.text_debug.specs.DebugGroup.{LastBar, FirstRow, withoutRows, DebugChecked};
 
 const LINE: [u8; 4] = [0x4C, 0x49, 0x4E, 0x45];
 
@@ -67,4 +73,102 @@ pub fn parse_line_table(t: &[u8], from: usize, sourced: bool) -> u8
             next: next,
         },
     )
+}
+
+// What a .DEBUG group's check comes to, the place after the group, and the place of its line table's rows, if there are rows.
+pub struct DebugGroup {
+    pub number: u8,
+    pub next: usize,
+    pub lined: bool,
+    pub rows: usize,
+}
+
+// The place after the group, if its last line begins with `=`.
+fn last_bar(t: &[u8], from: usize) -> Passed
+    ensures { λ r. ⌜ LastBar (now (t .entry)) from r ⌝ }
+{
+    let mut at = from;
+    let mut bar = false;
+    loop {
+        let Line::At { start, end, next } = next_row(t, at) else {
+            if bar {
+                return Passed::To(at);
+            }
+            return Passed::Bad;
+        };
+        bar = begins_with(&t[start..end], b'=');
+        at = next;
+    }
+}
+
+// The place of the line table's first row, if there is one.
+fn first_line_row(t: &[u8], from: usize) -> Passed
+    ensures { λ r. ⌜ FirstRow (now (t .entry)) from r ⌝ }
+{
+    let Line::At {
+        start: _,
+        end: _,
+        next,
+    } = next_source_line(t, from)
+    else {
+        return Passed::Bad;
+    };
+    let Line::At {
+        start: _,
+        end: _,
+        next: _,
+    } = next_source_line(t, next)
+    else {
+        return Passed::Bad;
+    };
+    Passed::To(next)
+}
+
+// A group that has no rows of lines.
+fn without_rows(number: u8, next: usize) -> DebugGroup
+    ensures { λ r. ⌜ r ≡ withoutRows number next ⌝ }
+{
+    DebugGroup {
+        number: number,
+        next: next,
+        lined: false,
+        rows: 0,
+    }
+}
+
+// The lines of a .DEBUG group, checked, where a source stands already or none does: 27, then 26, then 28, 29, 30.
+pub fn parse_debug(t: &[u8], at: usize, sourced: bool) -> DebugGroup
+    ensures { λ r. ⌜ DebugChecked (now (t .entry)) at sourced r ⌝ }
+{
+    let Line::At {
+        start: _,
+        end: _,
+        next: _,
+    } = next_row(t, at)
+    else {
+        return without_rows(0, at);
+    };
+    let Passed::To(bar) = first_bar(t, at) else {
+        return without_rows(27, at);
+    };
+    let Passed::To(next) = last_bar(t, bar) else {
+        return without_rows(27, at);
+    };
+    let n = parse_label_table(t, at);
+    if n != 0 {
+        return without_rows(n, at);
+    }
+    let m = parse_line_table(t, bar, sourced);
+    if m != 0 {
+        return without_rows(m, at);
+    }
+    let Passed::To(rows) = first_line_row(t, bar) else {
+        return without_rows(0, next);
+    };
+    DebugGroup {
+        number: 0,
+        next: next,
+        lined: true,
+        rows: rows,
+    }
 }

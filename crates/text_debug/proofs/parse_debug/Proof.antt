@@ -1,0 +1,44 @@
+-- Question by question. Assumes nothing.
+use borrow.Author.Needs.{needs}
+use mathlib.Core.Path.{sym, _∙_, subst}
+use denote.Ref.{now}
+use Rattle.text_lines.specs.Groups.{NextRow, RowAt}
+use Rattle.text_lines.specs.declared.Passed.the-variants as pa
+use Rattle.text_tables.specs.Debug.{BarAt, FirstBar}
+use Rattle.text_debug.specs.DebugGroup.{LastBar, FirstRow, DebugChecked}
+use Rattle.text_debug.proofs.DebugGroupLaws.{checked-none, checked-first, checked-last, checked-labels, checked-lines, checked-unlined, checked-lined}
+use Rattle.text_debug.proofs.parse_debug.Statement.{statement}
+use Rattle.text_debug.proofs.parse_debug.Tie as tie
+
+row : (c : tie.After-enum-told) → RowAt (now (c .before .before .before .before .args .t)) (c .before .before .before .before .args .at) (c .enum-told .given .0 .0) (c .enum-told .given .0 .1 .0) (c .enum-told .given .0 .1 .1 .0)
+row c = subst (NextRow (now (c .before .before .before .before .args .t)) (c .before .before .before .before .args .at)) (c .enum-told .given .1) (c .before .before .next-row .ensures)
+
+bar : (c : tie.After-bar) → BarAt (now (c .before .before .before .before .before .before .before .args .t)) (c .before .before .before .before .before .before .before .args .at) (c .bar .given .0 .0)
+bar c = subst (FirstBar (now (c .before .before .before .before .before .before .before .args .t)) (c .before .before .before .before .before .before .before .args .at)) (c .bar .given .1) (c .before .before .first-bar .ensures)
+
+last : (c : tie.After-next) → LastBar (now (c .before .before .before .before .before .before .before .before .before .before .before .args .t)) (c .before .before .before .before .bar .given .0 .0) (pa.To (c .next .given .0 .0))
+last c = subst (LastBar (now (c .before .before .before .before .before .before .before .before .before .before .before .args .t)) (c .before .before .before .before .bar .given .0 .0)) (c .next .given .1) (c .before .before .last-bar .ensures)
+
+returns : tie.Need-returns
+returns c = subst (DebugChecked (now (c .before .before .before .before .before .args .t)) (c .before .before .before .before .before .args .at) (c .before .before .before .before .before .args .sourced)) (sym (c .without-rows .ensures)) (checked-none (now (c .before .before .before .before .before .args .t)) (c .before .before .before .before .before .args .at) (c .before .before .before .before .before .args .sourced) (subst (NextRow (now (c .before .before .before .before .before .args .t)) (c .before .before .before .before .before .args .at)) (c .before .enum-told2 .given .1) (c .before .before .before .next-row .ensures)))
+
+returns-2 : tie.Need-returns-2
+returns-2 c = subst (DebugChecked (now (c .before .before .before .before .before .before .before .before .args .t)) (c .before .before .before .before .before .before .before .before .args .at) (c .before .before .before .before .before .before .before .before .args .sourced)) (sym (c .without-rows2 .ensures)) (checked-first _ _ _ _ _ (row (c .before .before .before .before)) _ (subst (FirstBar (now (c .before .before .before .before .before .before .before .before .args .t)) (c .before .before .before .before .before .before .before .before .args .at)) (c .before .enum-told3 .given .1) (c .before .before .before .first-bar .ensures)))
+
+returns-3 : tie.Need-returns-3
+returns-3 c = subst (DebugChecked (now (c .before .before .before .before .before .before .before .before .before .before .before .before .args .t)) (c .before .before .before .before .before .before .before .before .before .before .before .before .args .at) (c .before .before .before .before .before .before .before .before .before .before .before .before .args .sourced)) (sym (c .without-rows3 .ensures)) (checked-last _ _ _ _ _ (row (c .before .before .before .before .before .before .before .before)) _ _ (bar (c .before .before .before .before .before)) (subst (LastBar (now (c .before .before .before .before .before .before .before .before .before .before .before .before .args .t)) (c .before .before .before .before .before .bar .given .0 .0)) (c .before .enum-told4 .given .1) (c .before .before .before .last-bar .ensures)))
+
+returns-4 : tie.Need-returns-4
+returns-4 c = subst (DebugChecked (now (c .before .before .before .before .before .before .before .before .before .before .before .before .before .before .before .args .t)) (c .before .before .before .before .before .before .before .before .before .before .before .before .before .before .before .args .at) (c .before .before .before .before .before .before .before .before .before .before .before .before .before .before .before .args .sourced)) (sym (c .without-rows4 .ensures)) (checked-labels _ _ _ _ _ (row (c .before .before .before .before .before .before .before .before .before .before .before)) _ _ (bar (c .before .before .before .before .before .before .before .before)) _ (last (c .before .before .before .before)) _ (c .before .before .parse-label-table .ensures) (c .before .if1 .taken))
+
+returns-5 : tie.Need-returns-5
+returns-5 c = subst (DebugChecked (now (c .before .before .before .before .before .before .before .before .before .before .before .before .before .before .before .before .before .args .t)) (c .before .before .before .before .before .before .before .before .before .before .before .before .before .before .before .before .before .args .at) (c .before .before .before .before .before .before .before .before .before .before .before .before .before .before .before .before .before .args .sourced)) (sym (c .without-rows5 .ensures)) (checked-lines _ _ _ _ _ (row (c .before .before .before .before .before .before .before .before .before .before .before .before .before)) _ _ (bar (c .before .before .before .before .before .before .before .before .before .before)) _ (last (c .before .before .before .before .before .before)) (sym (c .before .before .before .if1 .left) ∙ c .before .before .before .before .parse-label-table .ensures) _ (c .before .before .parse-line-table .ensures) (c .before .if2 .taken))
+
+returns-6 : tie.Need-returns-6
+returns-6 c = subst (DebugChecked (now (c .before .before .before .before .before .before .before .before .before .before .before .before .before .before .before .before .before .before .before .before .args .t)) (c .before .before .before .before .before .before .before .before .before .before .before .before .before .before .before .before .before .before .before .before .args .at) (c .before .before .before .before .before .before .before .before .before .before .before .before .before .before .before .before .before .before .before .before .args .sourced)) (sym (c .without-rows6 .ensures)) (checked-unlined _ _ _ _ _ (row (c .before .before .before .before .before .before .before .before .before .before .before .before .before .before .before .before)) _ _ (bar (c .before .before .before .before .before .before .before .before .before .before .before .before .before)) _ (last (c .before .before .before .before .before .before .before .before .before)) (sym (c .before .before .before .before .before .before .if1 .left) ∙ c .before .before .before .before .before .before .before .parse-label-table .ensures) _ (c .before .before .before .before .before .parse-line-table .ensures) (c .before .before .before .before .if2 .left) (subst (FirstRow (now (c .before .before .before .before .before .before .before .before .before .before .before .before .before .before .before .before .before .before .before .before .args .t)) (c .before .before .before .before .before .before .before .before .before .before .before .before .before .bar .given .0 .0)) (c .before .enum-told5 .given .1) (c .before .before .before .first-line-row .ensures)))
+
+returns-7 : tie.Need-returns-7
+returns-7 c = checked-lined _ _ _ _ _ (row (c .before .before .before .before .before .before .before .before .before .before .before .before .before .before .before .before)) _ _ (bar (c .before .before .before .before .before .before .before .before .before .before .before .before .before)) _ (last (c .before .before .before .before .before .before .before .before .before)) (sym (c .before .before .before .before .before .before .if1 .left) ∙ c .before .before .before .before .before .before .before .parse-label-table .ensures) _ (c .before .before .before .before .before .parse-line-table .ensures) (c .before .before .before .before .if2 .left) _ (subst (FirstRow (now (c .before .before .before .before .before .before .before .before .before .before .before .before .before .before .before .before .before .before .before .before .args .t)) (c .before .before .before .before .before .before .before .before .before .before .before .before .before .bar .given .0 .0)) (c .before .rows .given .1) (c .before .before .before .first-line-row .ensures))
+
+pub parse-debug-spec : {M : Type 1} → statement M
+parse-debug-spec = tie.close (tie.spec (λ c κs. search needs) (λ c. search needs) (λ c. search needs) (λ c κs. search needs) returns (λ c κs. search needs) (λ c. search needs) (λ c. search needs) (λ c κs. search needs) returns-2 (λ c κs. search needs) (λ c. search needs) (λ c. search needs) (λ c κs. search needs) returns-3 (λ c κs. search needs) (λ c κs. search needs) returns-4 (λ c κs. search needs) (λ c κs. search needs) returns-5 (λ c κs. search needs) (λ c. search needs) (λ c. search needs) (λ c κs. search needs) returns-6 returns-7)

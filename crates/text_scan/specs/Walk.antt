@@ -1,0 +1,80 @@
+-- The walk over the groups of a text file: what it knows of the object so far. Assumes nothing.
+use mathlib.Core.Path.{_≡_}
+use mathlib.Core.Bool.{Bool, true}
+use mathlib.Core.List.{List, [], flatMap}
+use mathlib.Core.Option.{Option, none, some}
+use Prim.Native.Nat.{ℕ, _≤_, _<_}
+use Rattle.format.specs.Basics.{Outcome, refused, given, _>>=_, ask, every, isEmpty, if_then_else_}
+use Rattle.format.specs.Tokens.{foldOutcome}
+use Rattle.format.specs.ObjectFile.{LineBlock, ObjectFile, neverFall}
+use Rattle.format.specs.Records.{emptyObject}
+use Rattle.format.specs.TextReader.{unescape, parseGroup, parseDebugGroup}
+use Rattle.text_lines.specs.declared.Group.{Group}
+use Rattle.text_lines.specs.Groups.{partsFrom, kindOf}
+use Rattle.text_tables.specs.Debug.{lineView}
+use Rattle.text_source.specs.Stream.{sourceCell}
+use Rattle.text_blocks.specs.Blocks.{Seen}
+use Rattle.text_debug.specs.DebugGroup.{lineBlocksIn, sourceIn}
+use Rattle.text_scan.specs.declared.Walked.{Walked}
+
+-- "addresses in each kept run never fall", of line blocks
+unfoldable pub blocksRise : List LineBlock → Bool
+blocksRise ls = every (λ l. neverFall (l .addresses)) ls
+
+abbrev pub runsRise : List (List ℕ) → Bool  -- and of a line table's rows
+runsRise ls = blocksRise (lineBlocksIn ls)
+
+-- the line blocks of an object, from the rows of the line table that has rows, if there is one
+unfoldable pub lineBlocksOf : Bool → List (List ℕ) → List LineBlock
+lineBlocksOf sourced ls = if sourced then lineBlocksIn ls else []
+
+unfoldable pub sourceOf : Bool → List (List ℕ) → Option (List ℕ)  -- and its source
+sourceOf sourced ls = if sourced then some (sourceIn ls) else none
+
+-- THE OBJECT SO FAR agrees with what the walk keeps of it: a source is there or not, and the rows that it comes from, which unescape, start
+-- at a place
+pub record Lined (t : List ℕ) (sourced : Bool) (rows : ℕ) (h : ObjectFile) : Type 0 where
+  pub blocks : h .lineBlocks ≡ lineBlocksOf sourced (lineView t rows .0)
+  pub source : h .source ≡ sourceOf sourced (lineView t rows .0)
+  pub reads : sourced ≡ true → unescape (flatMap sourceCell (lineView t rows .0)) ≡ given (sourceIn (lineView t rows .0))
+
+-- and the addresses of its blocks are marked
+pub record Agrees (t : List ℕ) (seen : List ℕ) (sourced : Bool) (rows : ℕ) (h : ObjectFile) : Type 0 where
+  pub marks : Seen h seen
+  pub lines : Lined t sourced rows h
+
+-- an outcome has the number handed back, never 0 for a refusal; with 0 it is so of the object
+abbrev pub Comes : (ObjectFile → Type 0) → ℕ → Outcome ObjectFile → Type 0
+Comes P number (refused n) = (number ≡ n) × (0 < n)
+Comes P number (given h) = (number ≡ 0) × P h
+
+-- A group of a kind other than .DEBUG, for every object that the marks stand for: its line blocks and source stand as they were.
+pub record LinesChecked (t : List ℕ) (kind at : ℕ) (seen seen′ : List ℕ) (r : Group) : Type 0 where
+  pub from : at ≤ r .next
+  pub after : r .number ≡ 0 → partsFrom t (r .next) ≡ record { before = []; groups = partsFrom t at .groups }
+  pub settles : (name : List ℕ) → kind ≡ kindOf name → (h : ObjectFile) → Seen h seen
+      → Comes (λ h′. Seen h′ seen′ × (h′ .lineBlocks ≡ h .lineBlocks) × (h′ .source ≡ h .source)) (r .number)
+      (parseGroup h (name, partsFrom t at .before))
+
+-- A group of any kind from its lines on, for every object that agrees with the marks and the lines before it.
+pub record GroupChecked (t : List ℕ) (kind at : ℕ) (sourced : Bool) (rows : ℕ) (seen seen′ : List ℕ) (r : Walked) : Type 0 where
+  pub from : at ≤ r .next
+  pub after : r .number ≡ 0 → partsFrom t (r .next) ≡ record { before = []; groups = partsFrom t at .groups }
+  pub settles : (name : List ℕ) → kind ≡ kindOf name → (h : ObjectFile) → Agrees t seen sourced rows h
+      → Comes (Agrees t seen′ (r .sourced) (r .rows)) (r .number) (parseGroup h (name, partsFrom t at .before))
+
+-- .DEBUG alone; blocks stand as they were
+pub record DebugWalked (t : List ℕ) (at : ℕ) (sourced : Bool) (rows : ℕ) (r : Walked) : Type 0 where
+  pub from : at ≤ r .next
+  pub after : r .number ≡ 0 → partsFrom t (r .next) ≡ record { before = []; groups = partsFrom t at .groups }
+  pub settles : (h : ObjectFile) → Lined t sourced rows h
+      → Comes (λ h′. (h′ .blocks ≡ h .blocks) × Lined t (r .sourced) (r .rows) h′) (r .number)
+      (parseDebugGroup h (partsFrom t at .before))
+
+-- "Every later kept line in a group? 22", "Then per group": from a place on, with an object so far
+unfoldable pub groupsFrom : List ℕ → ℕ → ObjectFile → Outcome ObjectFile
+groupsFrom t at h = ask 22 (isEmpty (partsFrom t at .before)) >>= λ _. foldOutcome parseGroup h (partsFrom t at .groups)
+
+-- all groups from a place on
+abbrev pub GroupsWalked : List ℕ → ℕ → Walked → Type 0
+GroupsWalked t first r = Comes (Lined t (r .sourced) (r .rows)) (r .number) (groupsFrom t first emptyObject)

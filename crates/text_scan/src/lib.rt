@@ -1,0 +1,280 @@
+// The text reader's questions, 20 to 31, on a file's bytes in place; what it reads is not stored.
+use text_blocks::parse_text;
+use text_debug::parse_debug;
+use text_lines::Group;
+use text_lines::Head;
+use text_lines::Line;
+use text_lines::equals;
+use text_lines::next_head;
+use text_lines::next_kept;
+use text_linker::parse_linker_table;
+use text_tables::LineRow;
+use text_tables::next_source_line;
+use text_tables::parse_line_row;
+use text_tables::parse_symbol_table;
+use trim::trim;
+use utf8::is_utf8;
+ghost use mathlib.Core.Path.{_≡_};
+ghost use mathlib.Core.Bool.{_||_};
+ghost use Prim.Native.Nat.{_≤_};
+ghost use lib.ListN.{length, take};
+ghost use lib.Dec.{ltb};
+ghost use Rattle.format.specs.Calls.{refusalOf};
+ghost use Rattle.format.specs.Records.{emptyObject};
+ghost use Rattle.format.specs.TextReader.{textObject};
+ghost use Rattle.text_blocks.specs.Blocks.{Seen};
+ghost use Rattle.text_tables.specs.Debug.{lineView};
+ghost use Rattle.text_scan.specs.Walk.{blocksRise, runsRise, lineBlocksOf, DebugWalked, LinesChecked, GroupChecked, GroupsWalked};
+ghost use Rattle.text_scan.specs.Scan.{trimmedObject, refusedScan, Scans};
+
+// Whether a run falls that fell already or not, when an address comes after its last.
+fn falls(fell: bool, last: u16, address: u16) -> bool
+    ensures { λ r. ⌜ r ≡ (fell || ltb address last) ⌝ }
+{
+    if fell {
+        return true;
+    }
+    address < last
+}
+
+// Whether the addresses in each kept run of a line table's rows never fall. A run that reaches the last row is not asked.
+pub fn runs_rise(t: &[u8], from: usize) -> bool
+    ensures { λ r. ⌜ r ≡ runsRise (lineView (now (t .entry)) from .0) ⌝ }
+{
+    let mut at = from;
+    let mut fell = false;
+    let mut last: u16 = 0;
+    loop {
+        let Line::At { start, end, next } = next_source_line(t, at) else {
+            return true;
+        };
+        let row = parse_line_row(&t[start..end]);
+        at = next;
+        match row {
+            LineRow::Known(_, address) => {
+                fell = falls(fell, last, address);
+                last = address;
+            }
+            LineRow::Unknown(_) => {
+                if fell {
+                    return false;
+                }
+                last = 0;
+            }
+            LineRow::Bad => {
+                if fell {
+                    return false;
+                }
+                last = 0;
+            }
+        }
+    }
+}
+
+// What the groups up to a place come to: their number, the place after them, whether there is a source, and where its rows are.
+pub struct Walked {
+    pub number: u8,
+    pub next: usize,
+    pub sourced: bool,
+    pub rows: usize,
+}
+
+// A .DEBUG group, after groups that had a source or none: 26 to 30.
+fn parse_debug_group(t: &[u8], at: usize, sourced: bool, rows: usize) -> Walked
+    ensures { λ r. ⌜ DebugWalked (now (t .entry)) at sourced rows r ⌝ }
+{
+    let g = parse_debug(t, at, sourced);
+    if g.lined {
+        return Walked {
+            number: g.number,
+            next: g.next,
+            sourced: true,
+            rows: g.rows,
+        };
+    }
+    Walked {
+        number: g.number,
+        next: g.next,
+        sourced: sourced,
+        rows: rows,
+    }
+}
+
+// A group of another kind, after groups that marked their blocks: 23 to 26.
+fn parse_lines(t: &[u8], kind: u8, at: usize, seen: &mut [u8]) -> Group
+    requires { ⌜ (65536 ≤ length (now seen)) × (kind ≡ 3 → ⊥) ⌝ }
+    ensures { λ r. ⌜ LinesChecked (now (t .entry)) kind at (now (seen .entry)) (now (seen .exit)) r ⌝ }
+{
+    if kind == 0 {
+        return parse_text(t, at, seen);
+    }
+    if kind == 1 {
+        return parse_symbol_table(t, at);
+    }
+    if kind == 2 {
+        return parse_linker_table(t, at);
+    }
+    Group {
+        number: 23,
+        next: at,
+    }
+}
+
+// A group of any kind: 23 to 30.
+fn parse_group(t: &[u8], kind: u8, at: usize, sourced: bool, rows: usize, seen: &mut [u8]) -> Walked
+    requires { ⌜ 65536 ≤ length (now seen) ⌝ }
+    ensures { λ r. ⌜ GroupChecked (now (t .entry)) kind at sourced rows (now (seen .entry)) (now (seen .exit)) r ⌝ }
+{
+    if kind == 3 {
+        return parse_debug_group(t, at, sourced, rows);
+    }
+    let g = parse_lines(t, kind, at, seen);
+    Walked {
+        number: g.number,
+        next: g.next,
+        sourced: sourced,
+        rows: rows,
+    }
+}
+
+// All groups from a place on, where no block is marked: 22 to 30.
+fn parse_groups(t: &[u8], first: usize, seen: &mut [u8]) -> Walked
+    requires { ⌜ (65536 ≤ length (now seen)) × Seen emptyObject (now seen) ⌝ }
+    ensures { λ r. ⌜ GroupsWalked (now (t .entry)) first r ⌝ }
+{
+    let mut at = first;
+    let mut sourced = false;
+    let mut rows = 0;
+    loop {
+        let head = next_head(t, at);
+        match head {
+            Head::Opens { kind, next } => {
+                let g = parse_group(t, kind, next, sourced, rows, seen);
+                if g.number != 0 {
+                    return g;
+                }
+                at = g.next;
+                sourced = g.sourced;
+                rows = g.rows;
+            }
+            Head::Loose => {
+                return Walked {
+                    number: 22,
+                    next: at,
+                    sourced: false,
+                    rows: 0,
+                };
+            }
+            Head::Done => {
+                return Walked {
+                    number: 0,
+                    next: at,
+                    sourced: sourced,
+                    rows: rows,
+                };
+            }
+        }
+    }
+}
+
+// What a scan comes to. The places in a file that reads: after its first kept line, the end of what trimming leaves, and the rows that its
+// source is from, if there is one.
+pub struct Scanned {
+    pub number: u8,
+    pub first: usize,
+    pub end: usize,
+    pub sourced: bool,
+    pub rows: usize,
+}
+
+const MAGIC: [u8; 13] = [
+    0x4C,
+    0x43,
+    0x2D,
+    0x33,
+    0x20,
+    0x4F,
+    0x42,
+    0x4A,
+    0x20,
+    0x46,
+    0x49,
+    0x4C,
+    0x45,
+];
+
+fn refuse(number: u8) -> Scanned
+    ensures { λ r. ⌜ r ≡ refusedScan number ⌝ }
+{
+    Scanned {
+        number: number,
+        first: 0,
+        end: 0,
+        sourced: false,
+        rows: 0,
+    }
+}
+
+// Whether the object whose source is from these rows, or that has none, answers 31.
+fn lines_rise(t: &[u8], sourced: bool, rows: usize) -> bool
+    ensures { λ r. ⌜ r ≡ blocksRise (lineBlocksOf sourced (lineView (now (t .entry)) rows .0)) ⌝ }
+{
+    if sourced {
+        return runs_rise(t, rows);
+    }
+    true
+}
+
+// A file that was trimmed, which starts at a place: 21 to 31.
+fn scan_trimmed(t: &[u8], start: usize) -> Scanned
+    ensures { λ r. ⌜ Scans (now (t .entry)) (trimmedObject (now (t .entry)) start) r ⌝ }
+{
+    let Line::At {
+        start: a,
+        end: e,
+        next: first,
+    } = next_kept(t, start)
+    else {
+        return refuse(21);
+    };
+    let magic = MAGIC;
+    if !equals(&t[a..e], &magic) {
+        return refuse(21);
+    }
+    let mut seen = [0u8; 65536];
+    let w = parse_groups(t, first, &mut seen);
+    if w.number != 0 {
+        return refuse(w.number);
+    }
+    if !lines_rise(t, w.sourced, w.rows) {
+        return refuse(31);
+    }
+    Scanned {
+        number: 0,
+        first: first,
+        end: t.len(),
+        sourced: w.sourced,
+        rows: w.rows,
+    }
+}
+
+// A text file's scan: its number, 20 to 31, and the places that a reader of its words goes on from.
+pub fn scan_text(s: &[u8]) -> Scanned
+    ensures { λ r. ⌜ Scans (take (r .end) (now (s .entry))) (textObject (now (s .entry))) r ⌝ }
+{
+    if !is_utf8(s) {
+        return refuse(20);
+    }
+    let c = trim(s, 0, s.len());
+    let start = c.start;
+    let end = c.end;
+    scan_trimmed(&s[..end], start)
+}
+
+// A text file's number: 20 to 31, or 0 where it reads.
+pub fn scan(s: &[u8]) -> u8
+    ensures { λ r. ⌜ r ≡ refusalOf (textObject (now (s .entry))) ⌝ }
+{
+    let r = scan_text(s);
+    r.number
+}
