@@ -1,0 +1,19 @@
+-- The room that a part writer is lent while parts are written one after the other. Assumes nothing.
+use mathlib.Core.Path.{_≡_, sym, ap, subst, _∙_}
+use mathlib.Core.List.{List, _++_}
+use Prim.Native.Nat.{ℕ, _+_, _-_, _≤_}
+use native.Mathlib.Omega.{arith}
+use lib.ListN.{length, drop, length-append, length-drop}
+use borrow.Rule.Slice.PartAt.{part-to-end}
+use Rattle.writing.proofs.Parts.{State, Emits, rest, has-room}
+
+-- what is left fits
+module _ {A : Type 0} {whole room left : List A} {s : State A} (f : Emits whole room left s) where
+  pub lent : length left ≤ length (rest s)
+  lent =
+      let e : length (rest s) ≡ length (s .out) - s .at = ap length (part-to-end (s .out) (s .at)) ∙ length-drop (s .at) (s .out) in
+      omega (arith, e, has-room f)
+
+  -- and so does its first part
+  pub lent-part : (part left′ : List A) → left ≡ part ++ left′ → length part ≤ length (rest s)
+  lent-part part left′ e = omega (arith, lent, ap length e ∙ length-append part left′)
