@@ -99,7 +99,7 @@ emits5 : (c : tie.After-put-sized) → Emits (whole (start5 c)) (room (start5 c)
 emits5 c = let s = start5 c in emit (emits4 (c .before .before .before .before .before)) _ _ (text-slice (ws s) (at s + 1 + 3) (s .args .end) (s .pre .1 .1)) (c .put-sized .ensures)
 
 mul-put-sized : tie.Need-mul-put-sized
-mul-put-sized c = let s = start4 (c .before .before .before) in let h : at s + 1 + 3 ≤ length (ws s) = omega (arith, s .pre .1 .1 .0, s .pre .1 .1 .1) in search needs
+mul-put-sized c = let s = start4 (c .before .before .before) in record { fits = omega (arith, s .pre .1 .1 .0, s .pre .1 .1 .1, s .good .1 .0 .1) }
 
 sub-put-sized-2 : tie.Need-sub-put-sized-2
 sub-put-sized-2 c = omega (arith, start4 (c .before .before .before) .pre .1 .1 .0)
