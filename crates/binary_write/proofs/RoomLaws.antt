@@ -5,6 +5,9 @@ use Prim.Native.Nat.{ℕ, _+_, _-_, _≤_}
 use native.Mathlib.Omega.{arith}
 use lib.ListN.{length, drop, length-append, length-drop}
 use borrow.Rule.Slice.PartAt.{part-to-end}
+use Rattle.format.specs.Records.{Record}
+use Rattle.format.specs.Binary.{recordBytes}
+use Rattle.writing.specs.Written.{Put}
 use Rattle.writing.proofs.Parts.{State, Emits, rest, has-room}
 
 -- what is left fits
@@ -17,3 +20,10 @@ module _ {A : Type 0} {whole room left : List A} {s : State A} (f : Emits whole 
   -- and so does its first part
   pub lent-part : (part left′ : List A) → left ≡ part ++ left′ → length part ≤ length (rest s)
   lent-part part left′ e = omega (arith, lent, ap length e ∙ length-append part left′)
+
+-- a record by another name
+pub fits-as : {q r : Record} (n : ℕ) → q ≡ r → length (recordBytes q) ≤ n → length (recordBytes r) ≤ n
+fits-as n e h = subst (λ r. length (recordBytes r) ≤ n) e h
+
+pub put-as : {q r : Record} (room : List ℕ) (n : ℕ) (ys : List ℕ) → q ≡ r → Put (recordBytes r) room n ys → Put (recordBytes q) room n ys
+put-as room n ys e p = subst (λ r. Put (recordBytes r) room n ys) (sym e) p

@@ -236,3 +236,119 @@ fn put_relocation(out: &mut [u8], ws: &[u32], at: usize, end: usize) -> usize
     o += put_sized(&mut out[o..], &ws[body..end]);
     o
 }
+
+// How many bytes a record has.
+fn record_len(ws: &[u32], at: usize, end: usize) -> usize
+    requires { ⌜ Stands (now ws) at end ⌝ }
+    ensures { λ r. ⌜ r ≡ length (recordBytes (recordAt (now (ws .entry)) at)) ⌝ }
+{
+    let body = at + 1;
+    let k = object::kind(ws[at]);
+    if k == 0 {
+        return 5 + 3 * (end - body);
+    }
+    if k == 4 {
+        return 9 + object::text_len(ws, body, end);
+    }
+    if k == 5 {
+        return 11 + object::text_len(ws, body, end);
+    }
+    let rest = body + 3;
+    if k == 2 {
+        return 20 + object::text_len(ws, rest, end);
+    }
+    11 + 2 * (end - rest)
+}
+
+// Of a line block, whether it has at most 65,535 addresses.
+fn count_fits(ws: &[u32], at: usize, end: usize) -> bool
+    requires { ⌜ Stands (now ws) at end ⌝ }
+    ensures { λ r. ⌜ r ≡ countFits (recordAt (now (ws .entry)) at) ⌝ }
+{
+    if object::kind(ws[at]) != 3 {
+        return true;
+    }
+    let body = at + 1;
+    let addresses = body + 3;
+    end - addresses <= 0xFFFF
+}
+
+// A record, by its kind.
+fn put_record(out: &mut [u8], ws: &[u32], at: usize, end: usize) -> usize
+    requires { ⌜ Stands (now ws) at end × (length (recordBytes (recordAt (now ws) at)) ≤ length (now out)) ⌝ }
+    ensures { λ r. ⌜ Put (recordBytes (recordAt (now (ws .entry)) at)) (now (out .entry)) r (now (out .exit)) ⌝ }
+{
+    let k = object::kind(ws[at]);
+    if k == 0 {
+        return put_block(out, ws, at, end);
+    }
+    if k == 2 {
+        return put_label(out, ws, at, end);
+    }
+    if k == 3 {
+        return put_lines(out, ws, at, end);
+    }
+    if k == 4 {
+        return put_source(out, ws, at, end);
+    }
+    put_relocation(out, ws, at, end)
+}
+
+// What is asked of a well formed object before it is written after `used` bytes into a buffer of length `room`: 2, then 3, or 0.
+fn measure(ws: &[u32], used: usize, room: usize) -> u8
+    requires { ⌜ checked (now ws) ≡ 0 ⌝ }
+    ensures { λ r. ⌜ r ≡ roomNumber (now (ws .entry)) used room ⌝ }
+{
+    let whole = Room {
+        left: room,
+        short: false,
+    };
+    let mut space = whole.take(used);
+    let mut at = 0;
+    while at < ws.len() {
+        let end = object::body_end(ws, at + 1);
+        if !count_fits(ws, at, end) {
+            return 2;
+        }
+        let n = record_len(ws, at, end);
+        space = space.take(n);
+        at = end;
+    }
+    if space.short {
+        return 3;
+    }
+    0
+}
+
+// The records of a well formed object, one after the other.
+fn put_records(out: &mut [u8], ws: &[u32]) -> usize
+    requires { ⌜ (checked (now ws) ≡ 0) × (length (bytesIn (now ws)) ≤ length (now out)) ⌝ }
+    ensures { λ r. ⌜ Put (bytesIn (now (ws .entry))) (now (out .entry)) r (now (out .exit)) ⌝ }
+{
+    let mut o = 0;
+    let mut at = 0;
+    while at < ws.len() {
+        let end = object::body_end(ws, at + 1);
+        o += put_record(&mut out[o..], ws, at, end);
+        at = end;
+    }
+    o
+}
+
+// The file of an object: the bytes `front`, then its records, in the object's own order.
+pub fn write_file(object: &[u32], front: &[u8], out: &mut [u8]) -> Filled
+    ensures { λ r. ⌜ WritesAfter (now (front .entry)) (now (object .entry)) (now (out .entry)) (filledOf r (now (out .exit))) ⌝ }
+{
+    let n = object::check(object);
+    if n != 0 {
+        return Filled::refused(n);
+    }
+    let m = measure(object, front.len(), out.len());
+    if m != 0 {
+        return Filled::refused(m);
+    }
+    let mut at = 0;
+    at += put_bytes(&mut out[at..], front);
+    at += put_records(&mut out[at..], object);
+    Filled::given(at)
+}
