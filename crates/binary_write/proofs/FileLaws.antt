@@ -1,14 +1,14 @@
 -- What a binary write comes to, by the numbers of the check and of the measuring. Assumes nothing.
 use mathlib.Core.Path.{_≡_, refl, sym, ap, ap₂, subst, _∙_}
-use mathlib.Core.Bool.{Bool, true, false}
+use mathlib.Core.Bool.{Bool, true}
 use mathlib.Core.List.{List, [], _++_, flatMap}
-use Prim.Native.Nat.{ℕ, _+_, _≤_, _<_}
+use Prim.Native.Nat.{ℕ, _+_, _≤_}
 use native.Mathlib.Omega.{arith}
 use lib.ListN.{length, length-append}
 use lib.Dec.{leb}
 use borrow.Author.Tests.{leb-true, leb-false}
-use Rattle.format.specs.Basics.{Outcome, refused, given, _>>=_, ask, if_then_else_, every}
-use Rattle.format.specs.ObjectFile.{ObjectFile, Label, Relocation}
+use Rattle.format.specs.Basics.{Outcome, refused, given, _>>=_, ask, every}
+use Rattle.format.specs.ObjectFile.{ObjectFile}
 use Rattle.format.specs.Records.{recordsOf, placed}
 use Rattle.format.specs.Words.{objectOf}
 use Rattle.format.specs.Binary.{recordBytes, countsFit}
@@ -41,6 +41,7 @@ module _ (front ws buffer : List ℕ) (n : ℕ) (e : n ≡ checked ws) (some : n
     where
       rest : ObjectFile → Outcome (List ℕ)
       rest o = ask 2 (countsFit o) >>= λ _. given (front ++ flatMap recordBytes (recordsOf (inOrder o [] [])))
+
       clashing : {o : ObjectFile} → objectOf ws ≡ given o → _≡_ {A = ℕ} 0 1
       clashing q = let p : refused n ≡ given _ = sym not-formed ∙ q in cc
 

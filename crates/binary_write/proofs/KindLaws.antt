@@ -1,14 +1,14 @@
 -- A record that stands at a place, by its kind: what it is, where its lists end, and how many bytes it has. Assumes nothing.
-use mathlib.Core.Path.{_≡_, refl, sym, ap, subst, _∙_}
-use mathlib.Core.Bool.{Bool, true, false}
-use mathlib.Core.List.{List, [], _∷_, _++_, map, flatMap}
+use mathlib.Core.Path.{_≡_, refl, sym, ap, _∙_}
+use mathlib.Core.Bool.{true}
+use mathlib.Core.List.{List, [], _∷_, map}
 use mathlib.Core.Option.{Option, none, some}
-use Prim.Native.Nat.{ℕ, _+_, _-_, _*_, _/_, _%_, _^_, _≤_, _<_}
+use Prim.Native.Nat.{ℕ, _+_, _-_, _*_, _/_, _%_, _^_}
 use native.Mathlib.Omega.{arith}
 use lib.ListN.{length, getD}
 use lib.Dec.{leb, eqb}
 use borrow.Author.Tests.{eq-eqb, ne-eqb, eqb-true, eqb-false}
-use Rattle.format.specs.Basics.{Outcome, given, _>>=_, ask, if_then_else_}
+use Rattle.format.specs.Basics.{given, _>>=_}
 use Rattle.format.specs.Digits.{digitsOf}
 use Rattle.format.specs.Records.{Record, block, label, lineBlock, source, relocation}
 use Rattle.format.specs.Words.{bitsOf, numberFrom, textFrom, addressesOf, recordFrom}
@@ -16,14 +16,14 @@ use Rattle.format.specs.Binary.{memoryBytes, recordBytes}
 use Rattle.format.proofs.ListLaws.{by-test}
 use Rattle.format.proofs.WordsOnly.{bind-given, given-same}
 use Rattle.format.proofs.Laws.{digits-length}
-use Rattle.object.specs.Bodies.{bodyAt, textAt, numberAt, Text}
+use Rattle.object.specs.Bodies.{bodyAt, textAt}
 use Rattle.object.specs.Texts.{textLen}
 use Rattle.object.specs.Access.{memoryIn, addressIn, kindAt, blockAt, labelAt, lineBlockAt, relocationAt, recordAt}
 use Rattle.object.proofs.WordLaws.{head-kind}
 use Rattle.object.proofs.ByteLaws.{text-len}
 use Rattle.object.proofs.AccessLaws.{number-is, label-is, line-is, source-is, relocation-is}
 use Rattle.writing.proofs.EachLaws.{length-flatMap}
-use Rattle.binary_write.specs.Files.{Ends, TextEnds, Stands, sized, countFits}
+use Rattle.binary_write.specs.Files.{Ends, TextEnds, Stands, countFits}
 use Rattle.binary_write.proofs.PlaceLaws.{length-map}
 
 -- a number has three words
@@ -49,6 +49,9 @@ module _ (ws : List ℕ) (at end : ℕ) (s : Stands ws at end) where
   abbrev body : List ℕ
   body = bodyAt ws (at + 1)
 
+  abbrev it : Record
+  it = recordAt ws at
+
   -- the words after a number end where the record ends
   after-number : (p : ℕ × List ℕ) → numberFrom body ≡ given p → Ends ws (at + 1 + 3) end
   after-number p e =
@@ -64,29 +67,28 @@ module _ (ws : List ℕ) (at end : ℕ) (s : Stands ws at end) where
   label-here e =
       let make : ℕ → ℕ → List ℕ → Record = λ x n t. label (record
       { name = t; address = x % 2 ^ 16; external = leb (2 ^ 16) x; start = n }) in
-      let q : (bitsOf 2 (2 ^ 17) w >>= λ x. numberFrom body >>= λ n. textFrom (n .1) >>= λ t. given (make x (n .0) t)) ≡ given (recordAt ws at)
+      let q : (bitsOf 2 (2 ^ 17) w >>= λ x. numberFrom body >>= λ n. textFrom (n .1) >>= λ t. given (make x (n .0) t)) ≡ given it
       = simp (ne-eqb (w / 2 ^ 29) 0 (λ z. omega arith), eq-eqb (w / 2 ^ 29) 2 e) at (s .reads) in
-      let f = bind-given (bitsOf 2 (2 ^ 17) w) (λ x. numberFrom body >>= λ n. textFrom (n .1) >>= λ t. given (make x (n .0) t)) (recordAt ws at)
-      q in
-      let g = bind-given (numberFrom body) (λ n. textFrom (n .1) >>= λ t. given (make (f .0) (n .0) t)) (recordAt ws at) (f .2) in
-      let l = label-is ws at (recordAt ws at) (s .reads) e in
+      let f = bind-given (bitsOf 2 (2 ^ 17) w) (λ x. numberFrom body >>= λ n. textFrom (n .1) >>= λ t. given (make x (n .0) t)) it q in
+      let g = bind-given (numberFrom body) (λ n. textFrom (n .1) >>= λ t. given (make (f .0) (n .0) t)) it (f .2) in
+      let l = label-is ws at it (s .reads) e in
       (l .0, (l .1, after-number (g .0) (g .1)))
 
   pub line-here : k ≡ 3 → (recordAt ws at ≡ lineBlock (lineBlockAt ws at)) × Ends ws (at + 1 + 3) end
   unfolding recordFrom
   line-here e =
       let make : ℕ → List ℕ → Record = λ n xs. lineBlock (record { first = n; addresses = xs }) in
-      let q : (bitsOf 3 1 w >>= λ _. numberFrom body >>= λ n. addressesOf (n .1) >>= λ xs. given (make (n .0) xs)) ≡ given (recordAt ws at)
+      let q : (bitsOf 3 1 w >>= λ _. numberFrom body >>= λ n. addressesOf (n .1) >>= λ xs. given (make (n .0) xs)) ≡ given it
       = simp (ne-eqb (w / 2 ^ 29) 0 (λ z. omega arith), ne-eqb (w / 2 ^ 29) 2 (λ z. omega arith), eq-eqb (w / 2 ^ 29) 3 e) at (s .reads) in
-      let f = bind-given (bitsOf 3 1 w) _ (recordAt ws at) q in
-      let g = bind-given (numberFrom body) _ (recordAt ws at) (f .2) in
-      (line-is ws at (recordAt ws at) (s .reads) e, after-number (g .0) (g .1))
+      let f = bind-given (bitsOf 3 1 w) _ it q in
+      let g = bind-given (numberFrom body) _ it (f .2) in
+      (line-is ws at it (s .reads) e, after-number (g .0) (g .1))
 
   pub source-here : k ≡ 4 → (recordAt ws at ≡ source (textAt ws (at + 1))) × TextEnds ws (at + 1) end
-  source-here e = let l = source-is ws at (recordAt ws at) (s .reads) e in (l .0, (l .1, s .ends))
+  source-here e = let l = source-is ws at it (s .reads) e in (l .0, (l .1, s .ends))
 
   pub relocation-here : k ≡ 5 → (recordAt ws at ≡ relocation (relocationAt ws at)) × TextEnds ws (at + 1) end
-  relocation-here e = let l = relocation-is ws at (recordAt ws at) (s .reads) e in (l .0, (l .1, s .ends))
+  relocation-here e = let l = relocation-is ws at it (s .reads) e in (l .0, (l .1, s .ends))
 
   -- no other kind begins a record
   pub kind-5 : (k ≡ 0 → ⊥) → (k ≡ 2 → ⊥) → (k ≡ 3 → ⊥) → (k ≡ 4 → ⊥) → k ≡ 5

@@ -1,13 +1,12 @@
 -- The measuring walk: what is left to measure, and the number that it comes to. Assumes nothing.
-use mathlib.Core.Path.{_≡_, refl, sym, ap, ap₂, subst, _∙_}
-use mathlib.Core.Bool.{Bool, true, false, _&&_}
-use mathlib.Core.List.{List, [], _∷_, _++_, flatMap}
+use mathlib.Core.Path.{_≡_, refl, sym, ap, subst, _∙_}
+use mathlib.Core.Bool.{true, false, _&&_}
+use mathlib.Core.List.{List, [], _∷_, flatMap}
 use Prim.Native.Nat.{ℕ, _+_, _≤_, _<_}
 use native.Mathlib.Omega.{arith}
 use lib.ListN.{length, length-append}
-use lib.Dec.{leb}
 use borrow.Author.Tests.{le-leb, lt-leb}
-use Rattle.format.specs.Basics.{if_then_else_, every}
+use Rattle.format.specs.Basics.{every}
 use Rattle.format.specs.Records.{Record}
 use Rattle.format.specs.Binary.{recordBytes}
 use Rattle.format.specs.Calls.{checked}
@@ -44,7 +43,8 @@ first-every : (r : Record) (rs : List Record) → every countFits (r ∷ rs) ≡
 unfolding every
 first-every r rs = refl
 
-first-bytes : (r : Record) (rs : List Record) → length (flatMap recordBytes (r ∷ rs)) ≡ length (recordBytes r) + length (flatMap recordBytes rs)
+first-bytes : (r : Record) (rs : List Record)
+    → length (flatMap recordBytes (r ∷ rs)) ≡ length (recordBytes r) + length (flatMap recordBytes rs)
 unfolding flatMap
 first-bytes r rs = length-append (recordBytes r) (flatMap recordBytes rs)
 

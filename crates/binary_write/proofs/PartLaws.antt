@@ -1,5 +1,5 @@
 -- The parts of a record, element by element. Assumes nothing.
-use mathlib.Core.Path.{_≡_, refl, sym, ap, ap₂, _∙_}
+use mathlib.Core.Path.{_≡_, sym, ap, ap₂, _∙_}
 use mathlib.Core.List.{List, [], _∷_, _++_, flatMap}
 use Prim.Native.Nat.{ℕ, _+_, _*_, _/_, _%_, _^_, _≤_, _<_}
 use native.Mathlib.Omega.{arith}
@@ -27,7 +27,8 @@ memory-bytes w =
     by-test (eqb (w % 2 ^ 29) 0)
     (λ t. let z = eqb-true (w % 2 ^ 29) 0 t in
     let a : 0 ≡ w % 256 = omega arith in
-    let b : 0 ≡ w / 256 % 256 = sym (low-byte (w / 256) (2 ^ 13 * (w / 2 ^ 29)) 0 (omega arith)) in simp t (ap₂ (λ x y. 0 ∷ x ∷ y ∷ []) a b))
+    let b : 0 ≡ w / 256 % 256 = sym (low-byte (w / 256) (2 ^ 13 * (w / 2 ^ 29)) 0 (omega arith)) in
+    simp t (ap₂ (λ x y. 0 ∷ x ∷ y ∷ []) a b))
     (λ t. let a : w % 2 ^ 16 % 256 ≡ w % 256 = omega arith in
     simp t (ap₂ (λ x y. 0xFF ∷ x ∷ y ∷ []) a (high-byte w)))
 

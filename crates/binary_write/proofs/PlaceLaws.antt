@@ -2,7 +2,7 @@
 use mathlib.Core.Path.{_≡_, refl, sym, ap, ap₂, subst, _∙_}
 use mathlib.Core.Bool.{Bool, true, false}
 use mathlib.Core.List.{List, [], _∷_, _++_, append-nil, map, flatMap}
-use Prim.Native.Nat.{ℕ, suc, _+_, _-_, _*_, _/_, _%_, _^_, _≤_, _<_}
+use Prim.Native.Nat.{ℕ, suc, _+_, _-_, _*_, _/_, _%_, _^_}
 use native.Mathlib.Omega.{arith}
 use lib.ListN.{length, take, drop}
 use borrow.Rule.Slice.PartMut.{midOf}
@@ -50,8 +50,10 @@ low-bytes n = ap₂ (λ x y. x ∷ y ∷ []) low high
   where
     low : n % 2 ^ 16 % 256 ≡ n % 256
     low = omega arith
+
     carry : (m k d : ℕ) → m ≡ 256 * k + d → m % 256 ≡ d % 256
     carry m k d e = omega arith
+
     high : n % 2 ^ 16 / 256 % 256 ≡ n / 256 % 256
     high = sym (carry (n / 256) (n / 2 ^ 16) (n % 2 ^ 16 / 256) (omega arith))
 

@@ -62,9 +62,10 @@ module _ (ws : List ℕ) (i : ℕ) where
       let x = getD ws (i + 1) 0 in
       let here = drop-at-place 0 ws i (omega arith) in
       let next = drop-at-place 0 ws (i + 1) h in
-      let both : drop i ws ≡ w ∷ x ∷ drop (i + 1 + 1) ws = here ∙ ap (λ xs. w ∷ xs) next in
-      (ap textOf both ∙ full w x (drop (i + 1 + 1) ws) (subst Text both t) ∙ ap (λ xs. digitsOf 8 3 w ++ textOf xs) (sym next),
-      text-rest w (drop (i + 1) ws) (subst Text here t))
+      let both : drop i ws ≡ w ∷ x ∷ drop (i + 1 + 1) ws = here ∙ ap (λ xs. w ∷ xs) next in (
+        ap textOf both ∙ full w x (drop (i + 1 + 1) ws) (subst Text both t) ∙ ap (λ xs. digitsOf 8 3 w ++ textOf xs) (sym next),
+        text-rest w (drop (i + 1) ws) (subst Text here t),
+      )
 
   pub text-last : i + 1 ≡ length ws → drop i ws ≡ getD ws i 0 ∷ []
   text-last h = drop-at-place 0 ws i (omega arith) ∙ ap (λ xs. getD ws i 0 ∷ xs) (drop-of-length-le ws {i = i + 1} (omega arith))

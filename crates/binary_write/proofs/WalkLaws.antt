@@ -1,28 +1,25 @@
 -- A walk along the records of a well formed object: what is left from a head on. Assumes nothing.
-use mathlib.Core.Path.{_≡_, refl, sym, ap, ap₂, subst, _∙_}
-use mathlib.Core.Bool.{Bool, true, false, _&&_}
-use mathlib.Core.List.{List, [], _∷_, _++_, flatMap}
+use mathlib.Core.Path.{_≡_, refl, sym, ap, subst, _∙_}
+use mathlib.Core.Bool.{_&&_}
+use mathlib.Core.List.{List, [], _∷_}
 use Prim.Native.Nat.{ℕ, _+_, _≤_, _<_}
 use native.Mathlib.Omega.{arith}
-use lib.ListN.{length, getD, length-append}
+use lib.ListN.{length}
 use lib.Dec.{leb}
-use borrow.Author.Tests.{le-leb, lt-leb}
-use Rattle.format.specs.Basics.{Outcome, refused, given, _>>=_, ask, if_then_else_, givenOr, every}
-use Rattle.format.specs.ObjectFile.{ObjectFile, Label, Relocation}
+use Rattle.format.specs.Basics.{given, givenOr, every}
+use Rattle.format.specs.ObjectFile.{ObjectFile}
 use Rattle.format.specs.Records.{Record, block, label, lineBlock, source, relocation, recordKey, recordsOf, placed, emptyObject}
-use Rattle.format.specs.Words.{recordFrom, recordsFrom, objectOf}
-use Rattle.format.specs.Binary.{recordBytes, countsFit}
-use Rattle.format.specs.Calls.{Filled, checked, fill, OrdersOf}
-use Rattle.format.proofs.ListLaws.{by-test, unchanged}
+use Rattle.format.specs.Words.{recordsFrom, objectOf}
+use Rattle.format.specs.Binary.{countsFit}
+use Rattle.format.specs.Calls.{checked}
 use Rattle.format.proofs.RisesLaws.{rises-type}
 use Rattle.format.proofs.RecordLaws.{records-placed}
-use Rattle.format.proofs.WordsOnly.{given-same}
 use Rattle.object.specs.Bodies.{bodyAt, groupsAt}
 use Rattle.object.specs.Access.{recordAt}
 use Rattle.object.proofs.BodyLaws.{head-at, body-fits}
-use Rattle.object.proofs.Formed.{Formed, formed, Held, held}
+use Rattle.object.proofs.Formed.{formed, Held, held}
 use Rattle.object.proofs.AccessLaws.{next, done, record-is}
-use Rattle.binary_write.specs.Files.{Stands, recordsIn, bytesIn, countFits, roomNumber, fileAfter, WritesAfter}
+use Rattle.binary_write.specs.Files.{Stands, recordsIn, countFits}
 
 -- these records are left from a place on, where a head stands or the end
 pub record From (ws : List ℕ) (at : ℕ) (rs : List Record) : Type 0 where
@@ -77,7 +74,8 @@ module _ (ws : List ℕ) (z : checked ws ≡ 0) where
 
   pub in-order : recordsOf (placed (recordsIn ws)) ≡ recordsIn ws
   in-order =
-      subst (λ rs. recordsOf (placed rs) ≡ rs) records-are (records-placed (is-held .records) (rises-type recordKey (is-held .records) (is-held .rising)))
+      subst (λ rs. recordsOf (placed rs) ≡ rs) records-are
+      (records-placed (is-held .records) (rises-type recordKey (is-held .records) (is-held .rising)))
 
 -- the counts of all line blocks, record by record
 pub counts-placed : (rs : List Record) → countsFit (placed rs) ≡ every countFits rs

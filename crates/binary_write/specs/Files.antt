@@ -11,6 +11,7 @@ use Rattle.format.specs.Records.{Record, block, label, lineBlock, source, reloc
 use Rattle.format.specs.Words.{isHead, textFrom, recordFrom, recordsFrom, objectOf}
 use Rattle.format.specs.Binary.{numberBytes, memoryBytes, recordBytes, countsFit}
 use Rattle.format.specs.Calls.{Filled, OrdersOf, inOrder, fill}
+use Rattle.writing.specs.Written.{Put}
 use Rattle.object.specs.Bodies.{bodyAt, groupsAt, Text}
 use Rattle.object.specs.Access.{memoryIn, addressIn, recordAt}
 
@@ -65,6 +66,14 @@ pub record Stands (ws : List ℕ) (at end : ℕ) : Type 0 where
   pub begins : isHead (getD ws at 0) ≡ true
   pub reads : recordFrom (getD ws at 0, bodyAt ws (at + 1)) ≡ given (recordAt ws at)
   pub ends : Ends ws (at + 1) end
+
+-- there is room for a record
+abbrev pub RoomFor : Record → List ℕ → Type 0
+RoomFor r room = length (recordBytes r) ≤ length room
+
+-- what the writer of a record returns and leaves in the room
+abbrev pub PutRecord : Record → List ℕ → ℕ → List ℕ → Type 0
+PutRecord r room n after = Put (recordBytes r) room n after
 
 -- the records of well formed words, and their bytes
 unfoldable pub recordsIn : List ℕ → List Record

@@ -11,16 +11,16 @@ ghost use Rattle.format.specs.Calls.{checked};
 ghost use Rattle.units.specs.Filled.{filledOf};
 ghost use Rattle.writing.specs.Written.{Put};
 ghost use Rattle.object.specs.Bodies.{Text, textAt};
-ghost use Rattle.object.specs.Access.{kindAt, blockAt, labelAt, lineBlockAt, relocationAt, recordAt};
+ghost use Rattle.object.specs.Access.{blockAt, labelAt, lineBlockAt, relocationAt, recordAt};
 ghost use Rattle.binary_write.specs.Files.{WritesAfter, flagOf, memoryPart, addressPart, textOf, sized, Ends, TextEnds, Stands};
-ghost use Rattle.binary_write.specs.Files.{bytesIn, countFits, roomNumber};
+ghost use Rattle.binary_write.specs.Files.{RoomFor, PutRecord, bytesIn, countFits, roomNumber};
 ghost use Rattle.binary_write.specs.Rooms.{Takes};
 use units::Filled;
 use writing::put_bytes;
+use writing::put_u8;
 use writing::put_u16_be;
 use writing::put_u16_le;
 use writing::put_u64_le;
-use writing::put_u8;
 
 // What is left of a buffer; once it is too short it stays so.
 struct Room {
@@ -155,8 +155,8 @@ fn put_sized(out: &mut [u8], words: &[u32]) -> usize
 
 // A block: its kind, address, count and memory words.
 fn put_block(out: &mut [u8], ws: &[u32], at: usize, end: usize) -> usize
-    requires { ⌜ (at < length (now ws)) × Ends (now ws) (at + 1) end × (length (recordBytes (block (blockAt (now ws) at))) ≤ length (now out)) ⌝ }
-    ensures { λ r. ⌜ Put (recordBytes (block (blockAt (now (ws .entry)) at))) (now (out .entry)) r (now (out .exit)) ⌝ }
+    requires { ⌜ (at < length (now ws)) × Ends (now ws) (at + 1) end × RoomFor (block (blockAt (now ws) at)) (now out) ⌝ }
+    ensures { λ r. ⌜ PutRecord (block (blockAt (now (ws .entry)) at)) (now (out .entry)) r (now (out .exit)) ⌝ }
 {
     let body = at + 1;
     let count = ((end - body) % 0x1_0000) as u16;
@@ -180,8 +180,8 @@ fn external(w: u32) -> u8
 
 // A label: its kind, address, whether it is external, source start, and its name with the length.
 fn put_label(out: &mut [u8], ws: &[u32], at: usize, end: usize) -> usize
-    requires { ⌜ (at < length (now ws)) × TextEnds (now ws) (at + 1 + 3) end × (length (recordBytes (label (labelAt (now ws) at))) ≤ length (now out)) ⌝ }
-    ensures { λ r. ⌜ Put (recordBytes (label (labelAt (now (ws .entry)) at))) (now (out .entry)) r (now (out .exit)) ⌝ }
+    requires { ⌜ (at < length (now ws)) × TextEnds (now ws) (at + 1 + 3) end × RoomFor (label (labelAt (now ws) at)) (now out) ⌝ }
+    ensures { λ r. ⌜ PutRecord (label (labelAt (now (ws .entry)) at)) (now (out .entry)) r (now (out .exit)) ⌝ }
 {
     let body = at + 1;
     let name = body + 3;
@@ -197,8 +197,8 @@ fn put_label(out: &mut [u8], ws: &[u32], at: usize, end: usize) -> usize
 
 // A line block: its kind, first line, count and addresses.
 fn put_lines(out: &mut [u8], ws: &[u32], at: usize, end: usize) -> usize
-    requires { ⌜ (at < length (now ws)) × Ends (now ws) (at + 1 + 3) end × (length (recordBytes (lineBlock (lineBlockAt (now ws) at))) ≤ length (now out)) ⌝ }
-    ensures { λ r. ⌜ Put (recordBytes (lineBlock (lineBlockAt (now (ws .entry)) at))) (now (out .entry)) r (now (out .exit)) ⌝ }
+    requires { ⌜ (at < length (now ws)) × Ends (now ws) (at + 1 + 3) end × RoomFor (lineBlock (lineBlockAt (now ws) at)) (now out) ⌝ }
+    ensures { λ r. ⌜ PutRecord (lineBlock (lineBlockAt (now (ws .entry)) at)) (now (out .entry)) r (now (out .exit)) ⌝ }
 {
     let body = at + 1;
     let addresses = body + 3;
@@ -214,8 +214,8 @@ fn put_lines(out: &mut [u8], ws: &[u32], at: usize, end: usize) -> usize
 
 // The source: its kind, and its text with the length.
 fn put_source(out: &mut [u8], ws: &[u32], at: usize, end: usize) -> usize
-    requires { ⌜ (at < length (now ws)) × TextEnds (now ws) (at + 1) end × (length (recordBytes (source (textAt (now ws) (at + 1)))) ≤ length (now out)) ⌝ }
-    ensures { λ r. ⌜ Put (recordBytes (source (textAt (now (ws .entry)) (at + 1)))) (now (out .entry)) r (now (out .exit)) ⌝ }
+    requires { ⌜ (at < length (now ws)) × TextEnds (now ws) (at + 1) end × RoomFor (source (textAt (now ws) (at + 1))) (now out) ⌝ }
+    ensures { λ r. ⌜ PutRecord (source (textAt (now (ws .entry)) (at + 1))) (now (out .entry)) r (now (out .exit)) ⌝ }
 {
     let body = at + 1;
     let mut o = 0;
@@ -226,8 +226,8 @@ fn put_source(out: &mut [u8], ws: &[u32], at: usize, end: usize) -> usize
 
 // A relocation: its kind, address, high byte first, and its name with the length.
 fn put_relocation(out: &mut [u8], ws: &[u32], at: usize, end: usize) -> usize
-    requires { ⌜ (at < length (now ws)) × TextEnds (now ws) (at + 1) end × (length (recordBytes (relocation (relocationAt (now ws) at))) ≤ length (now out)) ⌝ }
-    ensures { λ r. ⌜ Put (recordBytes (relocation (relocationAt (now (ws .entry)) at))) (now (out .entry)) r (now (out .exit)) ⌝ }
+    requires { ⌜ (at < length (now ws)) × TextEnds (now ws) (at + 1) end × RoomFor (relocation (relocationAt (now ws) at)) (now out) ⌝ }
+    ensures { λ r. ⌜ PutRecord (relocation (relocationAt (now (ws .entry)) at)) (now (out .entry)) r (now (out .exit)) ⌝ }
 {
     let body = at + 1;
     let mut o = 0;
@@ -275,8 +275,8 @@ fn count_fits(ws: &[u32], at: usize, end: usize) -> bool
 
 // A record, by its kind.
 fn put_record(out: &mut [u8], ws: &[u32], at: usize, end: usize) -> usize
-    requires { ⌜ Stands (now ws) at end × (length (recordBytes (recordAt (now ws) at)) ≤ length (now out)) ⌝ }
-    ensures { λ r. ⌜ Put (recordBytes (recordAt (now (ws .entry)) at)) (now (out .entry)) r (now (out .exit)) ⌝ }
+    requires { ⌜ Stands (now ws) at end × RoomFor (recordAt (now ws) at) (now out) ⌝ }
+    ensures { λ r. ⌜ PutRecord (recordAt (now (ws .entry)) at) (now (out .entry)) r (now (out .exit)) ⌝ }
 {
     let k = object::kind(ws[at]);
     if k == 0 {

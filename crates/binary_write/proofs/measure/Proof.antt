@@ -1,12 +1,10 @@
 use borrow.Author.Needs.{needs}
 use native.Mathlib.Omega.{arith}
-use mathlib.Core.Path.{_≡_, sym, _∙_}
-use mathlib.Core.List.{List}
+use mathlib.Core.Path.{sym, _∙_}
 use Prim.Native.Nat.{ℕ, _-_}
 use lib.ListN.{length}
 use denote.Ref.{now}
 use borrow.Author.Tests.{not-true, not-false}
-use Rattle.object.proofs.Tests.{clash}
 use Rattle.binary_write.proofs.WalkLaws.{Turn, turn}
 use Rattle.binary_write.proofs.MeasureLaws.{Measures, begins, goes-on, too-many, is-short, is-enough}
 use Rattle.binary_write.proofs.measure.Statement.{statement}

@@ -1,6 +1,6 @@
 -- What is left of the words is what is left to emit, two bytes a word. Assumes nothing.
 use borrow.Author.Needs.{needs}
-use mathlib.Core.Path.{_≡_, refl, ap, sym, _∙_}
+use mathlib.Core.Path.{_≡_, refl}
 use mathlib.Core.List.{List, _∷_}
 use Prim.Native.Nat.{ℕ, _+_, _/_, _%_, _≤_, _-_}
 use native.Mathlib.Omega.{arith}

@@ -1,22 +1,19 @@
 -- Its kind, address, count and memory words, one after the other. Assumes nothing.
 use borrow.Author.Needs.{needs}
-use mathlib.Core.Path.{_≡_, refl, sym, ap, ap₂, subst, _∙_}
-use mathlib.Core.List.{List, [], _∷_, _++_, append-nil, reverse, map, flatMap}
-use Prim.Native.Nat.{ℕ, _+_, _-_, _%_, _^_, _≤_, _<_}
-use native.Mathlib.Omega.{arith}
+use mathlib.Core.Path.{_≡_, refl, ap}
+use mathlib.Core.List.{List, [], _++_, map, flatMap}
+use Prim.Native.Nat.{ℕ, _+_, _-_, _%_, _^_}
 use lib.ListN.{length, getD}
-use lib.Dec.{leb}
 use denote.Ref.{now}
 use Rattle.format.specs.Digits.{digitsOf}
-use Rattle.writing.proofs.Parts.{State, Emits, after, begin, emit, emitted, within, small, same}
-use Rattle.format.specs.Words.{flagBit}
-use Rattle.format.specs.Records.{block, label, lineBlock, source, relocation}
+use Rattle.writing.proofs.Parts.{State, Emits, after, begin, emit, emitted, within, small}
+use Rattle.format.specs.Records.{block}
 use Rattle.format.specs.Binary.{recordBytes, memoryBytes}
-use Rattle.object.specs.Bodies.{bodyAt, textAt, numberAt}
-use Rattle.object.specs.Access.{memoryIn, addressIn, blockAt, labelAt, lineBlockAt, relocationAt}
-use Rattle.binary_write.specs.Files.{memoryPart, addressPart, textOf, sized}
+use Rattle.object.specs.Bodies.{bodyAt}
+use Rattle.object.specs.Access.{memoryIn, blockAt}
+use Rattle.binary_write.specs.Files.{memoryPart}
 use Rattle.binary_write.proofs.RoomLaws.{lent-part}
-use Rattle.binary_write.proofs.PlaceLaws.{slice, memory-slice, address-slice, text-slice, text-there, count-bytes, flag-byte}
+use Rattle.binary_write.proofs.PlaceLaws.{slice, memory-slice, count-bytes}
 use Rattle.binary_write.proofs.put_block.Statement.{statement}
 use Rattle.binary_write.proofs.put_block.Tie as tie
 
@@ -27,6 +24,12 @@ module _ (s : tie.Start) where
 
   abbrev at : ℕ
   at = s .args .at
+
+  abbrev place : ℕ
+  place = at + 1
+
+  abbrev end : ℕ
+  end = s .args .end
 
   abbrev head : List ℕ
   head = digitsOf 8 2 (getD ws at 0 % 2 ^ 16)
@@ -41,13 +44,23 @@ module _ (s : tie.Start) where
   left4 = []
 
   abbrev left3 : List ℕ
-  left3 = flatMap memoryBytes (map memoryIn (bodyAt ws (at + 1)))
+  left3 = flatMap memoryBytes (map memoryIn (bodyAt ws place))
 
   abbrev left2 : List ℕ
-  left2 = digitsOf 8 2 (length (map memoryIn (bodyAt ws (at + 1)))) ++ left3
+  left2 = digitsOf 8 2 (length (map memoryIn (bodyAt ws place))) ++ left3
 
   abbrev left1 : List ℕ
   left1 = head ++ left2
+
+  -- the words, as they are lent
+  abbrev words : List ℕ
+  words = slice ws place end (s .pre .1)
+
+  last-part : left3 ≡ memoryPart words ++ []
+  last-part = memory-slice ws place end (s .pre .1)
+
+  count-part : left2 ≡ digitsOf 8 2 ((end - place) % 2 ^ 16) ++ left3
+  count-part = ap (λ d. d ++ left3) (count-bytes ws place end (s .pre .1) memoryIn)
 
 abbrev start1 : tie.After-put-u8 → tie.Start
 start1 c = c .before .before .before .before
@@ -75,7 +88,7 @@ abbrev state3 : tie.After-put-u16-le2 → State ℕ
 state3 c = after (state2 (c .before .before .before .before)) (c .put-u16-le2 .result) (c .put-u16-le2 .last .0)
 
 emits3 : (c : tie.After-put-u16-le2) → Emits (whole (start3 c)) (room (start3 c)) (left3 (start3 c)) (state3 c)
-emits3 c = let s = start3 c in emit (emits2 (c .before .before .before .before)) _ _ (ap (λ d. d ++ left3 s) (count-bytes (ws s) (at s + 1) (s .args .end) (s .pre .1) memoryIn)) (c .put-u16-le2 .ensures)
+emits3 c = emit (emits2 (c .before .before .before .before)) _ _ (count-part (start3 c)) (c .put-u16-le2 .ensures)
 
 abbrev start4 : tie.After-put-memory → tie.Start
 start4 c = start3 (c .before .before .before .before .before)
@@ -84,10 +97,12 @@ abbrev state4 : tie.After-put-memory → State ℕ
 state4 c = after (state3 (c .before .before .before .before .before)) (c .put-memory .result) (c .put-memory .last .0)
 
 emits4 : (c : tie.After-put-memory) → Emits (whole (start4 c)) (room (start4 c)) (left4 (start4 c)) (state4 c)
-emits4 c = let s = start4 c in emit (emits3 (c .before .before .before .before .before)) _ _ (memory-slice (ws s) (at s + 1) (s .args .end) (s .pre .1)) (c .put-memory .ensures)
+emits4 c = emit (emits3 (c .before .before .before .before .before)) _ _ (last-part (start4 c)) (c .put-memory .ensures)
 
 put-memory-requires : tie.Need-put-memory-requires
-put-memory-requires c κs = let u = c .before .before .before .before in let s = start3 u in lent-part (emits3 u) (memoryPart (slice (ws s) (at s + 1) (s .args .end) (s .pre .1))) [] (memory-slice (ws s) (at s + 1) (s .args .end) (s .pre .1))
+put-memory-requires c κs =
+    let u = c .before .before .before .before in
+    let s = start3 u in lent-part (emits3 u) (memoryPart (words s)) [] (last-part s)
 
 returns : tie.Need-returns
 returns c = emitted (emits4 (c .before .before)) refl

@@ -1,22 +1,23 @@
 -- Its kind, address, whether it is external, source start, length and name, one after the other. Assumes nothing.
 use borrow.Author.Needs.{needs}
-use mathlib.Core.Path.{_≡_, refl, sym, ap, ap₂, subst, _∙_}
-use mathlib.Core.List.{List, [], _∷_, _++_, append-nil, reverse, map, flatMap}
-use Prim.Native.Nat.{ℕ, _+_, _-_, _%_, _^_, _≤_, _<_}
+use mathlib.Core.Path.{_≡_, refl, sym, ap, _∙_}
+use mathlib.Core.Bool.{Bool}
+use mathlib.Core.List.{List, [], _∷_, _++_}
+use Prim.Native.Nat.{ℕ, _+_, _-_, _%_, _^_}
 use native.Mathlib.Omega.{arith}
-use lib.ListN.{length, getD}
+use lib.ListN.{getD}
 use lib.Dec.{leb}
 use denote.Ref.{now}
 use Rattle.format.specs.Digits.{digitsOf}
 use Rattle.writing.proofs.Parts.{State, Emits, after, begin, emit, emitted, within, small, same}
 use Rattle.format.specs.Words.{flagBit}
-use Rattle.format.specs.Records.{block, label, lineBlock, source, relocation}
-use Rattle.format.specs.Binary.{recordBytes, memoryBytes}
-use Rattle.object.specs.Bodies.{bodyAt, textAt, numberAt}
-use Rattle.object.specs.Access.{memoryIn, addressIn, blockAt, labelAt, lineBlockAt, relocationAt}
-use Rattle.binary_write.specs.Files.{memoryPart, addressPart, textOf, sized}
+use Rattle.format.specs.Records.{label}
+use Rattle.format.specs.Binary.{recordBytes}
+use Rattle.object.specs.Bodies.{textAt, numberAt, Text}
+use Rattle.object.specs.Access.{labelAt}
+use Rattle.binary_write.specs.Files.{textOf, sized}
 use Rattle.binary_write.proofs.RoomLaws.{lent-part}
-use Rattle.binary_write.proofs.PlaceLaws.{slice, memory-slice, address-slice, text-slice, text-there, count-bytes, flag-byte}
+use Rattle.binary_write.proofs.PlaceLaws.{slice, text-slice, text-there, flag-byte}
 use Rattle.binary_write.proofs.put_label.Statement.{statement}
 use Rattle.binary_write.proofs.put_label.Tie as tie
 
@@ -28,8 +29,17 @@ module _ (s : tie.Start) where
   abbrev at : ℕ
   at = s .args .at
 
+  abbrev place : ℕ
+  place = at + 1 + 3
+
+  abbrev end : ℕ
+  end = s .args .end
+
   abbrev head : List ℕ
   head = digitsOf 8 2 (getD ws at 0 % 2 ^ 16)
+
+  abbrev external : Bool
+  external = leb (2 ^ 16) (getD ws at 0 % 2 ^ 29)
 
   abbrev room : List ℕ
   room = now (s .args .out)
@@ -41,16 +51,29 @@ module _ (s : tie.Start) where
   left5 = []
 
   abbrev left4 : List ℕ
-  left4 = sized (textAt ws (at + 1 + 3))
+  left4 = sized (textAt ws place)
 
   abbrev left3 : List ℕ
   left3 = digitsOf 8 8 (numberAt ws (at + 1)) ++ left4
 
   abbrev left2 : List ℕ
-  left2 = digitsOf 8 1 (flagBit (leb (2 ^ 16) (getD ws at 0 % 2 ^ 29))) ++ left3
+  left2 = digitsOf 8 1 (flagBit external) ++ left3
 
   abbrev left1 : List ℕ
   left1 = head ++ left2
+
+  -- the words, as they are lent
+  abbrev words : List ℕ
+  words = slice ws place end (s .pre .1 .1)
+
+  last-part : left4 ≡ sized (textOf words) ++ []
+  last-part = text-slice ws place end (s .pre .1 .1)
+
+  is-text : Text words
+  is-text = text-there ws place end (s .pre .1 .1) (s .pre .1 .0)
+
+  flag-part : (b : ℕ) → b ≡ flagBit external → left2 ≡ b ∷ left3
+  flag-part b e = ap (λ d. d ++ left3) (flag-byte external) ∙ ap (λ x. x ∷ left3) (sym e)
 
 abbrev start1 : tie.After-put-u8 → tie.Start
 start1 c = c .before .before .before .before .before
@@ -78,7 +101,7 @@ abbrev state3 : tie.After-put-u82 → State ℕ
 state3 c = after (state2 (c .before .before .before .before .before .before)) (c .put-u82 .result) (c .put-u82 .last .0)
 
 emits3 : (c : tie.After-put-u82) → Emits (whole (start3 c)) (room (start3 c)) (left3 (start3 c)) (state3 c)
-emits3 c = let s = start3 c in emit (emits2 (c .before .before .before .before .before .before)) _ _ (ap (λ d. d ++ left3 s) (flag-byte (leb (2 ^ 16) (getD (ws s) (at s) 0 % 2 ^ 29))) ∙ ap (λ b. b ∷ left3 s) (sym (c .before .external .ensures))) (c .put-u82 .ensures)
+emits3 c = emit (emits2 (c .before .before .before .before .before .before)) _ _ (flag-part (start3 c) _ (c .before .external .ensures)) (c .put-u82 .ensures)
 
 abbrev start4 : tie.After-put-u64-le → tie.Start
 start4 c = start3 (c .before .before .before .before)
@@ -87,7 +110,7 @@ abbrev state4 : tie.After-put-u64-le → State ℕ
 state4 c = after (state3 (c .before .before .before .before)) (c .put-u64-le .result) (c .put-u64-le .last .0)
 
 emits4 : (c : tie.After-put-u64-le) → Emits (whole (start4 c)) (room (start4 c)) (left4 (start4 c)) (state4 c)
-emits4 c = let s = start4 c in emit (emits3 (c .before .before .before .before)) _ _ (ap (λ n. digitsOf 8 8 n ++ left4 s) (sym (c .before .before .before .before .before .before .before .before .before .before .before .before .before .before .before .before .before .number-at .ensures))) (c .put-u64-le .ensures)
+emits4 c = emit (emits3 (c .before .before .before .before)) _ _ (ap (λ n. digitsOf 8 8 n ++ left4 (start4 c)) (sym (c .before .before .before .before .before .before .before .before .before .before .before .before .before .before .before .before .before .number-at .ensures))) (c .put-u64-le .ensures)
 
 abbrev start5 : tie.After-put-sized → tie.Start
 start5 c = start4 (c .before .before .before .before .before)
@@ -96,10 +119,11 @@ abbrev state5 : tie.After-put-sized → State ℕ
 state5 c = after (state4 (c .before .before .before .before .before)) (c .put-sized .result) (c .put-sized .last .0)
 
 emits5 : (c : tie.After-put-sized) → Emits (whole (start5 c)) (room (start5 c)) (left5 (start5 c)) (state5 c)
-emits5 c = let s = start5 c in emit (emits4 (c .before .before .before .before .before)) _ _ (text-slice (ws s) (at s + 1 + 3) (s .args .end) (s .pre .1 .1)) (c .put-sized .ensures)
+emits5 c = emit (emits4 (c .before .before .before .before .before)) _ _ (last-part (start5 c)) (c .put-sized .ensures)
 
 mul-put-sized : tie.Need-mul-put-sized
-mul-put-sized c = let s = start4 (c .before .before .before) in record { fits = omega (arith, s .pre .1 .1 .0, s .pre .1 .1 .1, s .good .1 .0 .1) }
+mul-put-sized c =
+    let s = start4 (c .before .before .before) in record { fits = omega (arith, s .pre .1 .1 .0, s .pre .1 .1 .1, s .good .1 .0 .1) }
 
 sub-put-sized-2 : tie.Need-sub-put-sized-2
 sub-put-sized-2 c = omega (arith, start4 (c .before .before .before) .pre .1 .1 .0)
@@ -108,7 +132,9 @@ part-put-sized-start-2 : tie.Need-part-put-sized-start-2
 part-put-sized-start-2 c = omega (arith, start4 (c .before .before .before) .pre .1 .1 .0)
 
 put-sized-requires : tie.Need-put-sized-requires
-put-sized-requires c κs = let u = c .before .before .before .before in let s = start4 u in (text-there (ws s) (at s + 1 + 3) (s .args .end) (s .pre .1 .1) (s .pre .1 .0), lent-part (emits4 u) (sized (textOf (slice (ws s) (at s + 1 + 3) (s .args .end) (s .pre .1 .1)))) [] (text-slice (ws s) (at s + 1 + 3) (s .args .end) (s .pre .1 .1)))
+put-sized-requires c κs =
+    let u = c .before .before .before .before in
+    let s = start4 u in (is-text s, lent-part (emits4 u) (sized (textOf (words s))) [] (last-part s))
 
 returns : tie.Need-returns
 returns c = emitted (emits5 (c .before .before)) refl

@@ -1,22 +1,19 @@
 -- Its kind, first line, count and addresses, one after the other. Assumes nothing.
 use borrow.Author.Needs.{needs}
-use mathlib.Core.Path.{_≡_, refl, sym, ap, ap₂, subst, _∙_}
-use mathlib.Core.List.{List, [], _∷_, _++_, append-nil, reverse, map, flatMap}
-use Prim.Native.Nat.{ℕ, _+_, _-_, _%_, _^_, _≤_, _<_}
-use native.Mathlib.Omega.{arith}
-use lib.ListN.{length, getD}
-use lib.Dec.{leb}
+use mathlib.Core.Path.{_≡_, refl, sym, ap}
+use mathlib.Core.List.{List, [], _++_, map, flatMap}
+use Prim.Native.Nat.{ℕ, _+_, _-_, _%_, _^_}
+use lib.ListN.{length}
 use denote.Ref.{now}
 use Rattle.format.specs.Digits.{digitsOf}
-use Rattle.writing.proofs.Parts.{State, Emits, after, begin, emit, emitted, within, small, same}
-use Rattle.format.specs.Words.{flagBit}
-use Rattle.format.specs.Records.{block, label, lineBlock, source, relocation}
-use Rattle.format.specs.Binary.{recordBytes, memoryBytes}
-use Rattle.object.specs.Bodies.{bodyAt, textAt, numberAt}
-use Rattle.object.specs.Access.{memoryIn, addressIn, blockAt, labelAt, lineBlockAt, relocationAt}
-use Rattle.binary_write.specs.Files.{memoryPart, addressPart, textOf, sized}
+use Rattle.writing.proofs.Parts.{State, Emits, after, begin, emit, emitted, within, small}
+use Rattle.format.specs.Records.{lineBlock}
+use Rattle.format.specs.Binary.{recordBytes}
+use Rattle.object.specs.Bodies.{bodyAt, numberAt}
+use Rattle.object.specs.Access.{addressIn, lineBlockAt}
+use Rattle.binary_write.specs.Files.{addressPart}
 use Rattle.binary_write.proofs.RoomLaws.{lent-part}
-use Rattle.binary_write.proofs.PlaceLaws.{slice, memory-slice, address-slice, text-slice, text-there, count-bytes, flag-byte}
+use Rattle.binary_write.proofs.PlaceLaws.{slice, address-slice, count-bytes}
 use Rattle.binary_write.proofs.put_lines.Statement.{statement}
 use Rattle.binary_write.proofs.put_lines.Tie as tie
 
@@ -28,8 +25,11 @@ module _ (s : tie.Start) where
   abbrev at : ℕ
   at = s .args .at
 
-  abbrev head : List ℕ
-  head = digitsOf 8 2 (getD ws at 0 % 2 ^ 16)
+  abbrev place : ℕ
+  place = at + 1 + 3
+
+  abbrev end : ℕ
+  end = s .args .end
 
   abbrev room : List ℕ
   room = now (s .args .out)
@@ -41,13 +41,23 @@ module _ (s : tie.Start) where
   left4 = []
 
   abbrev left3 : List ℕ
-  left3 = flatMap (λ a. digitsOf 8 2 a) (map addressIn (bodyAt ws (at + 1 + 3)))
+  left3 = flatMap (λ a. digitsOf 8 2 a) (map addressIn (bodyAt ws place))
 
   abbrev left2 : List ℕ
-  left2 = digitsOf 8 2 (length (map addressIn (bodyAt ws (at + 1 + 3)))) ++ left3
+  left2 = digitsOf 8 2 (length (map addressIn (bodyAt ws place))) ++ left3
 
   abbrev left1 : List ℕ
   left1 = digitsOf 8 8 (numberAt ws (at + 1)) ++ left2
+
+  -- the words, as they are lent
+  abbrev words : List ℕ
+  words = slice ws place end (s .pre .1)
+
+  last-part : left3 ≡ addressPart words ++ []
+  last-part = address-slice ws place end (s .pre .1)
+
+  count-part : left2 ≡ digitsOf 8 2 ((end - place) % 2 ^ 16) ++ left3
+  count-part = ap (λ d. d ++ left3) (count-bytes ws place end (s .pre .1) addressIn)
 
 abbrev start1 : tie.After-put-u8 → tie.Start
 start1 c = c .before .before .before .before .before
@@ -66,7 +76,7 @@ abbrev state2 : tie.After-put-u64-le → State ℕ
 state2 c = after (state1 (c .before .before .before .before)) (c .put-u64-le .result) (c .put-u64-le .last .0)
 
 emits2 : (c : tie.After-put-u64-le) → Emits (whole (start2 c)) (room (start2 c)) (left2 (start2 c)) (state2 c)
-emits2 c = let s = start2 c in emit (emits1 (c .before .before .before .before)) _ _ (ap (λ n. digitsOf 8 8 n ++ left2 s) (sym (c .before .before .before .before .before .before .number-at .ensures))) (c .put-u64-le .ensures)
+emits2 c = emit (emits1 (c .before .before .before .before)) _ _ (ap (λ n. digitsOf 8 8 n ++ left2 (start2 c)) (sym (c .before .before .before .before .before .before .number-at .ensures))) (c .put-u64-le .ensures)
 
 abbrev start3 : tie.After-put-u16-le → tie.Start
 start3 c = start2 (c .before .before .before .before)
@@ -75,7 +85,7 @@ abbrev state3 : tie.After-put-u16-le → State ℕ
 state3 c = after (state2 (c .before .before .before .before)) (c .put-u16-le .result) (c .put-u16-le .last .0)
 
 emits3 : (c : tie.After-put-u16-le) → Emits (whole (start3 c)) (room (start3 c)) (left3 (start3 c)) (state3 c)
-emits3 c = let s = start3 c in emit (emits2 (c .before .before .before .before)) _ _ (ap (λ d. d ++ left3 s) (count-bytes (ws s) (at s + 1 + 3) (s .args .end) (s .pre .1) addressIn)) (c .put-u16-le .ensures)
+emits3 c = emit (emits2 (c .before .before .before .before)) _ _ (count-part (start3 c)) (c .put-u16-le .ensures)
 
 abbrev start4 : tie.After-put-addresses → tie.Start
 start4 c = start3 (c .before .before .before .before .before)
@@ -84,10 +94,12 @@ abbrev state4 : tie.After-put-addresses → State ℕ
 state4 c = after (state3 (c .before .before .before .before .before)) (c .put-addresses .result) (c .put-addresses .last .0)
 
 emits4 : (c : tie.After-put-addresses) → Emits (whole (start4 c)) (room (start4 c)) (left4 (start4 c)) (state4 c)
-emits4 c = let s = start4 c in emit (emits3 (c .before .before .before .before .before)) _ _ (address-slice (ws s) (at s + 1 + 3) (s .args .end) (s .pre .1)) (c .put-addresses .ensures)
+emits4 c = emit (emits3 (c .before .before .before .before .before)) _ _ (last-part (start4 c)) (c .put-addresses .ensures)
 
 put-addresses-requires : tie.Need-put-addresses-requires
-put-addresses-requires c κs = let u = c .before .before .before .before in let s = start3 u in lent-part (emits3 u) (addressPart (slice (ws s) (at s + 1 + 3) (s .args .end) (s .pre .1))) [] (address-slice (ws s) (at s + 1 + 3) (s .args .end) (s .pre .1))
+put-addresses-requires c κs =
+    let u = c .before .before .before .before in
+    let s = start3 u in lent-part (emits3 u) (addressPart (words s)) [] (last-part s)
 
 returns : tie.Need-returns
 returns c = emitted (emits4 (c .before .before)) refl

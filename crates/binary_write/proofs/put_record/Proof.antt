@@ -1,6 +1,6 @@
 -- The kind of a record says which writer it goes to. Assumes nothing.
 use borrow.Author.Needs.{needs}
-use mathlib.Core.Path.{_≡_, sym, ap, _∙_}
+use mathlib.Core.Path.{_≡_, sym, _∙_}
 use mathlib.Core.List.{List}
 use Prim.Native.Nat.{ℕ, _+_}
 use lib.ListN.{length}
@@ -36,8 +36,25 @@ module _ (c : tie.After-kind) where
   no-kind : {k : ℕ} → (c .kind .result ≡ k → ⊥) → kindAt ws at ≡ k → ⊥
   no-kind n e = n (c .kind .ensures ∙ e)
 
-block-told : (c : tie.Then1) → (recordAt (ws (c .before)) (at (c .before)) ≡ block (blockAt (ws (c .before)) (at (c .before)))) × (Ends (ws (c .before)) (at (c .before) + 1) (end (c .before)))
-block-told c = let k = c .before in (block-here (ws k) (at k) (end k) (s k .pre .0) (is-kind k (c .if1 .taken)), s k .pre .0 .ends)
+  -- what the branches tell of the record
+  abbrev IsBlock : Type 0
+  IsBlock = (recordAt ws at ≡ block (blockAt ws at)) × Ends ws (at + 1) end
+
+  abbrev IsLabel : Type 0
+  IsLabel = (recordAt ws at ≡ label (labelAt ws at)) × TextEnds ws (at + 1 + 3) end
+
+  abbrev IsLine : Type 0
+  IsLine = (recordAt ws at ≡ lineBlock (lineBlockAt ws at)) × Ends ws (at + 1 + 3) end
+
+  abbrev IsSource : Type 0
+  IsSource = (recordAt ws at ≡ source (textAt ws (at + 1))) × TextEnds ws (at + 1) end
+
+  abbrev IsRelocation : Type 0
+  IsRelocation = (recordAt ws at ≡ relocation (relocationAt ws at)) × TextEnds ws (at + 1) end
+
+block-told : (c : tie.Then1) → IsBlock (c .before)
+block-told c =
+    let k = c .before in (block-here (ws k) (at k) (end k) (s k .pre .0) (is-kind k (c .if1 .taken)), s k .pre .0 .ends)
 
 put-block-requires : tie.Need-put-block-requires
 put-block-requires c κs =
@@ -47,7 +64,7 @@ put-block-requires c κs =
 returns : tie.Need-returns
 returns c = let p = c .before .before in put-as _ _ _ (block-told (p .before .before) .0) (p .put-block .ensures)
 
-label-told : (c : tie.Then2) → (recordAt (ws (c .before .before)) (at (c .before .before)) ≡ label (labelAt (ws (c .before .before)) (at (c .before .before)))) × (TextEnds (ws (c .before .before)) (at (c .before .before) + 1 + 3) (end (c .before .before)))
+label-told : (c : tie.Then2) → IsLabel (c .before .before)
 label-told c = let k = c .before .before in label-here (ws k) (at k) (end k) (s k .pre .0) (is-kind k (c .if2 .taken))
 
 put-label-requires : tie.Need-put-label-requires
@@ -58,7 +75,7 @@ put-label-requires c κs =
 returns-2 : tie.Need-returns-2
 returns-2 c = let p = c .before .before in put-as _ _ _ (label-told (p .before .before) .0) (p .put-label .ensures)
 
-line-told : (c : tie.Then3) → (recordAt (ws (c .before .before .before)) (at (c .before .before .before)) ≡ lineBlock (lineBlockAt (ws (c .before .before .before)) (at (c .before .before .before)))) × (Ends (ws (c .before .before .before)) (at (c .before .before .before) + 1 + 3) (end (c .before .before .before)))
+line-told : (c : tie.Then3) → IsLine (c .before .before .before)
 line-told c = let k = c .before .before .before in line-here (ws k) (at k) (end k) (s k .pre .0) (is-kind k (c .if3 .taken))
 
 put-lines-requires : tie.Need-put-lines-requires
@@ -69,7 +86,7 @@ put-lines-requires c κs =
 returns-3 : tie.Need-returns-3
 returns-3 c = let p = c .before .before in put-as _ _ _ (line-told (p .before .before) .0) (p .put-lines .ensures)
 
-source-told : (c : tie.Then4) → (recordAt (ws (c .before .before .before .before)) (at (c .before .before .before .before)) ≡ source (textAt (ws (c .before .before .before .before)) (at (c .before .before .before .before) + 1))) × (TextEnds (ws (c .before .before .before .before)) (at (c .before .before .before .before) + 1) (end (c .before .before .before .before)))
+source-told : (c : tie.Then4) → IsSource (c .before .before .before .before)
 source-told c = let k = c .before .before .before .before in source-here (ws k) (at k) (end k) (s k .pre .0) (is-kind k (c .if4 .taken))
 
 put-source-requires : tie.Need-put-source-requires
@@ -80,7 +97,7 @@ put-source-requires c κs =
 returns-4 : tie.Need-returns-4
 returns-4 c = let p = c .before .before in put-as _ _ _ (source-told (p .before .before) .0) (p .put-source .ensures)
 
-relocation-told : (c : tie.Else4) → (recordAt (ws (c .before .before .before .before)) (at (c .before .before .before .before)) ≡ relocation (relocationAt (ws (c .before .before .before .before)) (at (c .before .before .before .before)))) × (TextEnds (ws (c .before .before .before .before)) (at (c .before .before .before .before) + 1) (end (c .before .before .before .before)))
+relocation-told : (c : tie.Else4) → IsRelocation (c .before .before .before .before)
 relocation-told c =
     let k = c .before .before .before .before in
     relocation-here (ws k) (at k) (end k) (s k .pre .0)

@@ -1,15 +1,15 @@
 -- The bytes of the records that are left are what is left to emit. Assumes nothing.
 use borrow.Author.Needs.{needs}
 use native.Mathlib.Omega.{arith}
-use mathlib.Core.Path.{_≡_, refl, sym, ap, _∙_}
-use mathlib.Core.List.{List, [], _∷_, _++_, flatMap}
+use mathlib.Core.Path.{_≡_, ap}
+use mathlib.Core.List.{List, _++_, flatMap}
 use Prim.Native.Nat.{ℕ, _+_, _-_}
 use lib.ListN.{length}
 use denote.Ref.{now}
 use Rattle.format.specs.Records.{Record}
 use Rattle.format.specs.Binary.{recordBytes}
 use Rattle.object.specs.Access.{recordAt}
-use Rattle.writing.proofs.Parts.{State, Emits, after, begin, emit, emitted, within, small, same}
+use Rattle.writing.proofs.Parts.{Emits, after, begin, emit, emitted, within, small, same}
 use Rattle.binary_write.specs.Files.{recordsIn, bytesIn}
 use Rattle.binary_write.proofs.RoomLaws.{lent-part}
 use Rattle.binary_write.proofs.WalkLaws.{From, Turn, start, turn, no-more}

@@ -129,7 +129,8 @@ module _ (c : tie.After-loop Inv-loop μ-loop) where
 put-last-requires : tie.Need-put-last-requires Inv-loop μ-loop
 put-last-requires c κs =
     let l = c .before .before in
-    (subst Text (ends l) (l .before .loop .inv .1), lent-part (l .before .loop .inv .2) (textOf (getD (all l) (last l) 0 ∷ [])) [] (left-is l))
+    let last-text : List ℕ = textOf (getD (all l) (last l) 0 ∷ []) in
+    (subst Text (ends l) (l .before .loop .inv .1), lent-part (l .before .loop .inv .2) last-text [] (left-is l))
 
 emits-last : (c : tie.After-put-last Inv-loop μ-loop) →
     let l = c .before .before .before in

@@ -12,7 +12,7 @@ use Rattle.object.specs.Bodies.{textAt}
 use Rattle.object.specs.Texts.{textLen}
 use Rattle.object.specs.Access.{kindAt, recordAt, labelAt, lineBlockAt, relocationAt}
 use Rattle.object.proofs.ByteLaws.{text-within}
-use Rattle.binary_write.specs.Files.{Stands, Ends, TextEnds}
+use Rattle.binary_write.specs.Files.{Ends, TextEnds}
 use Rattle.binary_write.proofs.KindLaws.{block-here, label-here, line-here, source-here, relocation-here, kind-3}
 use Rattle.binary_write.proofs.KindLaws.{text-size, block-size, label-size, line-size, source-size, relocation-size}
 use Rattle.binary_write.proofs.record_len.Statement.{statement}
