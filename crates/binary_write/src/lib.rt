@@ -321,15 +321,15 @@ fn measure(ws: &[u32], used: usize, room: usize) -> u8
 }
 
 // The records of a well formed object, one after the other.
-fn put_records(out: &mut [u8], ws: &[u32]) -> usize
-    requires { ⌜ (checked (now ws) ≡ 0) × (length (bytesIn (now ws)) ≤ length (now out)) ⌝ }
-    ensures { λ r. ⌜ Put (bytesIn (now (ws .entry))) (now (out .entry)) r (now (out .exit)) ⌝ }
+fn put_records(out: &mut [u8], object: &[u32]) -> usize
+    requires { ⌜ (checked (now object) ≡ 0) × (length (bytesIn (now object)) ≤ length (now out)) ⌝ }
+    ensures { λ r. ⌜ Put (bytesIn (now (object .entry))) (now (out .entry)) r (now (out .exit)) ⌝ }
 {
     let mut o = 0;
     let mut at = 0;
-    while at < ws.len() {
-        let end = object::body_end(ws, at + 1);
-        o += put_record(&mut out[o..], ws, at, end);
+    while at < object.len() {
+        let end = object::body_end(object, at + 1);
+        o += put_record(&mut out[o..], object, at, end);
         at = end;
     }
     o

@@ -101,7 +101,9 @@ abbrev state3 : tie.After-put-u82 → State ℕ
 state3 c = after (state2 (c .before .before .before .before .before .before)) (c .put-u82 .result) (c .put-u82 .last .0)
 
 emits3 : (c : tie.After-put-u82) → Emits (whole (start3 c)) (room (start3 c)) (left3 (start3 c)) (state3 c)
-emits3 c = emit (emits2 (c .before .before .before .before .before .before)) _ _ (flag-part (start3 c) _ (c .before .external .ensures)) (c .put-u82 .ensures)
+emits3 c =
+    let u = c .before .before .before .before .before .before in
+    emit (emits2 u) _ _ (flag-part (start3 c) _ (c .before .external .ensures)) (c .put-u82 .ensures)
 
 abbrev start4 : tie.After-put-u64-le → tie.Start
 start4 c = start3 (c .before .before .before .before)
@@ -110,7 +112,11 @@ abbrev state4 : tie.After-put-u64-le → State ℕ
 state4 c = after (state3 (c .before .before .before .before)) (c .put-u64-le .result) (c .put-u64-le .last .0)
 
 emits4 : (c : tie.After-put-u64-le) → Emits (whole (start4 c)) (room (start4 c)) (left4 (start4 c)) (state4 c)
-emits4 c = emit (emits3 (c .before .before .before .before)) _ _ (ap (λ n. digitsOf 8 8 n ++ left4 (start4 c)) (sym (c .before .before .before .before .before .before .before .before .before .before .before .before .before .before .before .before .before .number-at .ensures))) (c .put-u64-le .ensures)
+emits4 c =
+    let u = c .before .before .before .before in
+    let v = u .before .before .before .before .before .before in
+    let w = v .before .before .before .before .before .before .before in
+    emit (emits3 u) _ _ (ap (λ n. digitsOf 8 8 n ++ left4 (start4 c)) (sym (w .number-at .ensures))) (c .put-u64-le .ensures)
 
 abbrev start5 : tie.After-put-sized → tie.Start
 start5 c = start4 (c .before .before .before .before .before)

@@ -76,7 +76,9 @@ abbrev state2 : tie.After-put-u64-le → State ℕ
 state2 c = after (state1 (c .before .before .before .before)) (c .put-u64-le .result) (c .put-u64-le .last .0)
 
 emits2 : (c : tie.After-put-u64-le) → Emits (whole (start2 c)) (room (start2 c)) (left2 (start2 c)) (state2 c)
-emits2 c = emit (emits1 (c .before .before .before .before)) _ _ (ap (λ n. digitsOf 8 8 n ++ left2 (start2 c)) (sym (c .before .before .before .before .before .before .number-at .ensures))) (c .put-u64-le .ensures)
+emits2 c =
+    let u = c .before .before .before .before in
+    emit (emits1 u) _ _ (ap (λ n. digitsOf 8 8 n ++ left2 (start2 c)) (sym (u .before .before .number-at .ensures))) (c .put-u64-le .ensures)
 
 abbrev start3 : tie.After-put-u16-le → tie.Start
 start3 c = start2 (c .before .before .before .before)

@@ -101,8 +101,8 @@ relocation-told : (c : tie.Else4) → IsRelocation (c .before .before .before .b
 relocation-told c =
     let k = c .before .before .before .before in
     relocation-here (ws k) (at k) (end k) (s k .pre .0)
-    (kind-5 (ws k) (at k) (end k) (s k .pre .0) (no-kind k (c .before .before .before .if1 .left)) (no-kind k (c .before .before .if2 .left))
-    (no-kind k (c .before .if3 .left)) (no-kind k (c .if4 .left)))
+    (kind-5 (ws k) (at k) (end k) (s k .pre .0) (no-kind k (c .before .before .before .if1 .left))
+    (no-kind k (c .before .before .if2 .left)) (no-kind k (c .before .if3 .left)) (no-kind k (c .if4 .left)))
 
 put-relocation-requires : tie.Need-put-relocation-requires
 put-relocation-requires c κs =

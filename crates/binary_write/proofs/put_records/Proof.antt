@@ -17,16 +17,16 @@ use Rattle.binary_write.proofs.put_records.Statement.{statement}
 use Rattle.binary_write.proofs.put_records.Tie as tie
 
 abbrev Inv-loop : tie.InvT-loop
-Inv-loop out₀ ws o₀ at₀ out o at =
-    (left : List Record) × From ws at left × Emits (bytesIn ws) out₀ (flatMap recordBytes left) (record { at = o; out = out })
+Inv-loop out₀ object o₀ at₀ out o at =
+    (left : List Record) × From object at left × Emits (bytesIn object) out₀ (flatMap recordBytes left) (record { at = o; out = out })
 
 abbrev μ-loop : tie.MeasureT-loop
-μ-loop out₀ ws o₀ at₀ out o at = length ws - at
+μ-loop out₀ object o₀ at₀ out o at = length object - at
 
 loop-holds : tie.Need-loop-holds Inv-loop μ-loop
 loop-holds c =
     let s = c .before .before in
-    (recordsIn (now (s .args .ws)), start (now (s .args .ws)) (s .pre .0), begin _ _ (s .pre .1))
+    (recordsIn (now (s .args .object)), start (now (s .args .object)) (s .pre .0), begin _ _ (s .pre .1))
 
 -- the record at the place
 module _ (c : tie.After-body-end Inv-loop μ-loop) where
@@ -37,7 +37,7 @@ module _ (c : tie.After-body-end Inv-loop μ-loop) where
   begun = loop .before .before .before
 
   abbrev ws : List ℕ
-  ws = now (begun .args .ws)
+  ws = now (begun .args .object)
 
   here : Turn ws (loop .loop .at) (c .body-end .result) (loop .loop .inv .0)
   here = turn _ _ _ _ (c .before .loop-test .taken) (c .body-end .ensures) (loop .loop .inv .1)
