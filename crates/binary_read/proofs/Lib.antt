@@ -1,2 +1,3 @@
 pub mod BoundLaws
 pub mod AfterLaws
+pub mod RecordLaws

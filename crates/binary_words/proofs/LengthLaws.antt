@@ -26,7 +26,7 @@ use Rattle.gather.proofs.WalkLaws.{after-0, after-1, after-2, after-4}
 use Rattle.gather.proofs.OrderLaws.{held-front}
 use Rattle.binary_words.specs.RecordAt.{blockAt, labelAt, lineBlockAt, relocationAt, inOrder, wordsAt, partWords, bodyLength}
 
-memories-length : (bs : List ℕ) → length (memoriesFrom bs) ≡ length bs / 3
+pub memories-length : (bs : List ℕ) → length (memoriesFrom bs) ≡ length bs / 3
 unfolding memoriesFrom
 memories-length [] = refl
 memories-length (f ∷ []) = refl
