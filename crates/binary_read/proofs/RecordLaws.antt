@@ -40,6 +40,11 @@ first {whole = whole} {room = room} part left e h p =
       fits = h;
     }
 
+pub first-room : {A : Type 0} (whole room part left : List A) → whole ≡ part ++ left → length whole ≤ length room → length part ≤ length room
+first-room whole room part left e h =
+    let n : length whole ≡ length part + length left = ap length e ∙ length-append part left in
+    omega arith
+
 -- there is room for the next part
 pub room-for :
     {A : Type 0} {whole room left : List A} {s : State A} (f : Emits whole room left s) (part left′ : List A) → left ≡ part ++ left′

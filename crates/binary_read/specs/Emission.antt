@@ -45,8 +45,12 @@ objectWords s = partWords 0 s ++ (partWords 1 s ++ (partWords 2 s ++ (sourceWord
 abbrev pub wholeBytes : List ℕ → ℕ
 wholeBytes bs = length bs / 3 * 3
 
+-- the words of these
+abbrev pub wholeWords : List ℕ → List ℕ
+wholeWords bs = textWords (take (wholeBytes bs) bs)
+
 -- Of these bytes the words of three are written into the room, and the bytes after them, n of them, are held over to the next chunk.
 pub record Chunked (bytes room held after : List ℕ) (at n : ℕ) : Type 0 where
-  pub put : Put (textWords (take (wholeBytes bytes) bytes)) room at after
+  pub put : Put (wholeWords bytes) room at after
   pub over : take n held ≡ drop (wholeBytes bytes) bytes
   pub few : n < 3

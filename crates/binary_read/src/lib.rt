@@ -8,24 +8,29 @@ use binary_words::source_length;
 use bytes_at::part_at;
 use bytes_at::u16_at;
 use bytes_at::u64_at;
+use gather::Found;
 use gather::Sorting;
+use gather::next_place;
+use units::Filled;
 use units::Measured;
+use writing::put_bytes;
 use writing::put_number_words;
 use writing::put_text_words;
 use writing::put_word;
 ghost use mathlib.Core.Path.{_≡_};
-ghost use mathlib.Core.List.{map, flatMap};
+ghost use mathlib.Core.List.{_++_, map, flatMap};
 ghost use mathlib.Core.Option.{some};
-ghost use Prim.Native.Nat.{_≤_, _<_};
+ghost use Prim.Native.Nat.{_+_, _-_, _≤_, _<_, min};
 ghost use lib.ListN.{length, take};
-ghost use Rattle.format.specs.Words.{memoryWord};
+ghost use Rattle.format.specs.Words.{memoryWord, textWords};
 ghost use Rattle.format.specs.Binary.{memoriesFrom, addressesFrom};
 ghost use Rattle.writing.specs.Written.{Put};
 ghost use Rattle.binary_words.specs.RecordAt.{wordsAt, partWords};
-ghost use Rattle.format.specs.Calls.{measured};
-ghost use Rattle.units.specs.Filled.{measuredOf};
+ghost use Rattle.format.specs.Calls.{measured, fill};
+ghost use Rattle.units.specs.Filled.{measuredOf, filledOf};
 ghost use Rattle.binary_read.specs.AfterHeader.{afterHeader};
-ghost use Rattle.binary_read.specs.Emission.{memoryOfBytes, labelHead, keepsRelocations, objectWords};
+ghost use Rattle.binary_read.specs.Emission.{memoryOfBytes, labelHead, chunksOf, sourceWords, keepsRelocations, relocationWords};
+ghost use Rattle.binary_read.specs.Emission.{objectWords, wholeWords, Chunked};
 
 // The memory word of three bytes: the flag and the value, low byte first.
 fn memory_word(f: u8, a: u8, b: u8) -> u32
@@ -199,6 +204,79 @@ fn put_part(out: &mut [u32], s: &[u8], kind: u8) -> usize
     put_windows(out, s, kind, &mut win)
 }
 
+// Bytes go after the n that are held over, until three are held: how many of them.
+fn top_up(held: &mut [u8], n: usize, s: &[u8]) -> usize
+    requires { ⌜ (length (now held) ≡ 3) × (n ≤ 3) ⌝ }
+    ensures { λ r. ⌜ (r ≡ min (3 - n) (length (now (s .entry))))
+        × (take (n + r) (now (held .exit)) ≡ take n (now (held .entry)) ++ take r (now (s .entry))) ⌝ }
+{
+    let k = 3 - n;
+    if s.len() < k {
+        return put_bytes(&mut held[n..], s);
+    }
+    put_bytes(&mut held[n..], &s[0..k])
+}
+
+// What a chunk of the source comes to: how many words are written, and how many bytes are held over.
+struct Carried {
+    at: usize,
+    count: usize,
+}
+
+// The words of three of a chunk of the source, after the n bytes held over from the chunks before it.
+fn put_chunk(out: &mut [u32], s: &[u8], held: &mut [u8], n: usize) -> Carried
+    requires { ⌜ (length (now held) ≡ 3) × (n < 3) × (length (wholeWords (take n (now held) ++ now s)) ≤ length (now out)) ⌝ }
+    ensures { λ r. ⌜ Chunked (take n (now (held .entry)) ++ now (s .entry)) (now (out .entry)) (now (held .exit)) (now (out .exit)) (r .at) (r .count) ⌝ }
+{
+    let k = top_up(held, n, s);
+    let m = n + k;
+    if m < 3 {
+        return Carried { at: 0, count: m };
+    }
+    let mut at = put_text_words(out, held);
+    let e = k + (s.len() - k) / 3 * 3;
+    at += put_text_words(&mut out[at..], &s[k..e]);
+    let c = top_up(held, 0, &s[e..]);
+    Carried { at: at, count: c }
+}
+
+// The words of the source's text, chunk by chunk.
+fn put_chunks(out: &mut [u32], s: &[u8], held: &mut [u8]) -> usize
+    requires { ⌜ (length (now held) ≡ 3) × (length (textWords (chunksOf (now s))) ≤ length (now out)) ⌝ }
+    ensures { λ r. ⌜ Put (textWords (chunksOf (now (s .entry)))) (now (out .entry)) r (now (out .exit)) ⌝ }
+{
+    let mut at = 0;
+    let mut n = 0;
+    let mut place = 7;
+    loop {
+        let Found::At(p, next) = next_place(s, 3, place) else {
+            at += put_text_words(&mut out[at..], &held[0..n]);
+            return at;
+        };
+        let b = part_at(s, p, 9, u64_at(s, p, 1));
+        let from = b.from;
+        let to = b.to;
+        let c = put_chunk(&mut out[at..], &s[from..to], held, n);
+        at += c.at;
+        n = c.count;
+        place = next;
+    }
+}
+
+// The words of the source: none where it does not exist.
+fn put_source(out: &mut [u32], s: &[u8]) -> usize
+    requires { ⌜ length (sourceWords (now s)) ≤ length (now out) ⌝ }
+    ensures { λ r. ⌜ Put (sourceWords (now (s .entry))) (now (out .entry)) r (now (out .exit)) ⌝ }
+{
+    if !has_source(s) {
+        return 0;
+    }
+    let mut held = [0u8; 3];
+    let mut at = put_word(out, 0x8000_0000);
+    at += put_chunks(&mut out[at..], s, &mut held);
+    at
+}
+
 // "No label and no source: relocations are dropped."
 fn keeps_relocations(s: &[u8]) -> bool
     ensures { λ r. ⌜ r ≡ keepsRelocations (now (s .entry)) ⌝ }
@@ -207,6 +285,30 @@ fn keeps_relocations(s: &[u8]) -> bool
         return true;
     }
     has_source(s)
+}
+
+// The words of the relocations that are not dropped.
+fn put_relocations(out: &mut [u32], s: &[u8]) -> usize
+    requires { ⌜ length (relocationWords (now s)) ≤ length (now out) ⌝ }
+    ensures { λ r. ⌜ Put (relocationWords (now (s .entry))) (now (out .entry)) r (now (out .exit)) ⌝ }
+{
+    if keeps_relocations(s) {
+        return put_part(out, s, 4);
+    }
+    0
+}
+
+// The words of the five parts, one after the other.
+fn put_object(out: &mut [u32], s: &[u8]) -> usize
+    requires { ⌜ length (objectWords (now s)) ≤ length (now out) ⌝ }
+    ensures { λ r. ⌜ Put (objectWords (now (s .entry))) (now (out .entry)) r (now (out .exit)) ⌝ }
+{
+    let mut at = put_part(out, s, 0);
+    at += put_part(&mut out[at..], s, 1);
+    at += put_part(&mut out[at..], s, 2);
+    at += put_source(&mut out[at..], s);
+    at += put_relocations(&mut out[at..], s);
+    at
 }
 
 // How many words the five parts have.
@@ -236,4 +338,19 @@ pub fn records_length(s: &[u8]) -> Measured
     }
     let n = words_length(s);
     Measured { number: 0, len: n }
+}
+
+// The words of the file, or the number of the first question after the header that is answered no; 3 where the buffer is too short.
+pub fn read_records(s: &[u8], out: &mut [u32]) -> Filled
+    ensures { λ r. ⌜ filledOf r (now (out .exit)) ≡ fill (afterHeader (now (s .entry))) (now (out .entry)) ⌝ }
+{
+    let m = records_length(s);
+    if m.number != 0 {
+        return Filled::refused(m.number);
+    }
+    if out.len() < m.len {
+        return Filled::refused(3);
+    }
+    let n = put_object(out, s);
+    Filled::given(n)
 }

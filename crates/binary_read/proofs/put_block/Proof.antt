@@ -6,7 +6,6 @@ use Prim.Native.Nat.{ℕ, _+_, _-_, _≤_}
 use native.Mathlib.Omega.{arith}
 use lib.ListN.{length, take, drop}
 use denote.Ref.{now}
-
 use Rattle.writing.proofs.Parts.{Emits, after, emit, emitted, within, same}
 use Rattle.binary_words.specs.RecordAt.{wordsAt}
 use Rattle.binary_read.proofs.RecordLaws.{first, memoryWords, block-parts}
