@@ -13,9 +13,12 @@ use Rattle.format.specs.Tokens.{tokens}
 use Rattle.format.specs.Utf8.{isUtf8}
 use Rattle.format.specs.Sorted.{upsert, upsertAll, sorted}
 use Rattle.format.specs.ObjectFile.{ObjectFile, apart, strictlyRise}
-use Rattle.format.specs.Records.{Record, block, label, lineBlock, source, relocation, recordsOf, sourceRecords, gatherRecords, emptyObject, binaryQuestions, askAll, concluded, dropStrayRelocations, withRelocations}
+use Rattle.format.specs.Records.{Record, block, label, lineBlock, source, relocation, recordsOf}
+use Rattle.format.specs.Records.{sourceRecords, gatherRecords, emptyObject, binaryQuestions}
+use Rattle.format.specs.Records.{askAll, concluded, dropStrayRelocations, withRelocations}
 use Rattle.format.specs.Words.{recordWords, wordsOf}
-use Rattle.format.specs.Binary.{bytesAt, numberAt, hasBytes, addressesFrom, recordAt, blockFrom, labelFrom, linesFrom, sourceFrom, relocationFrom}
+use Rattle.format.specs.Binary.{bytesAt, numberAt, hasBytes, addressesFrom, recordAt}
+use Rattle.format.specs.Binary.{blockFrom, labelFrom, linesFrom, sourceFrom, relocationFrom}
 use Rattle.format.specs.Calls.{refusalOf, measured, Measured}
 use Rattle.format.proofs.ListLaws.{by-test, flatMap-append, flatMap-map}
 use Rattle.gather.specs.Places.{placesOf, keyAt}
@@ -98,10 +101,13 @@ given-as (refused m) e h = absurd (let z : ⊥ = omega arith in z)
 given-as (given a) e h = (a, refl)
 
 -- THE WORDS, part by part
-parts-words : (f : Record → List ℕ) (a b c d e : List Record) → flatMap f (a ++ b ++ c ++ d ++ e) ≡ flatMap f a ++ (flatMap f b ++ (flatMap f c ++ (flatMap f d ++ flatMap f e)))
+parts-words : (f : Record → List ℕ) (a b c d e : List Record) → flatMap f (a ++ b ++ c ++ d ++ e) ≡ flatMap f a
+    ++ (flatMap f b ++ (flatMap f c ++ (flatMap f d ++ flatMap f e)))
 parts-words f a b c d e =
     flatMap-append f (a ++ b ++ c ++ d) e
-    ∙ ap (λ (z : List ℕ). z ++ flatMap f e) (flatMap-append f (a ++ b ++ c) d ∙ ap (λ (z : List ℕ). z ++ flatMap f d) (flatMap-append f (a ++ b) c ∙ ap (λ (z : List ℕ). z ++ flatMap f c) (flatMap-append f a b)))
+    ∙ ap (λ (z : List ℕ). z ++ flatMap f e)
+    (flatMap-append f (a ++ b ++ c) d
+    ∙ ap (λ (z : List ℕ). z ++ flatMap f d) (flatMap-append f (a ++ b) c ∙ ap (λ (z : List ℕ). z ++ flatMap f c) (flatMap-append f a b)))
     ∙ regroup (flatMap f a) (flatMap f b) (flatMap f c) (flatMap f d) (flatMap f e)
   where
     regroup : (v w x y z : List ℕ) → v ++ w ++ x ++ y ++ z ≡ v ++ (w ++ (x ++ (y ++ z)))
@@ -113,30 +119,38 @@ module _ (s : List ℕ) where
 
   words-0 : flatMap recordWords (map block (map (blockAt s) (inOrder 0 s))) ≡ partWords 0 s
   unfolding wordsAt
-  words-0 = flatMap-map recordWords block (map (blockAt s) (inOrder 0 s)) ∙ flatMap-map (λ b. recordWords (block b)) (blockAt s) (inOrder 0 s)
+  words-0 =
+      flatMap-map recordWords block (map (blockAt s) (inOrder 0 s)) ∙ flatMap-map (λ b. recordWords (block b)) (blockAt s) (inOrder 0 s)
 
   words-1 : flatMap recordWords (map label (map (labelAt s) (inOrder 1 s))) ≡ partWords 1 s
   unfolding wordsAt
-  words-1 = flatMap-map recordWords label (map (labelAt s) (inOrder 1 s)) ∙ flatMap-map (λ b. recordWords (label b)) (labelAt s) (inOrder 1 s)
+  words-1 =
+      flatMap-map recordWords label (map (labelAt s) (inOrder 1 s)) ∙ flatMap-map (λ b. recordWords (label b)) (labelAt s) (inOrder 1 s)
 
   words-2 : flatMap recordWords (map lineBlock (map (lineBlockAt s) (inOrder 2 s))) ≡ partWords 2 s
   unfolding wordsAt
-  words-2 = flatMap-map recordWords lineBlock (map (lineBlockAt s) (inOrder 2 s)) ∙ flatMap-map (λ b. recordWords (lineBlock b)) (lineBlockAt s) (inOrder 2 s)
+  words-2 =
+      flatMap-map recordWords lineBlock (map (lineBlockAt s) (inOrder 2 s))
+      ∙ flatMap-map (λ b. recordWords (lineBlock b)) (lineBlockAt s) (inOrder 2 s)
 
   words-4 : flatMap recordWords (map relocation (map (relocationAt s) (inOrder 4 s))) ≡ partWords 4 s
   unfolding wordsAt
-  words-4 = flatMap-map recordWords relocation (map (relocationAt s) (inOrder 4 s)) ∙ flatMap-map (λ b. recordWords (relocation b)) (relocationAt s) (inOrder 4 s)
+  words-4 =
+      flatMap-map recordWords relocation (map (relocationAt s) (inOrder 4 s))
+      ∙ flatMap-map (λ b. recordWords (relocation b)) (relocationAt s) (inOrder 4 s)
 
   all-words : wordsOf (objectAt s) ≡ wordsWith (partWords 4 s)
   unfolding wordsOf recordsOf objectAt
   all-words =
-      parts-words recordWords (map block (map (blockAt s) (inOrder 0 s))) (map label (map (labelAt s) (inOrder 1 s))) (map lineBlock (map (lineBlockAt s) (inOrder 2 s))) (sourceRecords (sourceOf s)) (map relocation (map (relocationAt s) (inOrder 4 s)))
+      parts-words recordWords (map block (map (blockAt s) (inOrder 0 s))) (map label (map (labelAt s) (inOrder 1 s)))
+      (map lineBlock (map (lineBlockAt s) (inOrder 2 s))) (sourceRecords (sourceOf s)) (map relocation (map (relocationAt s) (inOrder 4 s)))
       ∙ rw (words-0, words-1, words-2, words-4) refl
 
   words-without : wordsOf (withRelocations (objectAt s) []) ≡ wordsWith []
   unfolding wordsOf recordsOf objectAt flatMap
   words-without =
-      parts-words recordWords (map block (map (blockAt s) (inOrder 0 s))) (map label (map (labelAt s) (inOrder 1 s))) (map lineBlock (map (lineBlockAt s) (inOrder 2 s))) (sourceRecords (sourceOf s)) []
+      parts-words recordWords (map block (map (blockAt s) (inOrder 0 s))) (map label (map (labelAt s) (inOrder 1 s)))
+      (map lineBlock (map (lineBlockAt s) (inOrder 2 s))) (sourceRecords (sourceOf s)) []
       ∙ rw (words-0, words-1, words-2) refl
 
   -- a sorted list is empty where the list is

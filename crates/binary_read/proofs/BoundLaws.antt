@@ -35,8 +35,10 @@ module _ (s : List ℕ) where
   all-skipped at k xs h =
       rw (skipped 0 at k xs h, skipped 1 at k xs h, skipped 2 at k xs h, skipped 3 at k xs h, skipped 4 at k xs h) refl
 
-  module _ (at b : ℕ) (xs : List ℕ) (d : drop (at + 1) s ≡ xs) (more : jointly (at + 1) (bytesAfter b xs) xs ≤ (length xs - bytesAfter b xs) + 3) where
-    with-record : (w : ℕ) → (w ≤ 1 + bytesAfter b xs) × (w ≤ 4 + length xs) → w + jointly (at + 1) (bytesAfter b xs) xs ≤ suc (length xs) + 3
+  module _ (at b : ℕ) (xs : List ℕ) (d : drop (at + 1) s ≡ xs)
+      (more : jointly (at + 1) (bytesAfter b xs) xs ≤ (length xs - bytesAfter b xs) + 3) where
+    with-record : (w : ℕ) → (w ≤ 1 + bytesAfter b xs) × (w ≤ 4 + length xs)
+        → w + jointly (at + 1) (bytesAfter b xs) xs ≤ suc (length xs) + 3
     with-record w f =
         one-more w (bytesAfter b xs) (length xs) (jointly (at + 1) (bytesAfter b xs) xs) (f .0) (f .1) more
         (all-skipped (at + 1) (bytesAfter b xs) xs)
@@ -84,7 +86,13 @@ module _ (s : List ℕ) where
   joint (suc (suc (suc (suc (suc b)))) ∷ xs) at zero d =
       let d′ : drop (at + 1) s ≡ xs = sym (drop-drop 1 at s) ∙ ap (drop 1) d in
       let j = suc (suc (suc (suc (suc b)))) in
-      rw (ne-eqb j 0 (λ e. omega arith), ne-eqb j 1 (λ e. omega arith), ne-eqb j 2 (λ e. omega arith), ne-eqb j 3 (λ e. omega arith), ne-eqb j 4 (λ e. omega arith))
+      rw (
+        ne-eqb j 0 (λ e. omega arith),
+        ne-eqb j 1 (λ e. omega arith),
+        ne-eqb j 2 (λ e. omega arith),
+        ne-eqb j 3 (λ e. omega arith),
+        ne-eqb j 4 (λ e. omega arith),
+      )
       (omega (arith, joint xs (at + 1) (bytesAfter j xs) d′))
 
   -- a part has no more words than its records, of which later ones replace earlier ones
@@ -98,9 +106,11 @@ module _ (s : List ℕ) where
       (λ u. omega (arith, source-long s u))
       (λ u. omega (arith, source-none s u))
 
-  pub parts-few : length (partWords 0 s) + length (partWords 1 s) + length (partWords 2 s) + length (sourceWords s) + length (partWords 4 s) ≤ length s + 4
+  pub parts-few : length (partWords 0 s) + length (partWords 1 s) + length (partWords 2 s) + length (sourceWords s) + length
+      (partWords 4 s) ≤ length s + 4
   unfolding placesOf
-  parts-few = omega (arith, part-within 0, part-within 1, part-within 2, source-within, part-within 4, joint (drop 7 s) 7 0 refl, length-drop 7 s)
+  parts-few =
+      omega (arith, part-within 0, part-within 1, part-within 2, source-within, part-within 4, joint (drop 7 s) 7 0 refl, length-drop 7 s)
 
   -- the length of all parts
   length-joined : (a b c d e : List ℕ) → length (a ++ (b ++ (c ++ (d ++ e)))) ≡ length a + length b + length c + length d + length e

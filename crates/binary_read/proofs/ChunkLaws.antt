@@ -17,7 +17,8 @@ use Rattle.writing.proofs.WriteLaws.{filled-fits, written-fits, length-into}
 use Rattle.writing.proofs.Parts.{State, Emits, rest, after, emit, emitted}
 use Rattle.gather.specs.Places.{placesFrom, placesOf}
 use Rattle.binary_words.specs.RecordAt.{chunkAt, sourceOf, partWords}
-use Rattle.binary_read.specs.Emission.{chunksOf, sourceWords, keepsRelocations, relocationWords, objectWords, wholeBytes, wholeWords, Chunked}
+use Rattle.binary_read.specs.Emission.{chunksOf, sourceWords, keepsRelocations, relocationWords}
+use Rattle.binary_read.specs.Emission.{objectWords, wholeBytes, wholeWords, Chunked}
 use Rattle.binary_read.proofs.RecordLaws.{put-nothing}
 
 -- BYTES HELD OVER
@@ -105,7 +106,8 @@ module _ (front s held : List ℕ) (k : ℕ) (e : held ≡ front ++ take k s) (l
   whole = omega (arith, ap length joined, length-append held past, length-drop k s)
 
   split : bytes ≡ (held ++ take size past) ++ drop size past
-  split = joined ∙ ap (λ (z : List ℕ). held ++ z) (sym (take-append-drop size past)) ∙ sym (append-assoc held (take size past) (drop size past))
+  split =
+      joined ∙ ap (λ (z : List ℕ). held ++ z) (sym (take-append-drop size past)) ∙ sym (append-assoc held (take size past) (drop size past))
 
   long : length (held ++ take size past) ≡ wholeBytes bytes
   long =
@@ -134,7 +136,8 @@ chunk-next front chunk more all e =
 pub chunk-last : (held more : List ℕ) (n : ℕ) → more ≡ [] → textWords (take n held ++ more) ≡ textWords (take (n - 0) (drop 0 held)) ++ []
 chunk-last held more n e =
     let z : n ≡ n - 0 = omega arith in
-    ap (λ (m : List ℕ). textWords (take n held ++ m)) e ∙ ap textWords (append-nil (take n held)) ∙ ap (λ (j : ℕ). textWords (take j held)) z
+    ap (λ (m : List ℕ). textWords (take n held ++ m)) e ∙ ap textWords (append-nil (take n held))
+    ∙ ap (λ (j : ℕ). textWords (take j held)) z
     ∙ sym (append-nil (textWords (take (n - 0) held)))
 
 pub chunks-first : (s : List ℕ) (at p next : ℕ) → placesFrom 3 s at ≡ p ∷ placesFrom 3 s next
@@ -153,7 +156,8 @@ module _ (s : List ℕ) where
   source-parts e = go (isEmpty (placesOf 2 s) && isEmpty (placesOf 3 s)) e
     where
       go : (t : Bool) → isSome (if t then none else some (chunksOf s)) ≡ true
-          → flatMap recordWords (sourceRecords (if t then none else some (chunksOf s))) ≡ (0x8000_0000 ∷ []) ++ (textWords (chunksOf s) ++ [])
+          → flatMap recordWords (sourceRecords (if t then none else some (chunksOf s))) ≡ (0x8000_0000 ∷ [])
+          ++ (textWords (chunksOf s) ++ [])
       go true e = let z : _≡_ {A = ℕ} 0 1 = cc in absurd (omega arith)
       go false e = refl
 
@@ -161,7 +165,8 @@ module _ (s : List ℕ) where
   unfolding sourceOf isSome sourceRecords flatMap
   source-nothing e = go (isEmpty (placesOf 2 s) && isEmpty (placesOf 3 s)) e
     where
-      go : (t : Bool) → isSome (if t then none else some (chunksOf s)) ≡ false → flatMap recordWords (sourceRecords (if t then none else some (chunksOf s))) ≡ []
+      go : (t : Bool) → isSome (if t then none else some (chunksOf s)) ≡ false
+          → flatMap recordWords (sourceRecords (if t then none else some (chunksOf s))) ≡ []
       go true e = refl
       go false e = let z : _≡_ {A = ℕ} 0 1 = cc in absurd (omega arith)
 
@@ -176,4 +181,5 @@ module _ (s : List ℕ) where
   pub object-parts : objectWords s ≡ partWords 0 s ++ (partWords 1 s ++ (partWords 2 s ++ (sourceWords s ++ (relocationWords s ++ []))))
   unfolding objectWords
   object-parts =
-      ap (λ (z : List ℕ). partWords 0 s ++ (partWords 1 s ++ (partWords 2 s ++ (sourceWords s ++ z)))) (sym (append-nil (relocationWords s)))
+      ap (λ (z : List ℕ). partWords 0 s ++ (partWords 1 s ++ (partWords 2 s ++ (sourceWords s ++ z))))
+      (sym (append-nil (relocationWords s)))

@@ -40,7 +40,8 @@ first {whole = whole} {room = room} part left e h p =
       fits = h;
     }
 
-pub first-room : {A : Type 0} (whole room part left : List A) → whole ≡ part ++ left → length whole ≤ length room → length part ≤ length room
+pub first-room : {A : Type 0} (whole room part left : List A) → whole ≡ part ++ left → length whole ≤ length room
+    → length part ≤ length room
 first-room whole room part left e h =
     let n : length whole ≡ length part + length left = ap length e ∙ length-append part left in
     omega arith
@@ -82,7 +83,8 @@ module _ (s : List ℕ) (i : ℕ) where
   ahead : (j k : ℕ) → j < length s → j + 1 ≡ k → Ahead j k
   ahead j k h e = drop-at-place 0 s j h ∙ ap (λ (n : ℕ). getD s j 0 ∷ drop n s) e
 
-  pub memory-at : i + 3 ≤ length s → memoryWords (drop i s) ≡ memoryOfBytes (getD s i 0) (getD s (i + 1) 0) (getD s (i + 2) 0) ∷ memoryWords (drop (i + 3) s)
+  pub memory-at : i + 3 ≤ length s → memoryWords (drop i s)
+      ≡ memoryOfBytes (getD s i 0) (getD s (i + 1) 0) (getD s (i + 2) 0) ∷ memoryWords (drop (i + 3) s)
   unfolding memoriesFrom
   memory-at h =
       let a = ahead i (i + 1) (omega arith) refl in
@@ -90,7 +92,8 @@ module _ (s : List ℕ) (i : ℕ) where
       let c = ahead (i + 2) (i + 3) (omega arith) (omega arith) in
       ap memoryWords (a ∙ ap (λ (z : List ℕ). getD s i 0 ∷ z) (b ∙ ap (λ (z : List ℕ). getD s (i + 1) 0 ∷ z) c))
 
-  pub address-at : i + 2 ≤ length s → addressWords (drop i s) ≡ memoryOfBytes 0xFF (getD s i 0) (getD s (i + 1) 0) ∷ addressWords (drop (i + 2) s)
+  pub address-at : i + 2 ≤ length s → addressWords (drop i s)
+      ≡ memoryOfBytes 0xFF (getD s i 0) (getD s (i + 1) 0) ∷ addressWords (drop (i + 2) s)
   unfolding addressesFrom
   address-at h =
       let a = ahead i (i + 1) (omega arith) refl in
@@ -142,7 +145,8 @@ module _ (s : List ℕ) (p from to : ℕ) where
       → wordsAt 0 s p ≡ (h ∷ []) ++ (memoryWords body ++ [])
   unfolding wordsAt recordWords
   block-parts h n eh en q =
-      rw (append-nil (memoryWords body), q .holds, en, eh) (ap (λ (w : ℕ). w ∷ memoryWords (bytesAt (p + 5) (3 * numberAt (p + 3) 2 s) s)) (zero-add (numberAt (p + 1) 2 s)))
+      rw (append-nil (memoryWords body), q .holds, en, eh)
+      (ap (λ (w : ℕ). w ∷ memoryWords (bytesAt (p + 5) (3 * numberAt (p + 3) 2 s) s)) (zero-add (numberAt (p + 1) 2 s)))
 
   pub label-parts : (h n : ℕ) → h ≡ labelHead s p → n ≡ numberAt (p + 12) 8 s → PartOf s (p + 20) n from to
       → wordsAt 1 s p ≡ (h ∷ []) ++ (numberWords (numberAt (p + 4) 8 s) ++ (textWords body ++ []))
@@ -170,7 +174,8 @@ put-nothing part room e = let h : 0 ≤ length room = omega arith in rw (e, le-l
 
 -- A WINDOW, place by place, and all windows
 module _ (f : ℕ → List ℕ) where
-  pub window-next : (win : List ℕ) (n i : ℕ) → i < n → n ≤ length win → flatMap f (drop i (take n win)) ≡ f (getD win i 0) ++ flatMap f (drop (i + 1) (take n win))
+  pub window-next : (win : List ℕ) (n i : ℕ) → i < n → n ≤ length win → flatMap f (drop i (take n win)) ≡ f (getD win i 0)
+      ++ flatMap f (drop (i + 1) (take n win))
   window-next win n i h l =
       flatMap-at f 0 (take n win) i (omega (arith, length-take-le n win l))
       ∙ ap (λ (p : ℕ). f p ++ flatMap f (drop (i + 1) (take n win))) (getD-take n win i 0 h)

@@ -226,7 +226,8 @@ struct Carried {
 // The words of three of a chunk of the source, after the n bytes held over from the chunks before it.
 fn put_chunk(out: &mut [u32], s: &[u8], held: &mut [u8], n: usize) -> Carried
     requires { ⌜ (length (now held) ≡ 3) × (n < 3) × (length (wholeWords (take n (now held) ++ now s)) ≤ length (now out)) ⌝ }
-    ensures { λ r. ⌜ Chunked (take n (now (held .entry)) ++ now (s .entry)) (now (out .entry)) (now (held .exit)) (now (out .exit)) (r .at) (r .count) ⌝ }
+    ensures { λ r. ⌜ Chunked (take n (now (held .entry)) ++ now (s .entry))
+        (now (out .entry)) (now (held .exit)) (now (out .exit)) (r .at) (r .count) ⌝ }
 {
     let k = top_up(held, n, s);
     let m = n + k;

@@ -37,7 +37,8 @@ next-word c =
     address-at s (l .i) (omega (arith, l .inv .0))
     ∙ ap (λ (w : ℕ). w ∷ addressWords (drop (l .i + 2) s)) (sym (c .memory-word .ensures))
 
-fits : (c : tie.After-memory-word Inv-loop μ-loop) → c .before .before .before .before .loop .at < length (c .before .before .before .before .loop .out)
+fits : (c : tie.After-memory-word Inv-loop μ-loop)
+    → c .before .before .before .before .loop .at < length (c .before .before .before .before .loop .out)
 fits c = room-one (c .before .before .before .before .loop .inv .2) _ _ (next-word c)
 
 loop-again : tie.Need-loop-again Inv-loop μ-loop

@@ -69,32 +69,42 @@ emits1 c =
     let q = c .before .before .before .before .before .before in
     let k = start q in
     first (textWords (held q)) (textWords (take (size q) (past q)) ++ [])
-    (chunk-words (front k) (text k) (held q) (moved q) (full q (c .before .before .before .if1 .left)) (long q) (within-text q)) (k .pre .2) (c .put-text-words .ensures)
+    (chunk-words (front k) (text k) (held q) (moved q) (full q (c .before .before .before .if1 .left)) (long q) (within-text q))
+    (k .pre .2) (c .put-text-words .ensures)
 
 emits2 : (c : tie.After-put-text-words2) →
     let q = c .before .before .before .before .before .before .before .before .before .before .before in
     Emits (wholeWords (front (start q) ++ text (start q))) (now (start q .args .out)) []
-    (after (record { at = c .before .before .before .before .before .put-text-words .result; out = c .before .before .before .before .before .put-text-words .last .0 }) (c .put-text-words2 .result) (c .put-text-words2 .last .0))
+    (after (record {
+      at = c .before .before .before .before .before .put-text-words .result;
+      out =
+          c .before .before .before .before .before .put-text-words .last .0;
+    }) (c .put-text-words2 .result) (c .put-text-words2 .last .0))
 emits2 c =
     let q = c .before .before .before .before .before .before .before .before .before .before .before in
     let e : size q ≡ moved q + size q - moved q = omega arith in
-    emit (emits1 (c .before .before .before .before .before)) (textWords (take (moved q + size q - moved q) (past q))) [] (ap (λ (j : ℕ). textWords (take j (past q)) ++ []) e) (c .put-text-words2 .ensures)
+    emit (emits1 (c .before .before .before .before .before)) (textWords (take (moved q + size q - moved q) (past q))) []
+    (ap (λ (j : ℕ). textWords (take j (past q)) ++ []) e) (c .put-text-words2 .ensures)
 
 returns-2 : tie.Need-returns-2
 returns-2 c =
-    let q = c .before .before .before .before .before .before .before .before .before .before .before .before .before .before .before .before .before .before in
+    let p = c .before .before .before .before .before .before .before in
+    let q = p .before .before .before .before .before .before .before .before .before .before .before in
     let k = start q in
     let s = text k in
     let t = c .before .before .top-up2 in
     let e = moved q + size q in
     let rest = midOf e (length s - e) s in
-    let three = full q (c .before .before .before .before .before .before .before .before .before .before .before .before .before .before .before .if1 .left) in
+    let three = full q
+    (c .before .before .before .before .before .before .before .before .before .before .before .before .before .before .before .if1 .left)
+    in
     let l : length rest ≡ length (drop e s) = ap length (part-to-end s e) in
     let few = chunk-past (front k) s (held q) (moved q) three (long q) (within-text q) in
     record {
       put = emitted (emits2 (c .before .before .before .before .before .before .before)) refl;
       over =
-          ap (λ (j : ℕ). take j (t .last .0)) (sym (zero-add (t .result))) ∙ t .ensures .1 ∙ take-all (t .result) rest (omega (arith, t .ensures .0)) ∙ part-to-end s e
+          ap (λ (j : ℕ). take j (t .last .0)) (sym (zero-add (t .result))) ∙ t .ensures .1
+          ∙ take-all (t .result) rest (omega (arith, t .ensures .0)) ∙ part-to-end s e
           ∙ sym (chunk-over (front k) s (held q) (moved q) three (long q) (within-text q));
       few = omega (arith, t .ensures .0);
     }

@@ -37,7 +37,8 @@ next-word c =
     memory-at s (l .i) (omega (arith, l .inv .0))
     ∙ ap (λ (w : ℕ). w ∷ memoryWords (drop (l .i + 3) s)) (sym (c .memory-word .ensures))
 
-fits : (c : tie.After-memory-word Inv-loop μ-loop) → c .before .before .before .before .before .loop .at < length (c .before .before .before .before .before .loop .out)
+fits : (c : tie.After-memory-word Inv-loop μ-loop)
+    → c .before .before .before .before .before .loop .at < length (c .before .before .before .before .before .loop .out)
 fits c = room-one (c .before .before .before .before .before .loop .inv .2) _ _ (next-word c)
 
 loop-again : tie.Need-loop-again Inv-loop μ-loop
@@ -69,7 +70,8 @@ put-memory-words-spec =
     (λ c. omega (arith, fits c, same (c .before .before .before .before .before .loop .inv .2)))
     fits
     (λ c. omega (arith, fits c, same (c .before .before .before .before .before .loop .inv .2)))
-    (λ c. let l = c .before .before .before .before .before .loop in omega (arith, l .inv .0, c .before .before .before .before .loop-test .taken))
+    (λ c. let l = c .before .before .before .before .before .loop in
+    omega (arith, l .inv .0, c .before .before .before .before .loop-test .taken))
     (λ c. search needs)
     loop-again
     (λ c. same (c .before .loop .inv .2))

@@ -22,16 +22,35 @@ pub put-record-spec : {M : Type 1} → statement M
 put-record-spec =
     tie.close
     (tie.spec
-    (λ c κs. let k = c .before .before .before .before in asked (now (k .args .s)) (now (k .args .out)) (k .args .p) (k .args .kind) 0 (c .before .if1 .taken) (k .pre))
+    (λ c κs. let k = c .before .before .before .before in
+    asked (now (k .args .s)) (now (k .args .out)) (k .args .p) (k .args .kind) 0 (c .before .if1 .taken) (k .pre))
     (λ c. search needs)
-    (λ c. let k = c .before .before .before .before .before .before .before in told (now (k .args .s)) (now (k .args .out)) (c .before .before .put-block .last .0) (k .args .p) (c .before .before .put-block .result) (k .args .kind) 0 (c .before .before .before .before .if1 .taken) (c .before .before .put-block .ensures))
-    (λ c κs. let k = c .before .before .before .before .before in asked (now (k .args .s)) (now (k .args .out)) (k .args .p) (k .args .kind) 1 (c .before .if2 .taken) (k .pre))
+    (λ c. let k = c .before .before .before .before .before .before .before in
+    told (now (k .args .s)) (now (k .args .out)) (c .before .before .put-block .last .0) (k .args .p)
+    (c .before .before .put-block .result) (k .args .kind) 0 (c .before .before .before .before .if1 .taken)
+    (c .before .before .put-block .ensures))
+    (λ c κs. let k = c .before .before .before .before .before in
+    asked (now (k .args .s)) (now (k .args .out)) (k .args .p) (k .args .kind) 1 (c .before .if2 .taken) (k .pre))
     (λ c. search needs)
-    (λ c. let k = c .before .before .before .before .before .before .before .before in told (now (k .args .s)) (now (k .args .out)) (c .before .before .put-label .last .0) (k .args .p) (c .before .before .put-label .result) (k .args .kind) 1 (c .before .before .before .before .if2 .taken) (c .before .before .put-label .ensures))
-    (λ c κs. let k = c .before .before .before .before .before .before in asked (now (k .args .s)) (now (k .args .out)) (k .args .p) (k .args .kind) 2 (c .before .if3 .taken) (k .pre))
+    (λ c. let k = c .before .before .before .before .before .before .before .before in
+    told (now (k .args .s)) (now (k .args .out)) (c .before .before .put-label .last .0) (k .args .p)
+    (c .before .before .put-label .result) (k .args .kind) 1 (c .before .before .before .before .if2 .taken)
+    (c .before .before .put-label .ensures))
+    (λ c κs. let k = c .before .before .before .before .before .before in
+    asked (now (k .args .s)) (now (k .args .out)) (k .args .p) (k .args .kind) 2 (c .before .if3 .taken) (k .pre))
     (λ c. search needs)
-    (λ c. let k = c .before .before .before .before .before .before .before .before .before in told (now (k .args .s)) (now (k .args .out)) (c .before .before .put-lines .last .0) (k .args .p) (c .before .before .put-lines .result) (k .args .kind) 2 (c .before .before .before .before .if3 .taken) (c .before .before .put-lines .ensures))
-    (λ c κs. let k = c .before .before .before .before .before .before .before in asked (now (k .args .s)) (now (k .args .out)) (k .args .p) (k .args .kind) 4 (c .before .if4 .taken) (k .pre))
+    (λ c. let k = c .before .before .before .before .before .before .before .before .before in
+    told (now (k .args .s)) (now (k .args .out)) (c .before .before .put-lines .last .0) (k .args .p)
+    (c .before .before .put-lines .result) (k .args .kind) 2 (c .before .before .before .before .if3 .taken)
+    (c .before .before .put-lines .ensures))
+    (λ c κs. let k = c .before .before .before .before .before .before .before in
+    asked (now (k .args .s)) (now (k .args .out)) (k .args .p) (k .args .kind) 4 (c .before .if4 .taken) (k .pre))
     (λ c. search needs)
-    (λ c. let k = c .before .before .before .before .before .before .before .before .before .before in told (now (k .args .s)) (now (k .args .out)) (c .before .before .put-relocation .last .0) (k .args .p) (c .before .before .put-relocation .result) (k .args .kind) 4 (c .before .before .before .before .if4 .taken) (c .before .before .put-relocation .ensures))
-    (λ c. let k = c .before .before .before .before .before .before in put-nothing (wordsAt (k .args .kind) (now (k .args .s)) (k .args .p)) (now (k .args .out)) (other-words (k .args .kind) (now (k .args .s)) (k .args .p) (c .before .before .before .if1 .left) (c .before .before .if2 .left) (c .before .if3 .left) (c .if4 .left))))
+    (λ c. let k = c .before .before .before .before .before .before .before .before .before .before in
+    told (now (k .args .s)) (now (k .args .out)) (c .before .before .put-relocation .last .0) (k .args .p)
+    (c .before .before .put-relocation .result) (k .args .kind) 4 (c .before .before .before .before .if4 .taken)
+    (c .before .before .put-relocation .ensures))
+    (λ c. let k = c .before .before .before .before .before .before in
+    put-nothing (wordsAt (k .args .kind) (now (k .args .s)) (k .args .p)) (now (k .args .out))
+    (other-words (k .args .kind) (now (k .args .s)) (k .args .p) (c .before .before .before .if1 .left) (c .before .before .if2 .left)
+    (c .before .if3 .left) (c .if4 .left))))

@@ -30,7 +30,8 @@ returns c =
 returns-2 : tie.Need-returns-2
 returns-2 c =
     let k = c .before .before .before .before in
-    put-nothing (relocationWords (now (k .args .s))) (now (k .args .out)) (dropped-relocations (now (k .args .s)) (sym (c .before .keeps-relocations .ensures) ∙ c .if1 .left))
+    put-nothing (relocationWords (now (k .args .s))) (now (k .args .out))
+    (dropped-relocations (now (k .args .s)) (sym (c .before .keeps-relocations .ensures) ∙ c .if1 .left))
 
 pub put-relocations-spec : {M : Type 1} → statement M
 put-relocations-spec = tie.close (tie.spec (λ c κs. search needs) put-part-requires (λ c. search needs) returns returns-2)

@@ -29,10 +29,12 @@ part c = wordsAt (start c .args .kind) (now (start c .args .s)) (getD (now (star
 
 abbrev others : tie.In-loop Inv-loop μ-loop → List ℕ
 others c =
-    flatMap (wordsAt (start c .args .kind) (now (start c .args .s))) (drop (c .before .loop .i + 1) (take (start c .args .n) (now (start c .args .win))))
+    flatMap (wordsAt (start c .args .kind) (now (start c .args .s)))
+    (drop (c .before .loop .i + 1) (take (start c .args .n) (now (start c .args .win))))
 
 next : (c : tie.In-loop Inv-loop μ-loop) →
-    flatMap (wordsAt (start c .args .kind) (now (start c .args .s))) (drop (c .before .loop .i) (take (start c .args .n) (now (start c .args .win))))
+    flatMap (wordsAt (start c .args .kind) (now (start c .args .s)))
+    (drop (c .before .loop .i) (take (start c .args .n) (now (start c .args .win))))
     ≡ part c ++ others c
 next c =
     let a = start c .args in
@@ -68,7 +70,8 @@ put-window-spec =
     (λ c. within (c .before .before .loop .inv .1))
     (λ c. within (c .before .before .loop .inv .1))
     (λ c. search needs)
-    (λ c κs. room-for (c .before .before .before .loop .inv .1) (part (c .before .before)) (others (c .before .before)) (next (c .before .before)))
+    (λ c κs. room-for (c .before .before .before .loop .inv .1) (part (c .before .before)) (others (c .before .before))
+    (next (c .before .before)))
     add-at
     (λ c. omega arith)
     (λ c. omega arith)

@@ -63,7 +63,8 @@ long w = handed-long (start w .args .kind) (bytes w) (found w) (handed w) (place
 emits : (c : tie.After-put-window Inv-loop μ-loop) →
     let w = c .before .before .before .before .before in
     Emits (partWords (start w .args .kind) (bytes w)) (now (start w .args .out)) (words w (others w))
-    (after (record { at = w .before .before .loop .at; out = w .before .before .loop .out }) (c .put-window .result) (c .put-window .last .0))
+    (after (record { at = w .before .before .loop .at; out = w .before .before .loop .out }) (c .put-window .result)
+    (c .put-window .last .0))
 emits c =
     let w = c .before .before .before .before .before in
     emit (w .before .before .loop .inv .1) (words w (take (count w) (handed w))) (words w (others w)) (next w) (c .put-window .ensures)
@@ -71,18 +72,26 @@ emits c =
 loop-holds : tie.Need-loop-holds Inv-loop μ-loop
 loop-holds c =
     let k = c .before .before .before .before in
-    let f : List ℕ → List ℕ = flatMap (wordsAt (k .args .kind) (now (k .args .s))) in
-    (refl, subst (λ (z : List ℕ). Emits (partWords (k .args .kind) (now (k .args .s))) (now (k .args .out)) z (record { at = 0; out = now (k .args .out) })) (ap f (sym (c .new .ensures))) (begin _ _ (k .pre .1)))
+    let f : List ℕ → List ℕ = flatMap (wordsAt (k .args .kind) (now (k .args .s))) in (
+      refl,
+      subst
+          (λ (z : List ℕ). Emits (partWords (k .args .kind) (now (k .args .s))) (now (k .args .out)) z
+          (record { at = 0; out = now (k .args .out) })) (ap f (sym (c .new .ensures))) (begin _ _ (k .pre .1)),
+    )
 
 put-window-requires : tie.Need-put-window-requires Inv-loop μ-loop
 put-window-requires c κs =
-    let w = c .before .before .before .before in
-    (omega (arith, size w, long w), room-for (w .before .before .loop .inv .1) (words w (take (count w) (handed w))) (words w (others w)) (next w))
+    let w = c .before .before .before .before in (
+      omega (arith, size w, long w),
+      room-for (w .before .before .loop .inv .1) (words w (take (count w) (handed w))) (words w (others w))
+          (next w),
+    )
 
 returns : tie.Need-returns Inv-loop μ-loop
 returns c =
     let w = c .before .before .before .before .before .before .before .before .before in
-    let none-left = handed-none (start w .args .kind) (bytes w) (found w) (handed w) (places w) (others w) (count w) (w .next-window .ensures) (omega (arith, c .if1 .taken, long w)) in
+    let none-left = handed-none (start w .args .kind) (bytes w) (found w) (handed w) (places w) (others w) (count w)
+    (w .next-window .ensures) (omega (arith, c .if1 .taken, long w)) in
     emitted (emits (c .before .before .before .before)) (windows-over (wordsAt (start w .args .kind) (bytes w)) (others w) none-left)
 
 loop-less : tie.Need-loop-less Inv-loop μ-loop
@@ -107,7 +116,13 @@ put-windows-spec =
     put-window-requires
     (λ c. let e = emits (c .before .before) in omega (arith, within e, same e))
     (λ c. same (emits (c .before .before .before .before)))
-    (λ c. long (c .before .before .before .before .before .before .before .before .before) ∙ c .before .before .before .before .before .before .before .before .before .before .before .loop .inv .0)
+    (λ c. long (c .before .before .before .before .before .before .before .before .before)
+    ∙ c .before .before .before .before .before .before .before .before .before .before .before .loop .inv .0)
     returns
     loop-less
-    (λ c. (long (c .before .before .before .before .before .before .before .before .before .before) ∙ c .before .before .before .before .before .before .before .before .before .before .before .before .loop .inv .0, emits (c .before .before .before .before .before))))
+    (λ c. (
+      long (c .before .before .before .before .before .before .before .before .before .before)
+          ∙ c .before .before .before .before .before .before .before .before .before .before .before .before .loop .inv .0,
+      emits
+          (c .before .before .before .before .before),
+    )))

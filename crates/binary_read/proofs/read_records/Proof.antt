@@ -20,13 +20,17 @@ use Rattle.binary_read.proofs.read_records.Tie as tie
 abbrev start : tie.After-records-length → tie.Start
 start q = q .before .before .before
 
-refused-by : (q : tie.After-records-length) → (q .records-length .result .number ≡ 0 → ⊥) → afterHeader (now (start q .args .s)) ≡ refused (q .records-length .result .number)
-refused-by q h = told-refused (now (start q .args .s)) (q .records-length .result .number) (q .records-length .result .len) (q .records-length .ensures) h
+refused-by : (q : tie.After-records-length) → (q .records-length .result .number ≡ 0 → ⊥) → afterHeader (now (start q .args .s))
+    ≡ refused (q .records-length .result .number)
+refused-by q h =
+    told-refused (now (start q .args .s)) (q .records-length .result .number) (q .records-length .result .len) (q .records-length .ensures)
+    h
 
 given-by : (q : tie.After-records-length) → q .records-length .result .number ≡ 0
     → (afterHeader (now (start q .args .s)) ≡ given (objectWords (now (start q .args .s))))
     × (q .records-length .result .len ≡ length (objectWords (now (start q .args .s))))
-given-by q z = told-given (now (start q .args .s)) (q .records-length .result .number) (q .records-length .result .len) (q .records-length .ensures) z
+given-by q z =
+    told-given (now (start q .args .s)) (q .records-length .result .number) (q .records-length .result .len) (q .records-length .ensures) z
 
 returns : tie.Need-returns
 returns c =
@@ -40,7 +44,8 @@ returns-2 c =
     let q = c .before .before .before .before .before in
     let out = now (start q .args .out) in
     let g = given-by q (c .before .before .before .if1 .left) in
-    ap (λ r. filledOf r out) (c .refused2 .ensures) ∙ ends-short (objectWords (now (start q .args .s))) out (omega (arith, g .1, c .before .if2 .taken))
+    ap (λ r. filledOf r out) (c .refused2 .ensures)
+    ∙ ends-short (objectWords (now (start q .args .s))) out (omega (arith, g .1, c .before .if2 .taken))
     ∙ ap (λ (o : Outcome (List ℕ)). fill o out) (sym (g .0))
 
 put-object-requires : tie.Need-put-object-requires

@@ -9,35 +9,7 @@ use denote.Ref.{now}
 use Rattle.binary_read.proofs.ChunkLaws.{topped}
 use Rattle.binary_read.proofs.top_up.Statement.{statement}
 use Rattle.binary_read.proofs.top_up.Tie as tie
-use Rattle.binary_read.proofs.top_up.Reads as reads
-use Rattle.binary_read.proofs.top_up.Lts as lts
-use Rattle.writing.proofs.put_bytes.Reads as put-bytes-reads
 
--- src/lib.rt:209:13
-sub-k : tie.Need-sub-k
-sub-k c = search needs
-
--- src/lib.rt:211:26
-sub-put-bytes : tie.Need-sub-put-bytes
-sub-put-bytes c = search needs
-
--- src/lib.rt:211:26
-part-put-bytes-start : tie.Need-part-put-bytes-start
-part-put-bytes-start c = search needs
-
--- src/lib.rt:211:26
-part-put-bytes-end : tie.Need-part-put-bytes-end
-part-put-bytes-end c = search needs
-
--- src/lib.rt:211:9
-put-bytes-requires : tie.Need-put-bytes-requires
-put-bytes-requires c κs = search needs
-
--- src/lib.rt:211:9
-same-length : tie.Need-same-length
-same-length c = search needs
-
--- src/lib.rt:211:9
 returns : tie.Need-returns
 returns c =
     let k = c .before .before .before .before .before .before .before in
@@ -50,39 +22,6 @@ returns c =
     let e : r ≡ length s = t .0 in
     (omega arith, t .1 ∙ ap (λ (z : List ℕ). take n held ++ z) (sym (take-all r s (omega arith))))
 
--- src/lib.rt:213:15
-sub-put-bytes-2 : tie.Need-sub-put-bytes-2
-sub-put-bytes-2 c = search needs
-
--- src/lib.rt:213:15
-part-put-bytes-start-2 : tie.Need-part-put-bytes-start-2
-part-put-bytes-start-2 c = search needs
-
--- src/lib.rt:213:15
-part-put-bytes-end-2 : tie.Need-part-put-bytes-end-2
-part-put-bytes-end-2 c = search needs
-
--- src/lib.rt:213:31
-sub-put-bytes-3 : tie.Need-sub-put-bytes-3
-sub-put-bytes-3 c = search needs
-
--- src/lib.rt:213:31
-part-put-bytes-start-3 : tie.Need-part-put-bytes-start-3
-part-put-bytes-start-3 c = search needs
-
--- src/lib.rt:213:31
-part-put-bytes-end-3 : tie.Need-part-put-bytes-end-3
-part-put-bytes-end-3 c = search needs
-
--- src/lib.rt:213:5
-put-bytes-requires-2 : tie.Need-put-bytes-requires-2
-put-bytes-requires-2 c κs = search needs
-
--- src/lib.rt:204:1
-same-length-2 : tie.Need-same-length-2
-same-length-2 c = search needs
-
--- src/lib.rt:204:1
 returns-2 : tie.Need-returns-2
 returns-2 c =
     let k = c .before .before .before .before .before .before .before .before in
@@ -101,19 +40,19 @@ pub top-up-spec : {M : Type 1} → statement M
 top-up-spec =
     tie.close
     (tie.spec
-    sub-k
-    sub-put-bytes
-    part-put-bytes-start
-    part-put-bytes-end
-    put-bytes-requires
-    same-length
+    (λ c. search needs)
+    (λ c. search needs)
+    (λ c. search needs)
+    (λ c. search needs)
+    (λ c κs. search needs)
+    (λ c. search needs)
     returns
-    sub-put-bytes-2
-    part-put-bytes-start-2
-    part-put-bytes-end-2
-    sub-put-bytes-3
-    part-put-bytes-start-3
-    part-put-bytes-end-3
-    put-bytes-requires-2
-    same-length-2
+    (λ c. search needs)
+    (λ c. search needs)
+    (λ c. search needs)
+    (λ c. search needs)
+    (λ c. search needs)
+    (λ c. search needs)
+    (λ c κs. search needs)
+    (λ c. search needs)
     returns-2)

@@ -9,92 +9,90 @@ use denote.Ref.{now}
 use Rattle.binary_read.proofs.BoundLaws.{parts-few, length-kept, length-dropped}
 use Rattle.binary_read.proofs.words_length.Statement.{statement}
 use Rattle.binary_read.proofs.words_length.Tie as tie
-use Rattle.binary_read.proofs.words_length.Reads as reads
-use Rattle.binary_read.proofs.words_length.Lts as lts
-use Rattle.binary_read.proofs.keeps_relocations.Reads as keeps-relocations-reads
-use Rattle.binary_words.proofs.part_length.Reads as part-length-reads
-use Rattle.binary_words.proofs.source_length.Reads as source-length-reads
 
--- src/lib.rt:30:13
-part-length-requires : tie.Need-part-length-requires
-part-length-requires c κs = search needs
-
--- src/lib.rt:30:33
-part-length-requires-2 : tie.Need-part-length-requires-2
-part-length-requires-2 c κs = search needs
-
--- src/lib.rt:30:13
 add-n : tie.Need-add-n
 add-n c = omega (arith, c .before .part-length .ensures, c .part-length2 .ensures, parts-few (now (c .before .before .before .args .s)))
 
--- src/lib.rt:30:53
-part-length-requires-3 : tie.Need-part-length-requires-3
-part-length-requires-3 c κs = search needs
-
--- src/lib.rt:30:13
 add-n-2 : tie.Need-add-n-2
 add-n-2 c =
     let q = c .before in
-    omega (arith, q .before .part-length .ensures, q .part-length2 .ensures, c .part-length3 .ensures, parts-few (now (q .before .before .before .args .s)))
+    omega (
+      arith,
+      q .before .part-length .ensures,
+      q .part-length2 .ensures,
+      c .part-length3 .ensures,
+      parts-few
+          (now (q .before .before .before .args .s)),
+    )
 
--- src/lib.rt:30:73
-source-length-requires : tie.Need-source-length-requires
-source-length-requires c κs = search needs
-
--- src/lib.rt:30:13
 add-n-3 : tie.Need-add-n-3
 add-n-3 c =
     let q = c .before .before in
-    omega
-    (arith, q .before .part-length .ensures, q .part-length2 .ensures, c .before .part-length3 .ensures, c .source-length .ensures, parts-few (now (q .before .before .before .args .s)))
+    omega (
+      arith,
+      q .before .part-length .ensures,
+      q .part-length2 .ensures,
+      c .before .part-length3 .ensures,
+      c .source-length .ensures,
+      parts-few (now (q .before .before .before .args .s)),
+    )
 
--- src/lib.rt:31:8
-keeps-relocations-requires : tie.Need-keeps-relocations-requires
-keeps-relocations-requires c κs = search needs
-
--- src/lib.rt:32:20
-part-length-requires-4 : tie.Need-part-length-requires-4
-part-length-requires-4 c κs = search needs
-
--- src/lib.rt:32:16
 add-result : tie.Need-add-result
 add-result c =
     let q = c .before .before .before .before .before in
     let s = now (q .before .before .before .args .s) in
-    omega
-    (arith, q .before .part-length .ensures, q .part-length2 .ensures, c .before .before .before .before .part-length3 .ensures, c .before .before .before .source-length .ensures, c .part-length4 .ensures, parts-few s)
+    omega (
+      arith,
+      q .before .part-length .ensures,
+      q .part-length2 .ensures,
+      c .before .before .before .before .part-length3 .ensures,
+      c .before .before .before .source-length .ensures,
+      c .part-length4 .ensures,
+      parts-few s,
+    )
 
--- src/lib.rt:32:9
 returns : tie.Need-returns
 returns c =
     let q = c .before .before .before .before .before in
     let s = now (q .before .before .before .args .s) in
     let k = sym (c .before .before .keeps-relocations .ensures) ∙ c .before .if1 .taken in
-    omega
-    (arith, q .before .part-length .ensures, q .part-length2 .ensures, c .before .before .before .before .part-length3 .ensures, c .before .before .before .source-length .ensures, c .part-length4 .ensures, length-kept s k)
+    omega (
+      arith,
+      q .before .part-length .ensures,
+      q .part-length2 .ensures,
+      c .before .before .before .before .part-length3 .ensures,
+      c .before .before .before .source-length .ensures,
+      c .part-length4 .ensures,
+      length-kept s k,
+    )
 
--- src/lib.rt:27:1
 returns-2 : tie.Need-returns-2
 returns-2 c =
     let q = c .before .before .before .before in
     let s = now (q .before .before .before .args .s) in
     let k = sym (c .before .keeps-relocations .ensures) ∙ c .if1 .left in
-    omega
-    (arith, q .before .part-length .ensures, q .part-length2 .ensures, c .before .before .before .part-length3 .ensures, c .before .before .source-length .ensures, length-dropped s k)
+    omega (
+      arith,
+      q .before .part-length .ensures,
+      q .part-length2 .ensures,
+      c .before .before .before .part-length3 .ensures,
+      c .before .before .source-length .ensures,
+      length-dropped s k,
+    )
 
 pub words-length-spec : {M : Type 1} → statement M
 words-length-spec =
     tie.close
     (tie.spec
-    part-length-requires
-    part-length-requires-2
+    (λ c κs. search needs)
+    (λ c κs. search needs)
     add-n
-    part-length-requires-3
+    (λ c κs. search needs)
     add-n-2
-    source-length-requires
+    (λ c κs. search needs)
     add-n-3
-    keeps-relocations-requires
-    part-length-requires-4
+    (λ c κs. search needs)
+    (λ c κs. search needs)
     add-result
     returns
     returns-2)
