@@ -2,11 +2,14 @@
 ghost use mathlib.Core.Path.{_≡_};
 ghost use Rattle.format.specs.Basics.{beginsWith};
 ghost use Rattle.format.specs.Binary.{header};
-ghost use Rattle.format.specs.Calls.{WritesBinary};
-ghost use Rattle.units.specs.Filled.{filledOf};
+ghost use Rattle.format.specs.Calls.{readBinary, measured, WritesBinary, ReadsBinary};
+ghost use Rattle.units.specs.Filled.{filledOf, measuredOf};
 ghost use Rattle.binary_format.specs.Formats.{binaryFormat};
+use binary_read::read_records;
+use binary_read::records_length;
 use binary_write::write_file;
 use units::Filled;
+use units::Measured;
 
 // The binary format. Its magic and its version are its own.
 pub struct BinaryFormat;
@@ -29,6 +32,26 @@ impl BinaryFormat {
     {
         let front = file_header();
         write_file(object, &front, out)
+    }
+
+    // Whether a file reads, and how many words its object has; nothing is written.
+    pub fn length(self, s: &[u8]) -> Measured
+        ensures { λ r. ⌜ measuredOf r ≡ measured (readBinary (now (s .entry))) ⌝ }
+    {
+        if !has_header(s) {
+            return Measured { number: 10, len: 0 };
+        }
+        records_length(s)
+    }
+
+    // The object of a file, into the buffer lent: the length filled, or the number of the question that was answered no.
+    pub fn deserialize(self, s: &[u8], out: &mut [u32]) -> Filled
+        ensures { λ r. ⌜ ReadsBinary (now (s .entry)) (now (out .entry)) (filledOf r (now (out .exit))) ⌝ }
+    {
+        if !has_header(s) {
+            return Filled::refused(10);
+        }
+        read_records(s, out)
     }
 }
 
