@@ -26,7 +26,7 @@ use Rattle.gather.proofs.WalkLaws.{after-0, after-1, after-2, after-4}
 use Rattle.gather.proofs.OrderLaws.{held-front}
 use Rattle.binary_words.specs.RecordAt.{blockAt, labelAt, lineBlockAt, relocationAt, inOrder, wordsAt, partWords, bodyLength}
 
-memories-length : (bs : List ℕ) → length (memoriesFrom bs) ≡ length bs / 3
+pub memories-length : (bs : List ℕ) → length (memoriesFrom bs) ≡ length bs / 3
 unfolding memoriesFrom
 memories-length [] = refl
 memories-length (f ∷ []) = refl
@@ -170,7 +170,7 @@ module _ (kind : ℕ) (s : List ℕ) where
       (λ e. rw (upsert-same key a p ps e) (omega (arith, total-cons kind s a ps, total-cons kind s p ps)))
       (λ e. rw (upsert-above key a p ps e) (omega (arith, upsert-few a ps, total-cons kind s p (upsert key a ps), total-cons kind s p ps)))
 
-  all-few : (ps acc : List ℕ) → total kind s (upsertAll (keyAt kind s) ps acc) ≤ total kind s ps + total kind s acc
+  pub all-few : (ps acc : List ℕ) → total kind s (upsertAll (keyAt kind s) ps acc) ≤ total kind s ps + total kind s acc
   unfolding upsertAll flatMap
   all-few [] acc = omega arith
   all-few (a ∷ ps) acc = omega (arith, all-few ps (upsert (keyAt kind s) a acc), upsert-few a acc, total-cons kind s a ps)

@@ -31,7 +31,7 @@ unfolding flatMap
 chunks-none s = refl
 
 module _ (s : List ℕ) where
-  chunk-few : (p : ℕ) → (length (chunkAt s p) ≤ bytesAfter 3 (drop (p + 1) s)) × (length (chunkAt s p) ≤ length (drop (p + 1) s))
+  pub chunk-few : (p : ℕ) → (length (chunkAt s p) ≤ bytesAfter 3 (drop (p + 1) s)) × (length (chunkAt s p) ≤ length (drop (p + 1) s))
   chunk-few p =
       let l = length-take (numberAt (p + 1) 8 s) (drop (p + 9) s) in
       let d = length-drop (p + 9) s in

@@ -1,4 +1,4 @@
-// The three units of the tables, and what a call that fills a buffer hands back.
+// The three units of the tables, and what calls that fill a buffer or tell a length hand back.
 ghost use mathlib.Core.Path.{_≡_};
 ghost use Prim.Native.Nat.{_+_, _%_, _^_};
 ghost use Rattle.units.specs.Filled.{handedBack};
@@ -14,6 +14,12 @@ pub struct Address(pub u16);
 
 // The number of the question that was answered no, or 0; and the length filled.
 pub struct Filled {
+    pub number: u8,
+    pub len: usize,
+}
+
+// The number of the question that was answered no, or 0; and the length of the answer, of which nothing is written.
+pub struct Measured {
     pub number: u8,
     pub len: usize,
 }

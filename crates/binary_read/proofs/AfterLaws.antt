@@ -1,0 +1,260 @@
+-- What a binary file gives after its header, by the answers to the questions. Assumes nothing.
+use mathlib.Core.Path.{_≡_, refl, sym, ap, subst, _∙_}
+use mathlib.Core.Bool.{Bool, true, false, not, _&&_, _||_}
+use mathlib.Core.List.{List, [], _∷_, _++_, map, flatMap, append-assoc}
+use mathlib.Core.Option.{Option, none, some}
+use Prim.Native.Nat.{ℕ, zero, suc, _+_, _*_, _≤_, _<_}
+use native.Mathlib.Omega.{arith}
+use lib.ListN.{length, take, drop}
+use lib.Dec.{eqb}
+use borrow.Author.Tests.{eqb-true, eqb-false}
+use Rattle.format.specs.Basics.{Outcome, refused, given, _>>=_, ask, if_then_else_, isEmpty, isSome}
+use Rattle.format.specs.Tokens.{tokens}
+use Rattle.format.specs.Utf8.{isUtf8}
+use Rattle.format.specs.Sorted.{upsert, upsertAll, sorted}
+use Rattle.format.specs.ObjectFile.{ObjectFile, apart, strictlyRise}
+use Rattle.format.specs.Records.{Record, block, label, lineBlock, source, relocation, recordsOf}
+use Rattle.format.specs.Records.{sourceRecords, gatherRecords, emptyObject, binaryQuestions}
+use Rattle.format.specs.Records.{askAll, concluded, dropStrayRelocations, withRelocations}
+use Rattle.format.specs.Words.{recordWords, wordsOf}
+use Rattle.format.specs.Binary.{bytesAt, numberAt, hasBytes, addressesFrom, recordAt}
+use Rattle.format.specs.Binary.{blockFrom, labelFrom, linesFrom, sourceFrom, relocationFrom}
+use Rattle.format.specs.Calls.{refusalOf, measured, Measured}
+use Rattle.format.proofs.ListLaws.{by-test, flatMap-append, flatMap-map}
+use Rattle.gather.specs.Places.{placesOf, keyAt}
+use Rattle.gather.proofs.WindowLaws.{by-order, upsert-below, upsert-same, upsert-above}
+use Rattle.binary_scan.proofs.ScanLaws.{unknown-record}
+use Rattle.binary_words.specs.RecordAt.{blockAt, labelAt, lineBlockAt, relocationAt, inOrder, sourceOf, objectAt, wordsAt, partWords}
+use Rattle.binary_words.proofs.PlacesRead.{gathered-object}
+use Rattle.binary_read.specs.AfterHeader.{afterHeader}
+use Rattle.binary_read.specs.Emission.{sourceWords, keepsRelocations, relocationWords, objectWords}
+
+-- A REFUSAL HAS A NUMBER
+abbrev Numbered : {A : Type 0} → Outcome A → Type 0
+Numbered (refused n) = 0 < n
+Numbered (given a) = Unit {0}
+
+numbered-bind : {A B : Type 0} (o : Outcome A) (f : A → Outcome B) → Numbered o → ((a : A) → Numbered (f a)) → Numbered (o >>= f)
+numbered-bind (refused n) f h k = h
+numbered-bind (given a) f h k = k a
+
+numbered-ask : {B : Type 0} (n : ℕ) (t : Bool) (o : Outcome B) → 0 < n → Numbered o → Numbered (ask n t >>= λ _. o)
+numbered-ask n true o h k = k
+numbered-ask n false o h k = h
+
+module _ (bs : List ℕ) where
+  numbered-0 : Numbered (blockFrom bs)
+  unfolding blockFrom
+  numbered-0 = numbered-ask 12 (hasBytes 4 bs) _ (omega arith) (numbered-ask 12 (hasBytes (4 + 3 * numberAt 2 2 bs) bs) _ (omega arith) tt)
+
+  numbered-1 : Numbered (labelFrom bs)
+  unfolding labelFrom
+  numbered-1 =
+      numbered-ask 12 (hasBytes 19 bs) _ (omega arith) (numbered-ask 12 (hasBytes (19 + numberAt 11 8 bs) bs) _ (omega arith)
+      (numbered-ask 13 (isUtf8 (bytesAt 19 (numberAt 11 8 bs) bs)) _ (omega arith) tt))
+
+  numbered-2 : Numbered (linesFrom bs)
+  unfolding linesFrom
+  numbered-2 =
+      numbered-ask 12 (hasBytes 10 bs) _ (omega arith) (numbered-ask 12 (hasBytes (10 + 2 * numberAt 8 2 bs) bs) _ (omega arith)
+      (numbered-ask 14 (strictlyRise (addressesFrom (bytesAt 10 (2 * numberAt 8 2 bs) bs))) _ (omega arith) tt))
+
+  numbered-3 : Numbered (sourceFrom bs)
+  unfolding sourceFrom
+  numbered-3 =
+      numbered-ask 12 (hasBytes 8 bs) _ (omega arith) (numbered-ask 12 (hasBytes (8 + numberAt 0 8 bs) bs) _ (omega arith)
+      (numbered-ask 13 (isUtf8 (bytesAt 8 (numberAt 0 8 bs) bs)) _ (omega arith) tt))
+
+  numbered-4 : Numbered (relocationFrom bs)
+  unfolding relocationFrom
+  numbered-4 =
+      numbered-ask 12 (hasBytes 10 bs) _ (omega arith) (numbered-ask 12 (hasBytes (10 + numberAt 2 8 bs) bs) _ (omega arith)
+      (numbered-ask 13 (isUtf8 (bytesAt 10 (numberAt 2 8 bs) bs)) _ (omega arith) tt))
+
+  numbered-record : (k : ℕ) → Numbered (recordAt (k ∷ bs))
+  unfolding recordAt
+  numbered-record zero = numbered-0
+  numbered-record (suc zero) = numbered-1
+  numbered-record (suc (suc zero)) = numbered-2
+  numbered-record (suc (suc (suc zero))) = numbered-3
+  numbered-record (suc (suc (suc (suc zero)))) = numbered-4
+  numbered-record (suc (suc (suc (suc (suc k))))) =
+      let j = suc (suc (suc (suc (suc k)))) in
+      let h : 0 < 11 = omega arith in
+      subst (λ (o : Outcome (Record × ℕ)). Numbered o) (sym (unknown-record bs j (omega arith))) h
+
+numbered-tokens : (k : ℕ) (xs : List ℕ) → Numbered (tokens recordAt k xs)
+unfolding tokens
+numbered-tokens k [] = tt
+numbered-tokens (suc k) (a ∷ xs) = numbered-tokens k xs
+numbered-tokens zero (a ∷ xs) =
+    numbered-bind (recordAt (a ∷ xs)) _ (numbered-record xs a) λ t.
+    numbered-bind (tokens recordAt (t .1) xs) _ (numbered-tokens (t .1) xs) λ ts. tt
+
+-- refused where the number is not 0, else given
+refused-as : {A : Type 0} (o : Outcome A) (n : ℕ) → n ≡ refusalOf o → (n ≡ 0 → ⊥) → o ≡ refused n
+refused-as (refused m) n e h = ap refused (sym e)
+refused-as (given a) n e h = absurd (h e)
+
+given-as : {A : Type 0} (o : Outcome A) → 0 ≡ refusalOf o → Numbered o → (a : A) × (o ≡ given a)
+given-as (refused m) e h = absurd (let z : ⊥ = omega arith in z)
+given-as (given a) e h = (a, refl)
+
+-- THE WORDS, part by part
+parts-words : (f : Record → List ℕ) (a b c d e : List Record) → flatMap f (a ++ b ++ c ++ d ++ e) ≡ flatMap f a
+    ++ (flatMap f b ++ (flatMap f c ++ (flatMap f d ++ flatMap f e)))
+parts-words f a b c d e =
+    flatMap-append f (a ++ b ++ c ++ d) e
+    ∙ ap (λ (z : List ℕ). z ++ flatMap f e)
+    (flatMap-append f (a ++ b ++ c) d
+    ∙ ap (λ (z : List ℕ). z ++ flatMap f d) (flatMap-append f (a ++ b) c ∙ ap (λ (z : List ℕ). z ++ flatMap f c) (flatMap-append f a b)))
+    ∙ regroup (flatMap f a) (flatMap f b) (flatMap f c) (flatMap f d) (flatMap f e)
+  where
+    regroup : (v w x y z : List ℕ) → v ++ w ++ x ++ y ++ z ≡ v ++ (w ++ (x ++ (y ++ z)))
+    regroup v w x y z = append-assoc (v ++ w ++ x) y z ∙ append-assoc (v ++ w) x (y ++ z) ∙ append-assoc v w (x ++ (y ++ z))
+
+module _ (s : List ℕ) where
+  abbrev wordsWith : List ℕ → List ℕ
+  wordsWith rs = partWords 0 s ++ (partWords 1 s ++ (partWords 2 s ++ (sourceWords s ++ rs)))
+
+  words-0 : flatMap recordWords (map block (map (blockAt s) (inOrder 0 s))) ≡ partWords 0 s
+  unfolding wordsAt
+  words-0 =
+      flatMap-map recordWords block (map (blockAt s) (inOrder 0 s)) ∙ flatMap-map (λ b. recordWords (block b)) (blockAt s) (inOrder 0 s)
+
+  words-1 : flatMap recordWords (map label (map (labelAt s) (inOrder 1 s))) ≡ partWords 1 s
+  unfolding wordsAt
+  words-1 =
+      flatMap-map recordWords label (map (labelAt s) (inOrder 1 s)) ∙ flatMap-map (λ b. recordWords (label b)) (labelAt s) (inOrder 1 s)
+
+  words-2 : flatMap recordWords (map lineBlock (map (lineBlockAt s) (inOrder 2 s))) ≡ partWords 2 s
+  unfolding wordsAt
+  words-2 =
+      flatMap-map recordWords lineBlock (map (lineBlockAt s) (inOrder 2 s))
+      ∙ flatMap-map (λ b. recordWords (lineBlock b)) (lineBlockAt s) (inOrder 2 s)
+
+  words-4 : flatMap recordWords (map relocation (map (relocationAt s) (inOrder 4 s))) ≡ partWords 4 s
+  unfolding wordsAt
+  words-4 =
+      flatMap-map recordWords relocation (map (relocationAt s) (inOrder 4 s))
+      ∙ flatMap-map (λ b. recordWords (relocation b)) (relocationAt s) (inOrder 4 s)
+
+  all-words : wordsOf (objectAt s) ≡ wordsWith (partWords 4 s)
+  unfolding wordsOf recordsOf objectAt
+  all-words =
+      parts-words recordWords (map block (map (blockAt s) (inOrder 0 s))) (map label (map (labelAt s) (inOrder 1 s)))
+      (map lineBlock (map (lineBlockAt s) (inOrder 2 s))) (sourceRecords (sourceOf s)) (map relocation (map (relocationAt s) (inOrder 4 s)))
+      ∙ rw (words-0, words-1, words-2, words-4) refl
+
+  words-without : wordsOf (withRelocations (objectAt s) []) ≡ wordsWith []
+  unfolding wordsOf recordsOf objectAt flatMap
+  words-without =
+      parts-words recordWords (map block (map (blockAt s) (inOrder 0 s))) (map label (map (labelAt s) (inOrder 1 s)))
+      (map lineBlock (map (lineBlockAt s) (inOrder 2 s))) (sourceRecords (sourceOf s)) []
+      ∙ rw (words-0, words-1, words-2) refl
+
+  -- a sorted list is empty where the list is
+  upsert-there : (kind a : ℕ) (ps : List ℕ) → isEmpty (upsert (keyAt kind s) a ps) ≡ false
+  unfolding upsert isEmpty
+  upsert-there kind a [] = refl
+  upsert-there kind a (p ∷ ps) =
+      let key = keyAt kind s in
+      by-order (key a) (key p)
+      (λ e. ap isEmpty (upsert-below key a p ps e))
+      (λ e. ap isEmpty (upsert-same key a p ps e))
+      (λ e. ap isEmpty (upsert-above key a p ps e))
+
+  sorted-there : (kind : ℕ) (ps acc : List ℕ) → isEmpty acc ≡ false → isEmpty (upsertAll (keyAt kind s) ps acc) ≡ false
+  unfolding upsertAll
+  sorted-there kind [] acc e = e
+  sorted-there kind (a ∷ ps) acc e = sorted-there kind ps (upsert (keyAt kind s) a acc) (upsert-there kind a acc)
+
+  sorted-empty : (kind : ℕ) (ps : List ℕ) → isEmpty (sorted (keyAt kind s) ps) ≡ isEmpty ps
+  unfolding upsertAll isEmpty
+  sorted-empty kind [] = refl
+  sorted-empty kind (a ∷ ps) = sorted-there kind ps (upsert (keyAt kind s) a []) (upsert-there kind a [])
+
+  map-empty : {A : Type 0} (f : ℕ → A) (ps : List ℕ) → isEmpty (map f ps) ≡ isEmpty ps
+  unfolding isEmpty
+  map-empty f [] = refl
+  map-empty f (p ∷ ps) = refl
+
+  -- whether they are stray
+  stray : (h : ObjectFile) (a b : Bool) → isEmpty (h .labels) ≡ a → isSome (h .source) ≡ b
+      → dropStrayRelocations h ≡ (if not a || b then h else withRelocations h [])
+  unfolding dropStrayRelocations
+  stray h true true p q = rw (p, q) refl
+  stray h true false p q = rw (p, q) refl
+  stray h false true p q = rw p refl
+  stray h false false p q = rw p refl
+
+  no-labels : isEmpty (objectAt s .labels) ≡ isEmpty (placesOf 1 s)
+  unfolding objectAt
+  no-labels = map-empty (labelAt s) (inOrder 1 s) ∙ sorted-empty 1 (placesOf 1 s)
+
+  kept-words : wordsOf (dropStrayRelocations (objectAt s)) ≡ objectWords s
+  unfolding objectWords keepsRelocations objectAt
+  kept-words =
+      ap wordsOf (stray (objectAt s) (isEmpty (placesOf 1 s)) (isSome (sourceOf s)) no-labels refl)
+      ∙ by-test (not (isEmpty (placesOf 1 s)) || isSome (sourceOf s)) (λ u. rw u all-words) (λ u. rw u words-without)
+
+-- THE OUTCOME
+module _ (s : List ℕ) (n : ℕ) (e : n ≡ refusalOf (tokens recordAt 0 (drop 7 s))) where
+  pub after-refused : (n ≡ 0 → ⊥) → afterHeader s ≡ refused n
+  unfolding afterHeader
+  after-refused h = rw (refused-as (tokens recordAt 0 (drop 7 s)) n e h) refl
+
+  pub after-apart : n ≡ 0 → apart (objectAt s .lineBlocks) ≡ false → afterHeader s ≡ refused 15
+  unfolding afterHeader concluded askAll
+  after-apart z t =
+      let g = given-as (tokens recordAt 0 (drop 7 s)) (sym z ∙ e) (numbered-tokens 0 (drop 7 s)) in
+      rw (g .1, gathered-object s (g .0) (g .1), t) refl
+
+  pub after-given : n ≡ 0 → apart (objectAt s .lineBlocks) ≡ true → afterHeader s ≡ given (objectWords s)
+  unfolding afterHeader concluded askAll
+  after-given z t =
+      let g = given-as (tokens recordAt 0 (drop 7 s)) (sym z ∙ e) (numbered-tokens 0 (drop 7 s)) in
+      rw (g .1, gathered-object s (g .0) (g .1), t) (ap given (kept-words s))
+
+-- what a measured answer says
+module _ (number len : ℕ) where
+  abbrev told : Measured
+  told = record { number = number; len = len }
+
+  number-of : (n : ℕ) → told ≡ measured (refused n) → number ≡ n
+  unfolding measured
+  number-of n e = ap (λ (m : Measured). m .number) e
+
+  number-given : (ws : List ℕ) → told ≡ measured (given ws) → number ≡ 0
+  unfolding measured
+  number-given ws e = ap (λ (m : Measured). m .number) e
+
+  length-given : (ws : List ℕ) → told ≡ measured (given ws) → len ≡ length ws
+  unfolding measured
+  length-given ws e = ap (λ (m : Measured). m .len) e
+
+-- both ways that it ends
+module _ (s : List ℕ) where
+  by-outcome : (P : Outcome (List ℕ) → Type 0) → ((n : ℕ) → (n ≡ 0 → ⊥) → P (refused n)) → P (given (objectWords s)) → P (afterHeader s)
+  by-outcome P refuses gives =
+      let n = refusalOf (tokens recordAt 0 (drop 7 s)) in
+      by-test (eqb n 0)
+      (λ u. let z = eqb-true n 0 u in
+      by-test (apart (objectAt s .lineBlocks))
+      (λ t. subst P (sym (after-given s n refl z t)) gives)
+      (λ t. subst P (sym (after-apart s n refl z t)) (refuses 15 (λ e. omega arith))))
+      (λ u. let h = eqb-false n 0 u in subst P (sym (after-refused s n refl h)) (refuses n h))
+
+  -- what a number and a length tell of it
+  module _ (number len : ℕ) (e : told number len ≡ measured (afterHeader s)) where
+    pub told-refused : (number ≡ 0 → ⊥) → afterHeader s ≡ refused number
+    told-refused h =
+        by-outcome (λ o. told number len ≡ measured o → o ≡ refused number)
+        (λ n k q. ap refused (sym (number-of number len n q)))
+        (λ q. absurd (h (number-given number len (objectWords s) q))) e
+
+    pub told-given : number ≡ 0 → (afterHeader s ≡ given (objectWords s)) × (len ≡ length (objectWords s))
+    told-given z =
+        by-outcome (λ o. told number len ≡ measured o → (o ≡ given (objectWords s)) × (len ≡ length (objectWords s)))
+        (λ n k q. absurd (k (sym (number-of number len n q) ∙ z)))
+        (λ q. (refl, length-given number len (objectWords s) q)) e

@@ -1,0 +1,4 @@
+pub mod BoundLaws
+pub mod AfterLaws
+pub mod RecordLaws
+pub mod ChunkLaws

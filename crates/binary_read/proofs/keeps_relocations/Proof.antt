@@ -1,0 +1,23 @@
+use borrow.Author.Needs.{needs}
+use mathlib.Core.Path.{_≡_, refl, sym, ap, subst, _∙_}
+use mathlib.Core.Bool.{Bool, true, false}
+use mathlib.Core.List.{List, [], _∷_, _++_}
+use Prim.Native.Nat.{ℕ, zero, suc, _+_, _-_, _*_, _/_, _≤_, _<_}
+use native.Mathlib.Omega.{arith}
+use lib.ListN.{length, take, drop, getD}
+use denote.Ref.{now}
+use Rattle.binary_read.specs.Emission.{keepsRelocations}
+use Rattle.binary_read.proofs.keeps_relocations.Statement.{statement}
+use Rattle.binary_read.proofs.keeps_relocations.Tie as tie
+
+returns : tie.Need-returns
+unfolding keepsRelocations
+returns c = rw (sym (c .before .has-records .ensures), c .if1 .taken) refl
+
+returns-2 : tie.Need-returns-2
+unfolding keepsRelocations
+returns-2 c = rw (sym (c .before .before .has-records .ensures), c .before .if1 .left) (c .has-source .ensures)
+
+pub keeps-relocations-spec : {M : Type 1} → statement M
+keeps-relocations-spec =
+    tie.close (tie.spec (λ c κs. search needs) returns (λ c κs. search needs) returns-2)

@@ -1,0 +1,2 @@
+pub mod AfterHeader
+pub mod Emission
