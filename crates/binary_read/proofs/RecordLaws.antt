@@ -23,7 +23,7 @@ use borrow.Rule.Slice.PartAt.{part-to-end}
 use Rattle.bytes_at.specs.Part.{PartOf}
 use Rattle.binary_words.specs.RecordAt.{blockAt, labelAt, lineBlockAt, relocationAt, wordsAt}
 use Rattle.binary_words.proofs.LengthLaws.{memories-length, addresses-length}
-use Rattle.binary_read.specs.Emission.{memoryOfBytes, labelHead}
+use Rattle.binary_read.specs.Emission.{memoryOfBytes, labelHead, relocationHead}
 
 -- the first part, where all of the room is lent
 pub first :
@@ -158,8 +158,8 @@ module _ (s : List ℕ) (p from to : ℕ) where
   unfolding wordsAt recordWords
   lines-parts n en q = rw (append-nil (addressWords body), q .holds, en) refl
 
-  pub relocation-parts : (h n : ℕ) → h ≡ numberAt (p + 1) 2 s → n ≡ numberAt (p + 3) 8 s → PartOf s (p + 11) n from to
-      → wordsAt 4 s p ≡ ((0xA000_0000 + h) ∷ []) ++ (textWords body ++ [])
+  pub relocation-parts : (h n : ℕ) → h ≡ relocationHead s p → n ≡ numberAt (p + 3) 8 s → PartOf s (p + 11) n from to
+      → wordsAt 4 s p ≡ (h ∷ []) ++ (textWords body ++ [])
   unfolding wordsAt recordWords
   relocation-parts h n eh en q = rw (append-nil (textWords body), q .holds, en, eh) refl
 

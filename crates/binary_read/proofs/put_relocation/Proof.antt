@@ -37,9 +37,9 @@ emits1 c =
     let k = start1 c in
     let q = c .before .before .before .part-at in
     first (_ ∷ []) (left1 c)
-    (relocation-parts (bytes k) (k .args .p) (q .result .from) (q .result .to) (c .before .u16-at .result)
+    (relocation-parts (bytes k) (k .args .p) (q .result .from) (q .result .to) (c .before .relocation-head .result)
     (c .before .before .before .before .u64-at .result)
-    (c .before .u16-at .ensures) (c .before .before .before .before .u64-at .ensures) (q .ensures))
+    (c .before .relocation-head .ensures) (c .before .before .before .before .u64-at .ensures) (q .ensures))
     (k .pre) (c .put-word .ensures)
 
 abbrev state2 : tie.After-put-text-words → State ℕ
@@ -57,8 +57,6 @@ put-relocation-spec =
     (λ c κs. search needs)
     (λ c κs. search needs)
     (λ c κs. search needs)
-    (λ c. search needs)
-    (λ c. search needs)
     (λ c κs. search needs)
     (λ c. let e = emits1 (c .before .before) in omega (arith, within e, same e))
     (λ c. within (emits1 (c .before .before)))
