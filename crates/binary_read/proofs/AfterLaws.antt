@@ -1,11 +1,10 @@
 -- What a binary file gives after its header, by the answers to the questions. Assumes nothing.
 use mathlib.Core.Path.{_≡_, refl, sym, ap, subst, _∙_}
-use mathlib.Core.Bool.{Bool, true, false, not, _&&_, _||_}
+use mathlib.Core.Bool.{Bool, true, false, not, _||_}
 use mathlib.Core.List.{List, [], _∷_, _++_, map, flatMap, append-assoc}
-use mathlib.Core.Option.{Option, none, some}
-use Prim.Native.Nat.{ℕ, zero, suc, _+_, _*_, _≤_, _<_}
+use Prim.Native.Nat.{ℕ, zero, suc, _+_, _*_, _<_}
 use native.Mathlib.Omega.{arith}
-use lib.ListN.{length, take, drop}
+use lib.ListN.{length, drop}
 use lib.Dec.{eqb}
 use borrow.Author.Tests.{eqb-true, eqb-false}
 use Rattle.format.specs.Basics.{Outcome, refused, given, _>>=_, ask, if_then_else_, isEmpty, isSome}
@@ -14,7 +13,7 @@ use Rattle.format.specs.Utf8.{isUtf8}
 use Rattle.format.specs.Sorted.{upsert, upsertAll, sorted}
 use Rattle.format.specs.ObjectFile.{ObjectFile, apart, strictlyRise}
 use Rattle.format.specs.Records.{Record, block, label, lineBlock, source, relocation, recordsOf}
-use Rattle.format.specs.Records.{sourceRecords, gatherRecords, emptyObject, binaryQuestions}
+use Rattle.format.specs.Records.{sourceRecords}
 use Rattle.format.specs.Records.{askAll, concluded, dropStrayRelocations, withRelocations}
 use Rattle.format.specs.Words.{recordWords, wordsOf}
 use Rattle.format.specs.Binary.{bytesAt, numberAt, hasBytes, addressesFrom, recordAt}
@@ -27,7 +26,7 @@ use Rattle.binary_scan.proofs.ScanLaws.{unknown-record}
 use Rattle.binary_words.specs.RecordAt.{blockAt, labelAt, lineBlockAt, relocationAt, inOrder, sourceOf, objectAt, wordsAt, partWords}
 use Rattle.binary_words.proofs.PlacesRead.{gathered-object}
 use Rattle.binary_read.specs.AfterHeader.{afterHeader}
-use Rattle.binary_read.specs.Emission.{sourceWords, keepsRelocations, relocationWords, objectWords}
+use Rattle.binary_read.specs.Emission.{sourceWords, keepsRelocations, objectWords}
 
 -- A REFUSAL HAS A NUMBER
 abbrev Numbered : {A : Type 0} → Outcome A → Type 0

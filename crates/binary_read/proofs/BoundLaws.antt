@@ -1,14 +1,14 @@
 -- All five parts together have no more words than the file has bytes. Assumes nothing.
 use mathlib.Core.Path.{_≡_, refl, sym, ap, subst, _∙_}
-use mathlib.Core.Bool.{Bool, true, false}
+use mathlib.Core.Bool.{true, false}
 use mathlib.Core.List.{List, [], _∷_, _++_, flatMap}
-use Prim.Native.Nat.{ℕ, zero, suc, _+_, _-_, _*_, _/_, _≤_, _<_}
+use Prim.Native.Nat.{ℕ, zero, suc, _+_, _-_, _≤_}
 use native.Mathlib.Omega.{arith}
-use lib.ListN.{length, take, drop, length-append, length-drop}
+use lib.ListN.{length, drop, length-append, length-drop}
 use lib.Seq.{drop-drop}
-use lib.Dec.{eqb, leb}
+use lib.Dec.{leb}
 use borrow.Author.Tests.{ne-eqb, leb-true, leb-false}
-use Rattle.format.specs.Basics.{if_then_else_, isSome}
+use Rattle.format.specs.Basics.{isSome}
 use Rattle.format.proofs.ListLaws.{by-test}
 use Rattle.gather.specs.Places.{bytesAfter, places, placesOf}
 use Rattle.binary_words.specs.RecordAt.{chunkAt, sourceOf, wordsAt, partWords}

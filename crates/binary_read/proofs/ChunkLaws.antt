@@ -1,18 +1,17 @@
 -- The source, chunk by chunk: its words of three, and the bytes held over. Assumes nothing.
-use mathlib.Core.Path.{_≡_, refl, sym, ap, subst, _∙_}
+use mathlib.Core.Path.{_≡_, refl, sym, ap, _∙_}
 use mathlib.Core.Bool.{Bool, true, false, _&&_}
 use mathlib.Core.List.{List, [], _∷_, _++_, flatMap, append-nil, append-assoc}
-use mathlib.Core.Option.{Option, none, some}
-use Prim.Native.Nat.{ℕ, zero, suc, _+_, _-_, _*_, _/_, _≤_, _<_, min}
+use mathlib.Core.Option.{none, some}
+use Prim.Native.Nat.{ℕ, _+_, _-_, _*_, _/_, _≤_, _<_}
 use native.Mathlib.Omega.{arith}
-use lib.ListN.{length, take, drop, length-append, length-take, length-drop, take-append-drop}
-use lib.Seq.{drop-drop, take-all, take-at, drop-at, length-take-le}
-use borrow.Rule.Slice.PartMut.{putMid}
+use lib.ListN.{length, take, drop, length-append, length-drop, take-append-drop}
+use lib.Seq.{drop-drop, take-at, drop-at, length-take-le}
 use Rattle.format.specs.Basics.{if_then_else_, isEmpty, isSome}
 use Rattle.format.specs.Digits.{valueOf}
 use Rattle.format.specs.Records.{sourceRecords}
 use Rattle.format.specs.Words.{word, textWords, recordWords}
-use Rattle.writing.specs.Written.{into, Put}
+use Rattle.writing.specs.Written.{Put}
 use Rattle.writing.proofs.WriteLaws.{filled-fits, written-fits, length-into}
 use Rattle.writing.proofs.Parts.{State, Emits, rest, after, emit, emitted}
 use Rattle.gather.specs.Places.{placesFrom, placesOf}

@@ -1,18 +1,15 @@
 -- The words of the records, part by part, and word by word where a loop writes them. Assumes nothing.
-use mathlib.Core.Path.{_≡_, refl, sym, ap, subst, _∙_}
-use mathlib.Core.Bool.{Bool, true, false, not}
+use mathlib.Core.Path.{_≡_, refl, sym, ap, _∙_}
 use mathlib.Core.List.{List, [], _∷_, _++_, map, flatMap, append-nil}
-use mathlib.Core.Option.{Option, none, some}
-use Prim.Native.Nat.{ℕ, zero, suc, _+_, _-_, _*_, _/_, _%_, _^_, _≤_, _<_}
+use mathlib.Core.Option.{some}
+use Prim.Native.Nat.{ℕ, _+_, _-_, _*_, _/_, _%_, _≤_, _<_}
 use native.Mathlib.Nat.{zero-add}
 use native.Mathlib.Omega.{arith}
 use lib.ListN.{length, take, drop, getD, length-append, length-map, length-take, length-drop, drop-of-length-le}
 use lib.Seq.{getD-drop, getD-take, length-take-le}
-use lib.Dec.{eqb}
 use borrow.Author.Tests.{eq-eqb, ne-eqb, le-leb}
-use Rattle.format.specs.Basics.{if_then_else_}
 use Rattle.format.specs.Digits.{valueOf}
-use Rattle.format.specs.Words.{word, flagBit, memoryWord, numberWords, textWords, recordWords}
+use Rattle.format.specs.Words.{memoryWord, numberWords, textWords, recordWords}
 use Rattle.format.specs.Binary.{bytesAt, numberAt, memoriesFrom, addressesFrom}
 use Rattle.format.proofs.ListLaws.{flatMap-append}
 use Rattle.writing.specs.Written.{filled, written, Put}
@@ -21,9 +18,9 @@ use Rattle.writing.proofs.WriteLaws.{filled-fits, written-fits}
 use Rattle.writing.proofs.Parts.{State, Emits, rest, has-room}
 use borrow.Rule.Slice.PartAt.{part-to-end}
 use Rattle.bytes_at.specs.Part.{PartOf}
-use Rattle.binary_words.specs.RecordAt.{blockAt, labelAt, lineBlockAt, relocationAt, wordsAt}
+use Rattle.binary_words.specs.RecordAt.{wordsAt}
 use Rattle.binary_words.proofs.LengthLaws.{memories-length, addresses-length}
-use Rattle.binary_read.specs.Emission.{memoryOfBytes, labelHead}
+use Rattle.binary_read.specs.Emission.{memoryOfBytes, labelHead, relocationHead}
 
 -- the first part, where all of the room is lent
 pub first :
@@ -158,8 +155,8 @@ module _ (s : List ℕ) (p from to : ℕ) where
   unfolding wordsAt recordWords
   lines-parts n en q = rw (append-nil (addressWords body), q .holds, en) refl
 
-  pub relocation-parts : (h n : ℕ) → h ≡ numberAt (p + 1) 2 s → n ≡ numberAt (p + 3) 8 s → PartOf s (p + 11) n from to
-      → wordsAt 4 s p ≡ ((0xA000_0000 + h) ∷ []) ++ (textWords body ++ [])
+  pub relocation-parts : (h n : ℕ) → h ≡ relocationHead s p → n ≡ numberAt (p + 3) 8 s → PartOf s (p + 11) n from to
+      → wordsAt 4 s p ≡ (h ∷ []) ++ (textWords body ++ [])
   unfolding wordsAt recordWords
   relocation-parts h n eh en q = rw (append-nil (textWords body), q .holds, en, eh) refl
 

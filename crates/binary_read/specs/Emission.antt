@@ -2,7 +2,7 @@
 use mathlib.Core.Path.{_≡_}
 use mathlib.Core.Bool.{Bool, not, _||_}
 use mathlib.Core.List.{List, [], _∷_, _++_, flatMap}
-use mathlib.Core.Option.{Option, none, some}
+use mathlib.Core.Option.{none, some}
 use Prim.Native.Nat.{ℕ, _+_, _*_, _/_, _^_, _<_}
 use lib.ListN.{length, take, drop}
 use lib.Dec.{eqb}
@@ -12,7 +12,7 @@ use Rattle.format.specs.Records.{sourceRecords}
 use Rattle.format.specs.Words.{word, flagBit, memoryWord, textWords, recordWords}
 use Rattle.writing.specs.Written.{Put}
 use Rattle.gather.specs.Places.{placesOf}
-use Rattle.binary_words.specs.RecordAt.{labelAt, chunkAt, sourceOf, partWords}
+use Rattle.binary_words.specs.RecordAt.{labelAt, relocationAt, chunkAt, sourceOf, partWords}
 
 -- the memory word of the three bytes f, a and b: "a flag other than FF means uninitialised"
 abbrev pub memoryOfBytes : ℕ → ℕ → ℕ → ℕ
@@ -21,6 +21,10 @@ memoryOfBytes f a b = memoryWord (if eqb f 0xFF then some (valueOf 8 (a ∷ b �
 -- "2 label: bits 15..0 address, bit 16 external."
 abbrev pub labelHead : List ℕ → ℕ → ℕ
 labelHead s p = word 2 (labelAt s p .address + 2 ^ 16 * flagBit (labelAt s p .external))
+
+-- "5 relocation: bits 15..0 address."
+abbrev pub relocationHead : List ℕ → ℕ → ℕ
+relocationHead s p = word 5 (relocationAt s p .address)
 
 -- all chunks of the source: "03 chunks append"
 abbrev pub chunksOf : List ℕ → List ℕ

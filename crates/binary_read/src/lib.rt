@@ -29,8 +29,8 @@ ghost use Rattle.binary_words.specs.RecordAt.{wordsAt, partWords};
 ghost use Rattle.format.specs.Calls.{measured, fill};
 ghost use Rattle.units.specs.Filled.{measuredOf, filledOf};
 ghost use Rattle.binary_read.specs.AfterHeader.{afterHeader};
-ghost use Rattle.binary_read.specs.Emission.{memoryOfBytes, labelHead, chunksOf, sourceWords, keepsRelocations, relocationWords};
-ghost use Rattle.binary_read.specs.Emission.{objectWords, wholeWords, Chunked};
+ghost use Rattle.binary_read.specs.Emission.{memoryOfBytes, labelHead, relocationHead, chunksOf, sourceWords, keepsRelocations};
+ghost use Rattle.binary_read.specs.Emission.{relocationWords, objectWords, wholeWords, Chunked};
 
 // The memory word of three bytes: the flag and the value, low byte first.
 fn memory_word(f: u8, a: u8, b: u8) -> u32
@@ -130,7 +130,14 @@ fn put_lines(out: &mut [u32], s: &[u8], p: usize) -> usize
     at
 }
 
-// The words of the relocation at a place, its address low byte first.
+// The first word of the relocation at a place: its address, low byte first.
+fn relocation_head(s: &[u8], p: usize) -> u32
+    ensures { λ r. ⌜ r ≡ relocationHead (now (s .entry)) p ⌝ }
+{
+    0xA000_0000 + u16_at(s, p, 1) as u32
+}
+
+// The words of the relocation at a place.
 fn put_relocation(out: &mut [u32], s: &[u8], p: usize) -> usize
     requires { ⌜ length (wordsAt 4 (now s) p) ≤ length (now out) ⌝ }
     ensures { λ r. ⌜ Put (wordsAt 4 (now (s .entry)) p) (now (out .entry)) r (now (out .exit)) ⌝ }
@@ -138,7 +145,7 @@ fn put_relocation(out: &mut [u32], s: &[u8], p: usize) -> usize
     let b = part_at(s, p, 11, u64_at(s, p, 3));
     let from = b.from;
     let to = b.to;
-    let mut at = put_word(out, 0xA000_0000 + u16_at(s, p, 1) as u32);
+    let mut at = put_word(out, relocation_head(s, p));
     at += put_text_words(&mut out[at..], &s[from..to]);
     at
 }

@@ -1,11 +1,6 @@
+-- By labels, then by the source. Assumes nothing.
 use borrow.Author.Needs.{needs}
-use mathlib.Core.Path.{_≡_, refl, sym, ap, subst, _∙_}
-use mathlib.Core.Bool.{Bool, true, false}
-use mathlib.Core.List.{List, [], _∷_, _++_}
-use Prim.Native.Nat.{ℕ, zero, suc, _+_, _-_, _*_, _/_, _≤_, _<_}
-use native.Mathlib.Omega.{arith}
-use lib.ListN.{length, take, drop, getD}
-use denote.Ref.{now}
+use mathlib.Core.Path.{refl, sym}
 use Rattle.binary_read.specs.Emission.{keepsRelocations}
 use Rattle.binary_read.proofs.keeps_relocations.Statement.{statement}
 use Rattle.binary_read.proofs.keeps_relocations.Tie as tie

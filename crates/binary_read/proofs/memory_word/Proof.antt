@@ -1,3 +1,4 @@
+-- By the flag. Assumes nothing.
 use borrow.Author.Needs.{needs}
 use Rattle.binary_read.proofs.RecordLaws.{memory-yes, memory-no}
 use Rattle.binary_read.proofs.memory_word.Statement.{statement}

@@ -1,10 +1,10 @@
 -- A word a turn: the words of the bytes that are left are what is left to emit. Assumes nothing.
 use borrow.Author.Needs.{needs}
 use mathlib.Core.Path.{_≡_, sym, ap, _∙_}
-use mathlib.Core.List.{List, [], _∷_}
+use mathlib.Core.List.{_∷_}
 use Prim.Native.Nat.{ℕ, _+_, _-_, _*_, _/_, _≤_, _<_}
 use native.Mathlib.Omega.{arith}
-use lib.ListN.{length, drop, getD}
+use lib.ListN.{length, drop}
 use denote.Ref.{now}
 use Rattle.writing.proofs.WriteLaws.{too-short}
 use Rattle.writing.proofs.Parts.{Emits, begin, emit-one, emitted, room-one, same}

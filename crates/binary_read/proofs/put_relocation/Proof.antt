@@ -1,10 +1,10 @@
 -- Part by part, into the rest of the room. Assumes nothing.
 use borrow.Author.Needs.{needs}
-use mathlib.Core.Path.{_≡_, refl}
+use mathlib.Core.Path.{refl}
 use mathlib.Core.List.{List, [], _∷_, _++_}
-use Prim.Native.Nat.{ℕ, _+_, _-_, _≤_}
+use Prim.Native.Nat.{ℕ, _-_}
 use native.Mathlib.Omega.{arith}
-use lib.ListN.{length, take, drop}
+use lib.ListN.{take, drop}
 use denote.Ref.{now}
 use Rattle.format.specs.Words.{textWords}
 use Rattle.writing.proofs.Parts.{State, Emits, after, emit, emitted, within, same}
@@ -37,9 +37,9 @@ emits1 c =
     let k = start1 c in
     let q = c .before .before .before .part-at in
     first (_ ∷ []) (left1 c)
-    (relocation-parts (bytes k) (k .args .p) (q .result .from) (q .result .to) (c .before .u16-at .result)
+    (relocation-parts (bytes k) (k .args .p) (q .result .from) (q .result .to) (c .before .relocation-head .result)
     (c .before .before .before .before .u64-at .result)
-    (c .before .u16-at .ensures) (c .before .before .before .before .u64-at .ensures) (q .ensures))
+    (c .before .relocation-head .ensures) (c .before .before .before .before .u64-at .ensures) (q .ensures))
     (k .pre) (c .put-word .ensures)
 
 abbrev state2 : tie.After-put-text-words → State ℕ
@@ -57,8 +57,6 @@ put-relocation-spec =
     (λ c κs. search needs)
     (λ c κs. search needs)
     (λ c κs. search needs)
-    (λ c. search needs)
-    (λ c. search needs)
     (λ c κs. search needs)
     (λ c. let e = emits1 (c .before .before) in omega (arith, within e, same e))
     (λ c. within (emits1 (c .before .before)))

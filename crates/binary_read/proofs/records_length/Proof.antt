@@ -1,14 +1,9 @@
+-- By the answers to the questions. Assumes nothing.
 use borrow.Author.Needs.{needs}
-use mathlib.Core.Path.{_≡_, refl, sym, ap, subst, _∙_}
-use mathlib.Core.Bool.{Bool, true, false}
-use mathlib.Core.List.{List, [], _∷_, _++_}
-use Prim.Native.Nat.{ℕ, zero, suc, _+_, _-_, _*_, _/_, _≤_, _<_}
-use native.Mathlib.Omega.{arith}
-use lib.ListN.{length, take, drop, getD}
+use mathlib.Core.Path.{sym, ap, _∙_}
 use denote.Ref.{now}
 use borrow.Author.Tests.{not-true, not-false}
 use Rattle.format.specs.Calls.{measured}
-use Rattle.binary_read.specs.Emission.{objectWords}
 use Rattle.binary_read.proofs.AfterLaws.{after-refused, after-apart, after-given}
 use Rattle.binary_read.proofs.records_length.Statement.{statement}
 use Rattle.binary_read.proofs.records_length.Tie as tie

@@ -1,10 +1,7 @@
+-- The sum of the parts, which is below the length of the file. Assumes nothing.
 use borrow.Author.Needs.{needs}
-use mathlib.Core.Path.{_≡_, refl, sym, ap, subst, _∙_}
-use mathlib.Core.Bool.{Bool, true, false}
-use mathlib.Core.List.{List, [], _∷_, _++_}
-use Prim.Native.Nat.{ℕ, zero, suc, _+_, _-_, _*_, _/_, _≤_, _<_}
+use mathlib.Core.Path.{sym, _∙_}
 use native.Mathlib.Omega.{arith}
-use lib.ListN.{length, take, drop, getD}
 use denote.Ref.{now}
 use Rattle.binary_read.proofs.BoundLaws.{parts-few, length-kept, length-dropped}
 use Rattle.binary_read.proofs.words_length.Statement.{statement}
