@@ -75,3 +75,17 @@ pub(crate) fn words_between(text: &[u8], from: usize, to: usize, out: &mut [u32]
     }
     n
 }
+
+// The bytes written in hexadecimal between two places, at the front of the buffer; how many they are.
+pub(crate) fn bytes_between(text: &[u8], from: usize, to: usize, out: &mut [u8]) -> usize
+    ensures { λ r. ⌜ Counts r (now (out .exit)) ⌝ }
+{
+    let mut at = from;
+    let mut n = 0;
+    while n < out.len() && at < to {
+        out[n] = (number_at(text, at, 2) % 256) as u8;
+        n += 1;
+        at = std::num::wrapping_add_usize(at, 2);
+    }
+    n
+}

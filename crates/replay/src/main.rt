@@ -1,5 +1,7 @@
 // Replays a list of answers on standard input, one case to a line, and prints how many lines there were and how many answers differ.
-// A line is `CALL INPUT ARG NUMBER FIRST SECOND`: a letter, the input in hexadecimal, and numbers of 16, 2, 16 and 16 hexadecimal digits.
+// A line is `CALL INPUT ARG NUMBER FIRST SECOND` for a query: a letter, the input in hexadecimal, and numbers of 16, 2, 16 and 16
+// hexadecimal digits; `CALL INPUT NUMBER OUTPUT` for a call that fills a buffer.
+mod files;
 mod line;
 mod queries;
 
@@ -7,7 +9,10 @@ mod queries;
 fn is_right(text: &[u8]) -> bool {
     let call = line::byte_at(text, 0);
     let end = line::field_end(text, 2);
-    queries::agrees(text, call, end)
+    match call {
+        b'B' | b'b' => files::agrees(text, call, end),
+        _ => queries::agrees(text, call, end),
+    }
 }
 
 // The lines of the list, one by one; a list ends with its input.

@@ -1,9 +1,13 @@
 -- The exported structs as the records of crate `format` that the contracts cite. Assumes nothing.
+use mathlib.Core.List.{List}
+use Prim.Native.Nat.{ℕ}
 use Rattle.format.specs.Calls as calls
 use Rattle.runs.specs.declared.Value.{Value}
 use Rattle.runs.specs.declared.Span.{Span}
 use Rattle.runs.specs.declared.Position.{Position}
 use Rattle.runs.specs.declared.Fair.{Fair}
+use Rattle.runs.specs.declared.Measured.{Measured}
+use Rattle.runs.specs.declared.Filled.{Filled}
 
 abbrev pub valueOf : Value → calls.Value
 valueOf r = record { number = r .number; value = r .value }
@@ -16,3 +20,9 @@ positionOf r = record { number = r .number; line = r .line; column = r .column }
 
 abbrev pub fairOf : Fair → calls.FairAnswer
 fairOf r = record { number = r .number; fair = r .fair }
+
+abbrev pub measuredOf : Measured → calls.Measured
+measuredOf r = record { number = r .number; len = r .len }
+
+abbrev pub filledOf : Filled → List ℕ → calls.Filled
+filledOf r buffer = record { number = r .number; len = r .len; buffer = buffer }

@@ -1,9 +1,10 @@
 // Exports for the differential runs: test-only, never linked by the host, so it may go beyond byte slices and numbers. Each is one call.
 ghost use mathlib.Core.Path.{_≡_};
 ghost use Rattle.format.specs.Calls.{checked, queryCountLines, queryRawLineSpan, queryLineSpan, queryPosPair, queryGet, queryFind};
-ghost use Rattle.format.specs.Calls.{fairAnswer};
+ghost use Rattle.format.specs.Calls.{fairAnswer, measured, readBinary, ReadsBinary, WritesBinary};
 ghost use Rattle.format.specs.Words.{objectOf};
-ghost use Rattle.runs.specs.Answers.{valueOf, spanOf, positionOf, fairOf};
+ghost use Rattle.runs.specs.Answers.{valueOf, spanOf, positionOf, fairOf, measuredOf, filledOf};
+use binary_format::BinaryFormat;
 use units::Address;
 use units::ByteIndex;
 use units::Line;
@@ -29,6 +30,20 @@ pub struct Position {
     pub number: u8,
     pub line: u64,
     pub column: u64,
+}
+
+// Number, and the length that a file would fill, in words.
+#[repr(C)]
+pub struct Measured {
+    pub number: u8,
+    pub len: usize,
+}
+
+// Number, and the length filled.
+#[repr(C)]
+pub struct Filled {
+    pub number: u8,
+    pub len: usize,
 }
 
 // Whether the object is fair.
@@ -137,5 +152,41 @@ pub extern "C" fn runs_is_fair(object: &[u32]) -> Fair
     Fair {
         number: r.number,
         fair: r.fair,
+    }
+}
+
+// Does this read as binary? Number, and length in words.
+#[no_mangle]
+pub extern "C" fn runs_binary_length(bytes: &[u8]) -> Measured
+    ensures { λ r. ⌜ measuredOf r ≡ measured (readBinary (now (bytes .entry))) ⌝ }
+{
+    let r = BinaryFormat::new().length(bytes);
+    Measured {
+        number: r.number,
+        len: r.len,
+    }
+}
+
+// Binary read.
+#[no_mangle]
+pub extern "C" fn runs_binary_read(bytes: &[u8], out: &mut [u32]) -> Filled
+    ensures { λ r. ⌜ ReadsBinary (now (bytes .entry)) (now (out .entry)) (filledOf r (now (out .exit))) ⌝ }
+{
+    let r = BinaryFormat::new().deserialize(bytes, out);
+    Filled {
+        number: r.number,
+        len: r.len,
+    }
+}
+
+// Binary write.
+#[no_mangle]
+pub extern "C" fn runs_binary_write(object: &[u32], out: &mut [u8]) -> Filled
+    ensures { λ r. ⌜ WritesBinary (now (object .entry)) (now (out .entry)) (filledOf r (now (out .exit))) ⌝ }
+{
+    let r = BinaryFormat::new().serialize(object, out);
+    Filled {
+        number: r.number,
+        len: r.len,
     }
 }
