@@ -5,14 +5,16 @@ use Prim.Native.Nat.{ℕ, suc, _+_, _-_, _*_, _/_, _%_, _^_, _≤_, _<_}
 use native.Mathlib.Omega.{arith}
 use lib.ListN.{length, drop, getD, length-append, drop-of-length-le}
 use lib.Dec.{ltb}
-use borrow.Author.Tests.{ltb-true, ltb-false}
+use borrow.Author.Tests.{ltb-true, ltb-false, le-ltb}
 use Rattle.format.specs.Digits.{digitsOf}
-use Rattle.format.specs.Words.{textFrom}
+use Rattle.format.specs.Words.{isHead, textFrom}
 use Rattle.format.proofs.Laws.{digits-length}
 use Rattle.format.proofs.ListLaws.{by-test}
 use Rattle.writing.proofs.EachLaws.{drop-at-place}
-use Rattle.object.specs.Bodies.{Text}
+use Rattle.object.specs.Bodies.{bodyAt, Text}
 use Rattle.object.specs.Texts.{textLen}
+use Rattle.object.proofs.WordLaws.{head-other}
+use Rattle.object.proofs.BodyLaws.{body-goes, body-stops}
 use Rattle.object.proofs.OrderLaws.{Split, split, text-rest}
 use Rattle.object.proofs.ByteLaws.{len-none, len-some, text-size}
 use Rattle.binary_write.specs.Files.{textOf}
@@ -36,6 +38,22 @@ full w x xs h =
     (λ t. let l = ltb-true (s .count) 3 t in absurd (omega (arith, ap length (s .word .last l), size x xs r, r .word .some)))
     (λ t. let l = ltb-false (s .count) 3 t in omega (arith, s .word .few)) in
     s .bytes ∙ ap (λ n. digitsOf 8 n w ++ textOf (x ∷ xs)) three
+
+-- where the words of a text stop: at a word of another kind, or at the end
+module _ (ws : List ℕ) (i : ℕ) (t : Text (bodyAt ws i)) (h : i < length ws) where
+  pub text-goes : 0xE000_0000 ≤ getD ws i 0 → getD ws i 0 < 2 ^ 32 → (bodyAt ws i ≡ getD ws i 0 ∷ bodyAt ws (i + 1)) × Text (bodyAt ws (i + 1))
+  text-goes k f =
+      let w = getD ws i 0 in
+      let seven : w / 2 ^ 29 ≡ 7 = omega arith in
+      let e = body-goes ws i h (sym (head-other w (λ z. omega arith)) ∙ le-ltb (w / 2 ^ 29) 6 (omega arith)) in
+      (e, text-rest w (bodyAt ws (i + 1)) (subst Text e t))
+
+  pub text-stops : getD ws i 0 < 0xE000_0000 → bodyAt ws i ≡ []
+  text-stops k =
+      let w = getD ws i 0 in
+      by-test (isHead w) (λ e. body-stops ws i h e)
+      (λ e. let q = body-goes ws i h e in
+      let s = split w (bodyAt ws (i + 1)) (subst Text q t) in absurd (omega (arith, s .word .top)))
 
 -- the last word by its count
 module _ (w : ℕ) (h : Text (w ∷ [])) where

@@ -19,7 +19,7 @@ use Rattle.object.specs.Access.{recordAt}
 use Rattle.object.proofs.BodyLaws.{head-at, body-fits}
 use Rattle.object.proofs.Formed.{formed, Held, held}
 use Rattle.object.proofs.AccessLaws.{next, done, record-is}
-use Rattle.binary_write.specs.Files.{Stands, recordsIn, countFits}
+use Rattle.binary_write.specs.Files.{Begins, Stands, recordsIn, countFits}
 
 -- these records are left from a place on, where a head stands or the end
 pub record From (ws : List ℕ) (at : ℕ) (rs : List Record) : Type 0 where
@@ -50,6 +50,9 @@ turn ws at end rs l e f =
       all = n .all ∙ ap (λ r. r ∷ n .rest) q;
       left = subst (λ k. From ws k (n .rest)) (sym e) go;
     }
+
+pub record-begins : (ws : List ℕ) (at : ℕ) (rs : List Record) → at < length ws → From ws at rs → Begins ws at
+record-begins ws at rs l f = let t = turn ws at (at + 1 + length (bodyAt ws (at + 1))) rs l refl f in (l, t .stands .reads)
 
 pub no-more : (ws : List ℕ) (at : ℕ) (rs : List Record) → length ws ≤ at → From ws at rs → rs ≡ []
 no-more ws at rs l f = done ws at rs (f .read) l

@@ -60,6 +60,10 @@ Ends ws at end = (end ≡ at + length (bodyAt ws at)) × (end ≤ length ws)
 abbrev pub TextEnds : List ℕ → ℕ → ℕ → Type 0
 TextEnds ws at end = Text (bodyAt ws at) × Ends ws at end
 
+-- a record begins at a place
+abbrev pub Begins : List ℕ → ℕ → Type 0
+Begins ws at = (at < length ws) × (recordFrom (getD ws at 0, bodyAt ws (at + 1)) ≡ given (recordAt ws at))
+
 -- a record stands at a place, and its words end at another
 pub record Stands (ws : List ℕ) (at end : ℕ) : Type 0 where
   pub inside : at < length ws

@@ -10,9 +10,9 @@ ghost use Rattle.format.specs.Binary.{recordBytes};
 ghost use Rattle.format.specs.Calls.{checked};
 ghost use Rattle.units.specs.Filled.{filledOf};
 ghost use Rattle.writing.specs.Written.{Put};
-ghost use Rattle.object.specs.Bodies.{Text, textAt};
+ghost use Rattle.object.specs.Bodies.{bodyAt, textAt, Text};
 ghost use Rattle.object.specs.Access.{blockAt, labelAt, lineBlockAt, relocationAt, recordAt};
-ghost use Rattle.binary_write.specs.Files.{WritesAfter, flagOf, memoryPart, addressPart, textOf, sized, Ends, TextEnds, Stands};
+ghost use Rattle.binary_write.specs.Files.{WritesAfter, flagOf, memoryPart, addressPart, textOf, sized, Ends, TextEnds, Begins, Stands};
 ghost use Rattle.binary_write.specs.Files.{RoomFor, PutRecord, bytesIn, countFits, roomNumber};
 ghost use Rattle.binary_write.specs.Rooms.{Takes};
 use units::Filled;
@@ -237,6 +237,33 @@ fn put_relocation(out: &mut [u8], ws: &[u32], at: usize, end: usize) -> usize
     o
 }
 
+// Where the words of a text end. Its words are of one kind, so a single test a word serves.
+fn text_end(ws: &[u32], at: usize) -> usize
+    requires { ⌜ Text (bodyAt (now ws) at) ⌝ }
+    ensures { λ r. ⌜ r ≡ at + length (bodyAt (now (ws .entry)) at) ⌝ }
+{
+    let mut i = at;
+    while i < ws.len() {
+        if ws[i] < 0xE000_0000 {
+            return i;
+        }
+        i += 1;
+    }
+    i
+}
+
+// Where a record ends. The source may be most of an object, so it is passed by the shorter test.
+fn record_end(ws: &[u32], at: usize) -> usize
+    requires { ⌜ Begins (now ws) at ⌝ }
+    ensures { λ r. ⌜ r ≡ at + 1 + length (bodyAt (now (ws .entry)) (at + 1)) ⌝ }
+{
+    let body = at + 1;
+    if object::kind(ws[at]) == 4 {
+        return text_end(ws, body);
+    }
+    object::body_end(ws, body)
+}
+
 // How many bytes a record has.
 fn record_len(ws: &[u32], at: usize, end: usize) -> usize
     requires { ⌜ Stands (now ws) at end ⌝ }
@@ -306,7 +333,7 @@ fn measure(ws: &[u32], used: usize, room: usize) -> u8
     let mut space = whole.take(used);
     let mut at = 0;
     while at < ws.len() {
-        let end = object::body_end(ws, at + 1);
+        let end = record_end(ws, at);
         if !count_fits(ws, at, end) {
             return 2;
         }
@@ -328,7 +355,7 @@ fn put_records(out: &mut [u8], object: &[u32]) -> usize
     let mut o = 0;
     let mut at = 0;
     while at < object.len() {
-        let end = object::body_end(object, at + 1);
+        let end = record_end(object, at);
         o += put_record(&mut out[o..], object, at, end);
         at = end;
     }

@@ -5,7 +5,7 @@ use Prim.Native.Nat.{ℕ, _-_}
 use lib.ListN.{length}
 use denote.Ref.{now}
 use borrow.Author.Tests.{not-true, not-false}
-use Rattle.binary_write.proofs.WalkLaws.{Turn, turn}
+use Rattle.binary_write.proofs.WalkLaws.{Turn, turn, record-begins}
 use Rattle.binary_write.proofs.MeasureLaws.{Measures, begins, goes-on, too-many, is-short, is-enough}
 use Rattle.binary_write.proofs.measure.Statement.{statement}
 use Rattle.binary_write.proofs.measure.Tie as tie
@@ -19,8 +19,11 @@ abbrev μ-loop : tie.MeasureT-loop
 loop-holds : tie.Need-loop-holds Inv-loop μ-loop
 loop-holds c = let s = c .before .before in begins _ _ _ _ (s .pre) (c .take .ensures)
 
+record-end-requires : tie.Need-record-end-requires Inv-loop μ-loop
+record-end-requires c κs = record-begins _ _ _ (c .loop-test .taken) (c .before .loop .inv .from)
+
 -- the record at the place
-module _ (c : tie.After-body-end Inv-loop μ-loop) where
+module _ (c : tie.After-record-end Inv-loop μ-loop) where
   abbrev start : tie.Start Inv-loop μ-loop
   start = c .before .before .before .before .before
 
@@ -30,8 +33,8 @@ module _ (c : tie.After-body-end Inv-loop μ-loop) where
   measures : Measures (now (start .args .ws)) (start .args .used) (start .args .room) at (c .before .before .loop .space)
   measures = c .before .before .loop .inv
 
-  here : Turn (now (start .args .ws)) at (c .body-end .result) (measures .left)
-  here = turn _ _ _ _ (c .before .loop-test .taken) (c .body-end .ensures) (measures .from)
+  here : Turn (now (start .args .ws)) at (c .record-end .result) (measures .left)
+  here = turn _ _ _ _ (c .before .loop-test .taken) (c .record-end .ensures) (measures .from)
 
 count-fits-requires : tie.Need-count-fits-requires Inv-loop μ-loop
 count-fits-requires c κs = here c .stands
@@ -46,7 +49,7 @@ record-len-requires c κs = here (c .before .before) .stands
 
 loop-less : tie.Need-loop-less Inv-loop μ-loop
 loop-less c =
-    let p = c .before .before .before .before in omega (arith, p .body-end .ensures, p .before .loop-test .taken)
+    let p = c .before .before .before .before in omega (arith, p .record-end .ensures, p .before .loop-test .taken)
 
 loop-again : tie.Need-loop-again Inv-loop μ-loop
 loop-again c =
@@ -69,8 +72,7 @@ measure-spec =
     μ-loop
     (λ c κs. search needs)
     loop-holds
-    (λ c. search needs)
-    (λ c κs. search needs)
+    record-end-requires
     count-fits-requires
     returns
     record-len-requires

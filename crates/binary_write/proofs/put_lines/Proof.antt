@@ -78,7 +78,8 @@ state2 c = after (state1 (c .before .before .before .before)) (c .put-u64-le .re
 emits2 : (c : tie.After-put-u64-le) → Emits (whole (start2 c)) (room (start2 c)) (left2 (start2 c)) (state2 c)
 emits2 c =
     let u = c .before .before .before .before in
-    emit (emits1 u) _ _ (ap (λ n. digitsOf 8 8 n ++ left2 (start2 c)) (sym (u .before .before .number-at .ensures))) (c .put-u64-le .ensures)
+    let n = sym (u .before .before .number-at .ensures) in
+    emit (emits1 u) _ _ (ap (λ x. digitsOf 8 8 x ++ left2 (start2 c)) n) (c .put-u64-le .ensures)
 
 abbrev start3 : tie.After-put-u16-le → tie.Start
 start3 c = start2 (c .before .before .before .before)

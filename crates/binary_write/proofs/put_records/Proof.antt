@@ -12,7 +12,7 @@ use Rattle.object.specs.Access.{recordAt}
 use Rattle.writing.proofs.Parts.{Emits, after, begin, emit, emitted, within, small, same}
 use Rattle.binary_write.specs.Files.{recordsIn, bytesIn}
 use Rattle.binary_write.proofs.RoomLaws.{lent-part}
-use Rattle.binary_write.proofs.WalkLaws.{From, Turn, start, turn, no-more}
+use Rattle.binary_write.proofs.WalkLaws.{From, Turn, start, turn, record-begins, no-more}
 use Rattle.binary_write.proofs.put_records.Statement.{statement}
 use Rattle.binary_write.proofs.put_records.Tie as tie
 
@@ -28,8 +28,11 @@ loop-holds c =
     let s = c .before .before in
     (recordsIn (now (s .args .object)), start (now (s .args .object)) (s .pre .0), begin _ _ (s .pre .1))
 
+record-end-requires : tie.Need-record-end-requires Inv-loop μ-loop
+record-end-requires c κs = record-begins _ _ _ (c .loop-test .taken) (c .before .loop .inv .1)
+
 -- the record at the place
-module _ (c : tie.After-body-end Inv-loop μ-loop) where
+module _ (c : tie.After-record-end Inv-loop μ-loop) where
   abbrev loop : tie.At-loop Inv-loop μ-loop
   loop = c .before .before
 
@@ -39,8 +42,8 @@ module _ (c : tie.After-body-end Inv-loop μ-loop) where
   abbrev ws : List ℕ
   ws = now (begun .args .object)
 
-  here : Turn ws (loop .loop .at) (c .body-end .result) (loop .loop .inv .0)
-  here = turn _ _ _ _ (c .before .loop-test .taken) (c .body-end .ensures) (loop .loop .inv .1)
+  here : Turn ws (loop .loop .at) (c .record-end .result) (loop .loop .inv .0)
+  here = turn _ _ _ _ (c .before .loop-test .taken) (c .record-end .ensures) (loop .loop .inv .1)
 
   abbrev part : List ℕ
   part = recordBytes (recordAt ws (loop .loop .at))
@@ -64,7 +67,7 @@ add-o c = let p = c .before .before in small (emits p) (begun (p .before .before
 
 loop-less : tie.Need-loop-less Inv-loop μ-loop
 loop-less c =
-    let b = c .before .before .before .before in omega (arith, b .body-end .ensures, b .before .loop-test .taken)
+    let b = c .before .before .before .before in omega (arith, b .record-end .ensures, b .before .loop-test .taken)
 
 loop-again : tie.Need-loop-again Inv-loop μ-loop
 loop-again c = let p = c .before .before in let b = p .before .before in (here b .rest, here b .left, emits p)
@@ -85,8 +88,7 @@ put-records-spec =
     Inv-loop
     μ-loop
     loop-holds
-    (λ c. search needs)
-    (λ c κs. search needs)
+    record-end-requires
     (λ c. within (loop c .loop .inv .2))
     (λ c. within (loop c .loop .inv .2))
     (λ c. search needs)

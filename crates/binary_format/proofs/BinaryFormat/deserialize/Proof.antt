@@ -22,8 +22,8 @@ returns-2 c =
     let r = c .before .before in
     let h = r .before .before .before in
     let a = h .before .before .before .args in
-    r .read-records .ensures
-    ∙ sym (ap (λ o. fill o (now (a .out))) (read-on (now (a .s)) (sym (h .has-header .ensures) ∙ not-false _ (r .before .before .if1 .left))))
+    let e = sym (h .has-header .ensures) ∙ not-false _ (r .before .before .if1 .left) in
+    r .read-records .ensures ∙ sym (ap (λ o. fill o (now (a .out))) (read-on (now (a .s)) e))
 
 pub deserialize-spec : {M : Type 1} → statement M
 deserialize-spec =
