@@ -1,2 +1,4 @@
 pub mod RowLaws
 pub mod CharacterLaws
+pub mod RoomLaws
+pub mod FrameLaws

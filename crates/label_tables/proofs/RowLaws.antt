@@ -107,3 +107,17 @@ label-length name fill indices start =
     let y = length-append (spaces fill) (div ++ (r ++ (0x0A ∷ []))) in
     let z = length-append name (spaces fill ++ (div ++ (r ++ (0x0A ∷ [])))) in
     omega (arith, spaces-length fill)
+
+-- HOW LONG ROWS ARE, by what the code has of a name
+module _ (ws : List ℕ) (p at n : ℕ) (named : textBytes ws at n ≡ nameAt ws p) where
+  pub name-size : n ≡ length (nameAt ws p)
+  name-size = sym (bytes-length ws at 0 n) ∙ ap length named
+
+  pub symbol-size : length (symbolLine ws p) ≡ n + 14
+  symbol-size = omega (arith, symbol-length ws p, name-size)
+
+  pub label-size : (names indices fill start right : ℕ) → fill ≡ names - characters (textBytes ws at n) → start ≡ numberAt ws (p + 1)
+      → right ≡ length (toRight indices (decimal start)) → length (labelLine names indices ws p) ≡ n + 4 + fill + right
+  label-size names indices fill start right f s r =
+      omega (arith, ap length (label-parts ws p names indices fill start (textBytes ws at n) named f s),
+      label-length (textBytes ws at n) fill indices start, bytes-length ws at 0 n)

@@ -1,4 +1,8 @@
 // The text writer's two tables of labels, .SYMBOL and .DEBUG's label table: their rows by the labels' places in the words of an object.
+use gather::Found;
+use label_order::By;
+use label_order::Labels;
+use label_order::next_label;
 use object::body_end;
 use object::number_at;
 use object::put_text;
@@ -11,20 +15,39 @@ use text_numerals::put_spaces;
 use writing::put_bytes;
 use writing::put_u8;
 ghost use mathlib.Core.Path.{_≡_};
-ghost use Prim.Native.Nat.{_+_, _-_, _*_, _%_, _^_, _≤_, _<_};
-ghost use lib.ListN.{length, getD};
+ghost use Prim.Native.Nat.{_+_, _-_, _*_, _%_, _^_, _≤_, _<_, max};
+ghost use mathlib.Core.List.{flatMap};
+ghost use lib.ListN.{length, getD, take};
 ghost use lib.Dec.{leb};
 ghost use Rattle.format.specs.Utf8.{characters};
-ghost use Rattle.format.specs.TextWriter.{decimal, toRight};
+ghost use Rattle.format.specs.TextWriter.{decimal, toRight, textLine, labelHeader};
 ghost use Rattle.format.specs.Words.{flagBit};
 ghost use Rattle.utf8.specs.Chars.{begins};
 ghost use Rattle.writing.specs.Written.{Put};
 ghost use Rattle.object.specs.Bodies.{numberAt};
 ghost use Rattle.object.specs.Texts.{textBytes};
 ghost use Rattle.label_tables.specs.Rows.{nameAt, symbolLine, labelLine};
+ghost use Rattle.label_tables.specs.Tables.{roomOf, roomAfter, namesWidth, indicesWidth, symbolsLength, labelsLength};
+ghost use Rattle.label_tables.specs.Tables.{bySymbol, byLabel, symbolsOf, labelsOf, fitting};
+ghost use Rattle.label_order.specs.Labels.{labelPlaces};
 
 // 000's TABLE_DIV.
 const TABLE_DIV: [u8; 3] = [0x20, 0x7C, 0x20];
+
+// .SYMBOL's header.
+const SYMBOL_HEADER: [u8; 19] = [
+    0x41, 0x44, 0x44, 0x52, 0x20, 0x7C, 0x20, 0x45, 0x58, 0x54, 0x20, 0x7C, 0x20, 0x4C, 0x41, 0x42, 0x45, 0x4C, 0x0A,
+];
+
+// The header of the label table, column by column.
+const LABEL: [u8; 5] = [0x4C, 0x41, 0x42, 0x45, 0x4C];
+const DIV_INDEX: [u8; 8] = [0x20, 0x7C, 0x20, 0x49, 0x4E, 0x44, 0x45, 0x58];
+
+// The room that is left, or that there is too little.
+pub enum Room {
+    Left(usize),
+    Short,
+}
 
 // A label's name: where its words begin, and how many bytes it has.
 struct Name {
@@ -180,4 +203,148 @@ pub fn put_label_row(out: &mut [u8], ws: &[u32], p: usize, names: usize, indices
     at += put_right(&mut out[at..], indices, start);
     at += put_u8(&mut out[at..], 0x0A);
     at
+}
+
+// The larger of two numbers.
+fn larger(a: usize, b: usize) -> usize
+    ensures { λ r. ⌜ r ≡ max a b ⌝ }
+{
+    if a < b {
+        return b;
+    }
+    a
+}
+
+// The width of the name column: the longest name in bytes, at least 5.
+pub fn label_width(ws: &[u32]) -> usize
+    ensures { λ r. ⌜ r ≡ namesWidth (now (ws .entry)) ⌝ }
+{
+    let mut width = 5;
+    let mut at = 0;
+    loop {
+        let Found::At(p, next) = next_label(ws, at) else {
+            return width;
+        };
+        let name = name_of(ws, p);
+        width = larger(name.len, width);
+        at = next;
+    }
+}
+
+// The width of the index column: the longest index, at least 5.
+pub fn index_width(ws: &[u32]) -> usize
+    ensures { λ r. ⌜ r ≡ indicesWidth (now (ws .entry)) ⌝ }
+{
+    let mut width = 5;
+    let mut at = 0;
+    loop {
+        let Found::At(p, next) = next_label(ws, at) else {
+            return width;
+        };
+        width = larger(count_digits(start_at(ws, p)), width);
+        at = next;
+    }
+}
+
+// The room that a row of .SYMBOL leaves.
+fn symbol_row_room(ws: &[u32], p: usize, room: usize) -> Room
+    ensures { λ r. ⌜ roomOf r ≡ roomAfter (length (symbolLine (now (ws .entry)) p)) room ⌝ }
+{
+    let name = name_of(ws, p);
+    let len = name.len + 14;
+    if room < len {
+        return Room::Short;
+    }
+    Room::Left(room - len)
+}
+
+// The room that a row of the label table leaves.
+fn label_row_room(ws: &[u32], p: usize, names: usize, indices: usize, room: usize) -> Room
+    ensures { λ r. ⌜ roomOf r ≡ roomAfter (length (labelLine names indices (now (ws .entry)) p)) room ⌝ }
+{
+    let name = name_of(ws, p);
+    let fill = fill_of(ws, name.at, name.len, names);
+    let right = right_len(indices, start_at(ws, p));
+    let len = name.len + 4;
+    if !is_room(room, len, fill, right) {
+        return Room::Short;
+    }
+    Room::Left(room - len - fill - right)
+}
+
+// The room that the rows of .SYMBOL leave.
+fn symbol_rows_room(ws: &[u32], room: usize) -> Room
+    ensures { λ r. ⌜ roomOf r ≡ roomAfter (length (flatMap (symbolLine (now (ws .entry))) (labelPlaces (now (ws .entry))))) room ⌝ }
+{
+    let mut left = room;
+    let mut at = 0;
+    loop {
+        let Found::At(p, next) = next_label(ws, at) else {
+            return Room::Left(left);
+        };
+        let Room::Left(n) = symbol_row_room(ws, p, left) else {
+            return Room::Short;
+        };
+        left = n;
+        at = next;
+    }
+}
+
+// The room that the rows of the label table leave.
+fn label_rows_room(ws: &[u32], names: usize, indices: usize, room: usize) -> Room
+    ensures { λ r. ⌜ roomOf r
+        ≡ roomAfter (length (flatMap (labelLine names indices (now (ws .entry))) (labelPlaces (now (ws .entry))))) room ⌝ }
+{
+    let mut left = room;
+    let mut at = 0;
+    loop {
+        let Found::At(p, next) = next_label(ws, at) else {
+            return Room::Left(left);
+        };
+        let Room::Left(n) = label_row_room(ws, p, names, indices, left) else {
+            return Room::Short;
+        };
+        left = n;
+        at = next;
+    }
+}
+
+// The room that .SYMBOL's table leaves, counted down: a sum of columns could pass 64 bits.
+pub fn measure_symbols(ws: &[u32], room: usize) -> Room
+    ensures { λ r. ⌜ roomOf r ≡ roomAfter (symbolsLength (now (ws .entry))) room ⌝ }
+{
+    let Found::At(_, _) = next_label(ws, 0) else {
+        return Room::Left(room);
+    };
+    if room < 19 {
+        return Room::Short;
+    }
+    symbol_rows_room(ws, room - 19)
+}
+
+// How many characters a column has past those of its header, LABEL or INDEX.
+fn past_header(width: usize) -> usize
+    ensures { λ r. ⌜ r ≡ width - 5 ⌝ }
+{
+    if width <= 5 {
+        return 0;
+    }
+    width - 5
+}
+
+// The room that the label table leaves.
+pub fn measure_labels(ws: &[u32], room: usize) -> Room
+    ensures { λ r. ⌜ roomOf r ≡ roomAfter (labelsLength (now (ws .entry))) room ⌝ }
+{
+    let Found::At(_, _) = next_label(ws, 0) else {
+        return Room::Left(room);
+    };
+    let names = label_width(ws);
+    let indices = index_width(ws);
+    let a = past_header(names);
+    let b = past_header(indices);
+    if !is_room(room, 14, a, b) {
+        return Room::Short;
+    }
+    label_rows_room(ws, names, indices, room - 14 - a - b)
 }
