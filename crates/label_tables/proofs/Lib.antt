@@ -2,3 +2,4 @@ pub mod RowLaws
 pub mod CharacterLaws
 pub mod RoomLaws
 pub mod FrameLaws
+pub mod HandedLaws

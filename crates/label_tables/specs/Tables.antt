@@ -35,27 +35,34 @@ unfoldable pub tableOf : List ℕ → (ℕ → List ℕ) → List ℕ → List �
 tableOf header line ps order = if isEmpty ps then [] else textLine header ++ flatMap line order
 
 -- the header and the rows of .SYMBOL, with rows in an order
-abbrev pub bySymbol : List ℕ → List ℕ → List ℕ
-bySymbol ws order = tableOf symbolHeader (symbolLine ws) (labelPlaces ws) order
+abbrev pub symbolsIn : List ℕ → List ℕ → List ℕ
+symbolsIn ws order = tableOf symbolHeader (symbolLine ws) (labelPlaces ws) order
 
 -- and of the label table
-abbrev pub byLabel : List ℕ → List ℕ → List ℕ
-byLabel ws order =
+abbrev pub labelsIn : List ℕ → List ℕ → List ℕ
+labelsIn ws order =
     tableOf (labelHeader (namesWidth ws) (indicesWidth ws)) (labelLine (namesWidth ws) (indicesWidth ws) ws) (labelPlaces ws) order
 
--- the tables, "labels by address, then name" and by source start, then name
+-- the places, "labels by address, then name" and by source start, then name
+abbrev pub byAddress : List ℕ → List ℕ
+byAddress ws = sorted (labelKey by.Address ws) (labelPlaces ws)
+
+abbrev pub byStart : List ℕ → List ℕ
+byStart ws = sorted (labelKey by.Start ws) (labelPlaces ws)
+
+-- the tables
 abbrev pub symbolsOf : List ℕ → List ℕ
-symbolsOf ws = bySymbol ws (sorted (labelKey by.Address ws) (labelPlaces ws))
+symbolsOf ws = symbolsIn ws (byAddress ws)
 
 abbrev pub labelsOf : List ℕ → List ℕ
-labelsOf ws = byLabel ws (sorted (labelKey by.Start ws) (labelPlaces ws))
+labelsOf ws = labelsIn ws (byStart ws)
 
 -- how long they are with every label in its place; no two labels of a well formed object have the same key
 abbrev pub symbolsLength : List ℕ → ℕ
-symbolsLength ws = length (bySymbol ws (labelPlaces ws))
+symbolsLength ws = length (symbolsIn ws (labelPlaces ws))
 
 abbrev pub labelsLength : List ℕ → ℕ
-labelsLength ws = length (byLabel ws (labelPlaces ws))
+labelsLength ws = length (labelsIn ws (labelPlaces ws))
 
 -- a part, where so many bytes fit in the room
 abbrev pub fitting : ℕ → List ℕ → List ℕ → List ℕ

@@ -28,7 +28,7 @@ ghost use Rattle.object.specs.Bodies.{numberAt};
 ghost use Rattle.object.specs.Texts.{textBytes};
 ghost use Rattle.label_tables.specs.Rows.{nameAt, symbolLine, labelLine};
 ghost use Rattle.label_tables.specs.Tables.{roomOf, roomAfter, namesWidth, indicesWidth, symbolsLength, labelsLength};
-ghost use Rattle.label_tables.specs.Tables.{bySymbol, byLabel, symbolsOf, labelsOf, fitting};
+ghost use Rattle.label_tables.specs.Tables.{byAddress, byStart, symbolsOf, labelsOf, fitting};
 ghost use Rattle.label_order.specs.Labels.{labelPlaces};
 
 // 000's TABLE_DIV.
@@ -347,4 +347,129 @@ pub fn measure_labels(ws: &[u32], room: usize) -> Room
         return Room::Short;
     }
     label_rows_room(ws, names, indices, room - 14 - a - b)
+}
+
+// The rows of .SYMBOL at the first n places of a window.
+fn put_symbol_rows(out: &mut [u8], ws: &[u32], win: &[usize], n: usize) -> usize
+    requires { ⌜ (n ≤ length (now win)) × (length (flatMap (symbolLine (now ws)) (take n (now win))) ≤ length (now out)) ⌝ }
+    ensures { λ r. ⌜ Put (flatMap (symbolLine (now (ws .entry))) (take n (now (win .entry)))) (now (out .entry)) r (now (out .exit)) ⌝ }
+{
+    let mut at = 0;
+    let mut i = 0;
+    while i < n {
+        let p = win[i];
+        at += put_symbol_row(&mut out[at..], ws, p);
+        i += 1;
+    }
+    at
+}
+
+// The rows of the label table at the first n places of a window.
+fn put_label_rows(out: &mut [u8], ws: &[u32], win: &[usize], n: usize, names: usize, indices: usize) -> usize
+    requires { ⌜ (n ≤ length (now win)) × (length (flatMap (labelLine names indices (now ws)) (take n (now win))) ≤ length (now out)) ⌝ }
+    ensures { λ r. ⌜ Put (flatMap (labelLine names indices (now (ws .entry))) (take n (now (win .entry))))
+        (now (out .entry)) r (now (out .exit)) ⌝ }
+{
+    let mut at = 0;
+    let mut i = 0;
+    while i < n {
+        let p = win[i];
+        at += put_label_row(&mut out[at..], ws, p, names, indices);
+        i += 1;
+    }
+    at
+}
+
+// The rows of .SYMBOL, window by window.
+fn put_symbol_windows(out: &mut [u8], ws: &[u32], win: &mut [usize]) -> usize
+    requires { ⌜ (0 < length (now win)) × (length (flatMap (symbolLine (now ws)) (byAddress (now ws))) ≤ length (now out)) ⌝ }
+    ensures { λ r. ⌜ Put (flatMap (symbolLine (now (ws .entry))) (byAddress (now (ws .entry)))) (now (out .entry)) r (now (out .exit)) ⌝ }
+{
+    let mut at = 0;
+    let mut labels = Labels::new(ws, By::Address);
+    loop {
+        let w = labels.next_window(ws, win);
+        at += put_symbol_rows(&mut out[at..], ws, win, w.count);
+        if w.count < win.len() {
+            return at;
+        }
+        labels = w.labels;
+    }
+}
+
+// The rows of the label table, window by window.
+fn put_label_windows(out: &mut [u8], ws: &[u32], win: &mut [usize], names: usize, indices: usize) -> usize
+    requires { ⌜ (0 < length (now win)) × (length (flatMap (labelLine names indices (now ws)) (byStart (now ws))) ≤ length (now out)) ⌝ }
+    ensures { λ r. ⌜ Put (flatMap (labelLine names indices (now (ws .entry))) (byStart (now (ws .entry))))
+        (now (out .entry)) r (now (out .exit)) ⌝ }
+{
+    let mut at = 0;
+    let mut labels = Labels::new(ws, By::Start);
+    loop {
+        let w = labels.next_window(ws, win);
+        at += put_label_rows(&mut out[at..], ws, win, w.count, names, indices);
+        if w.count < win.len() {
+            return at;
+        }
+        labels = w.labels;
+    }
+}
+
+// The table of .SYMBOL; nothing where it doesn't fit.
+pub fn put_symbol_table(out: &mut [u8], ws: &[u32]) -> usize
+    ensures { λ r. ⌜ Put (fitting (symbolsLength (now (ws .entry))) (symbolsOf (now (ws .entry))) (now (out .entry)))
+        (now (out .entry)) r (now (out .exit)) ⌝ }
+{
+    let Room::Left(_) = measure_symbols(ws, out.len()) else {
+        return 0;
+    };
+    let Found::At(_, _) = next_label(ws, 0) else {
+        return 0;
+    };
+    let header = SYMBOL_HEADER;
+    let mut win = [0usize; 1024];
+    let mut at = 0;
+    at += put_bytes(&mut out[at..], &header);
+    at += put_symbol_windows(&mut out[at..], ws, &mut win);
+    at
+}
+
+// The header of the label table, in columns of these widths.
+pub fn put_label_header(out: &mut [u8], names: usize, indices: usize) -> usize
+    ensures { λ r. ⌜ Put (textLine (labelHeader names indices)) (now (out .entry)) r (now (out .exit)) ⌝ }
+{
+    let a = past_header(names);
+    let b = past_header(indices);
+    if !is_room(out.len(), 14, a, b) {
+        return 0;
+    }
+    let label = LABEL;
+    let index = DIV_INDEX;
+    let mut at = 0;
+    at += put_bytes(&mut out[at..], &label);
+    at += put_spaces(&mut out[at..], a);
+    at += put_bytes(&mut out[at..], &index);
+    at += put_spaces(&mut out[at..], b);
+    at += put_u8(&mut out[at..], 0x0A);
+    at
+}
+
+// The label table; nothing where it doesn't fit.
+pub fn put_label_table(out: &mut [u8], ws: &[u32]) -> usize
+    ensures { λ r. ⌜ Put (fitting (labelsLength (now (ws .entry))) (labelsOf (now (ws .entry))) (now (out .entry)))
+        (now (out .entry)) r (now (out .exit)) ⌝ }
+{
+    let Room::Left(_) = measure_labels(ws, out.len()) else {
+        return 0;
+    };
+    let Found::At(_, _) = next_label(ws, 0) else {
+        return 0;
+    };
+    let names = label_width(ws);
+    let indices = index_width(ws);
+    let mut win = [0usize; 1024];
+    let mut at = 0;
+    at += put_label_header(&mut out[at..], names, indices);
+    at += put_label_windows(&mut out[at..], ws, &mut win, names, indices);
+    at
 }
