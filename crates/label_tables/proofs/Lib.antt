@@ -3,3 +3,4 @@ pub mod CharacterLaws
 pub mod RoomLaws
 pub mod FrameLaws
 pub mod HandedLaws
+pub mod TableLaws
