@@ -1,10 +1,8 @@
 -- Characters of text words, byte by byte. Assumes nothing.
-use mathlib.Core.Path.{_≡_, refl, sym, ap, _∙_}
-use mathlib.Core.Bool.{Bool, true, false}
-use mathlib.Core.List.{List, [], _∷_}
-use Prim.Native.Nat.{ℕ, suc, _+_, _-_, _≤_, _<_}
+use mathlib.Core.Path.{_≡_, sym, ap, _∙_}
+use mathlib.Core.List.{List, _∷_}
+use Prim.Native.Nat.{ℕ, _+_, _-_, _≤_, _<_}
 use native.Mathlib.Omega.{arith}
-use Rattle.format.specs.Basics.{if_then_else_}
 use Rattle.format.specs.Utf8.{characters, isBetween}
 use Rattle.format.proofs.ListLaws.{by-test}
 use Rattle.utf8.specs.Chars.{begins}

@@ -1,16 +1,15 @@
 -- Rows at the places of a window, and window after window. Assumes nothing.
-use mathlib.Core.Path.{_≡_, refl, sym, ap, _∙_}
-use mathlib.Core.List.{List, [], _∷_, _++_, flatMap, append-assoc}
-use Prim.Native.Nat.{ℕ, zero, suc, _+_, _-_, _≤_, _<_}
+use mathlib.Core.Path.{_≡_, sym, ap, _∙_}
+use mathlib.Core.List.{List, [], _∷_, _++_, flatMap}
+use Prim.Native.Nat.{ℕ, _+_, _-_, _≤_, _<_}
 use native.Mathlib.Omega.{arith}
 use lib.ListN.{length, take, drop, getD, length-append, length-take, length-drop, take-append-drop, drop-of-length-le}
 use lib.Seq.{getD-take, length-take-le, take-take, take-all}
-use Rattle.format.specs.Sorted.{order, upsert, upsertAll, sorted, byOrdering}
+use Rattle.format.specs.Sorted.{upsert, upsertAll, sorted}
 use Rattle.format.proofs.ListLaws.{flatMap-append}
 use borrow.Rule.Slice.PartAt.{part-to-end}
 use Rattle.writing.proofs.EachLaws.{flatMap-at}
 use Rattle.writing.proofs.Parts.{State, Emits, rest, has-room}
-use Rattle.gather.specs.Window.{HoldsWindow}
 use Rattle.gather.specs.Order.{HandsOut}
 use Rattle.gather.proofs.WindowLaws.{by-order, upsert-below, upsert-same, upsert-above}
 use Rattle.gather.proofs.OrderLaws.{held-front}

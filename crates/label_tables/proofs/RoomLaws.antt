@@ -1,14 +1,12 @@
 -- Room counted down, row by row, and the widest of all rows. Assumes nothing.
 use mathlib.Core.Path.{_≡_, refl, sym, ap, _∙_}
-use mathlib.Core.Bool.{Bool, true, false}
-use mathlib.Core.List.{List, [], _∷_, _++_, flatMap}
-use mathlib.Core.Option.{Option, none, some, Option·getD}
+use mathlib.Core.List.{List, [], _∷_, flatMap}
+use mathlib.Core.Option.{none, some, Option·getD}
 use Prim.Native.Nat.{ℕ, _+_, _-_, _≤_, _<_, max}
 use native.Mathlib.Omega.{arith}
 use lib.ListN.{length, length-append}
 use lib.Dec.{leb}
 use borrow.Author.Tests.{le-leb, lt-leb, leb-true, leb-false}
-use Rattle.format.specs.Basics.{if_then_else_}
 use Rattle.format.specs.TextWriter.{widest}
 use Rattle.format.proofs.ListLaws.{by-test}
 use Rattle.label_tables.specs.Tables.{roomOf, roomAfter}

@@ -2,25 +2,24 @@
 use mathlib.Core.Path.{_≡_, refl, sym, ap, _∙_}
 use mathlib.Core.Bool.{Bool, true, false}
 use mathlib.Core.List.{List, [], _∷_, _++_, append-assoc}
-use Prim.Native.Nat.{ℕ, zero, suc, _+_, _-_, _*_, _/_, _%_, _^_, _≤_, _<_}
+use Prim.Native.Nat.{ℕ, _+_, _-_, _*_, _/_, _%_, _^_, _≤_}
 use native.Mathlib.Omega.{arith}
-use lib.ListN.{length, length-append, List·getD-eq-default, getD}
+use lib.ListN.{length, length-append, getD}
 use lib.Dec.{leb, ltb}
 use borrow.Author.Tests.{ltb-true, ltb-false, leb-true, leb-false}
 use Rattle.format.specs.Basics.{ascii}
 use Rattle.format.specs.Digits.{digitsOf}
-use Rattle.format.specs.ObjectFile.{Label}
-use Rattle.format.specs.TextWriter.{hex4, numeral, decimal, spaces, toRight, toLeft, textLine, tableDiv, symbolRow, labelRow}
+use Rattle.format.specs.TextWriter.{hex4, numeral, decimal, spaces, toRight}
 use Rattle.format.specs.Utf8.{characters}
 use Rattle.format.specs.Words.{flagBit}
 use Rattle.format.proofs.ListLaws.{by-test}
-use Rattle.text_numerals.proofs.DigitLaws.{spaces-length, right-full, right-length}
+use Rattle.text_numerals.proofs.DigitLaws.{spaces-length}
 use Rattle.object.specs.Bodies.{bodyAt, numberAt}
 use Rattle.object.specs.Texts.{textLen, textBytes, bytesFrom}
-use Rattle.object.proofs.BodyLaws.{body-out, body-fits}
-use Rattle.object.proofs.ByteLaws.{bytes-length, bytes-here, bytes-end, len-none, len-out, len-some}
+use Rattle.object.proofs.BodyLaws.{body-out}
+use Rattle.object.proofs.ByteLaws.{bytes-length, len-none, len-out, len-some}
 use Rattle.object.proofs.NumberLaws.{number-few}
-use Rattle.label_tables.specs.Rows.{bytesAt, nameAt, rowLabel, symbolLine, labelLine}
+use Rattle.label_tables.specs.Rows.{bytesAt, nameAt, symbolLine, labelLine}
 
 -- A NAME
 pub text-few : (ws : List ℕ) (at end : ℕ) → textLen ws at end ≤ 3 * length ws

@@ -1,13 +1,12 @@
 -- The tables by places are the tables of a well formed object's labels, and as long as they are measured. Assumes nothing.
 use mathlib.Core.Path.{_≡_, refl, sym, ap, ap₂, subst, _∙_}
-use mathlib.Core.Bool.{Bool, true, false}
 use mathlib.Core.List.{List, [], _∷_, _++_, map, flatMap}
 use Prim.Native.Nat.{ℕ, _+_, max}
 use native.Mathlib.Omega.{arith}
 use lib.ListN.{length, length-append}
 use lib.Dec.{leb}
 use borrow.Author.Tests.{leb-true, leb-false}
-use Rattle.format.specs.Basics.{Outcome, given, if_then_else_, isEmpty, All}
+use Rattle.format.specs.Basics.{given, if_then_else_, isEmpty, All}
 use Rattle.format.specs.ObjectFile.{Label, ObjectFile, labelKey}
 use Rattle.format.specs.Sorted.{sorted}
 use Rattle.format.specs.TextWriter.{decimal, widest, textLine, symbolHeader, symbolRow, byAddress, symbolTable, labelWidth, indexWidth}
@@ -21,8 +20,7 @@ use Rattle.format.proofs.RisesLaws.{reordered-sorted}
 use Rattle.format.proofs.WordsTrip.{words-only}
 use Rattle.writing.specs.Written.{Put}
 use Rattle.writing.proofs.WriteLaws.{too-short}
-use Rattle.object.specs.Bodies.{bodyAt, textAt, Text}
-use Rattle.object.specs.Texts.{textLen, textBytes}
+use Rattle.object.specs.Texts.{textBytes}
 use Rattle.object.specs.Access.{labelAt}
 use Rattle.object.proofs.ByteLaws.{text-len, text-bytes}
 use Rattle.label_order.specs.Labels.{labelPlaces}
@@ -31,7 +29,7 @@ use Rattle.label_order.specs.declared.By.the-variants as by
 use Rattle.label_order.proofs.KeyLaws.{all-sorted}
 use Rattle.label_order.proofs.ObjectLaws.{Named, labels-are, labels-named, labels-by-address, labels-by-start}
 use Rattle.label_tables.specs.Rows.{bytesAt, nameAt, rowLabel, symbolLine, labelLine}
-use Rattle.label_tables.specs.Tables.{namesWidth, indicesWidth, tableOf, symbolsIn, labelsIn, symbolsOf, labelsOf, symbolsLength, labelsLength, fitting}
+use Rattle.label_tables.specs.Tables.{namesWidth, indicesWidth, tableOf, symbolsOf, labelsOf, symbolsLength, labelsLength, fitting}
 use Rattle.label_tables.proofs.FrameLaws.{put-nothing, fitting-not, fitting-is}
 
 -- A LABEL whose name is a text

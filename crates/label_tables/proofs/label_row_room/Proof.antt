@@ -1,15 +1,12 @@
 use borrow.Author.Needs.{needs}
 use native.Mathlib.Omega.{arith}
-use mathlib.Core.Path.{_≡_, refl, sym, ap, _∙_}
-use mathlib.Core.List.{List, flatMap}
-use Prim.Native.Nat.{ℕ, _+_, _-_, _≤_, _<_, max}
+use mathlib.Core.Path.{_≡_, sym, ap, _∙_}
+use Prim.Native.Nat.{ℕ, _+_, _-_, _≤_}
 use lib.ListN.{length}
 use denote.Ref.{now}
 use mathlib.Core.Option.{some}
-use lib.Dec.{leb}
 use borrow.Author.Tests.{not-true, not-false, leb-true, leb-false}
 use Rattle.label_tables.specs.Rows.{labelLine}
-use Rattle.label_tables.specs.Tables.{roomAfter}
 use Rattle.label_tables.proofs.RowLaws.{label-size}
 use Rattle.label_tables.proofs.RoomLaws.{room-short, room-left}
 use Rattle.label_tables.proofs.label_row_room.Statement.{statement}

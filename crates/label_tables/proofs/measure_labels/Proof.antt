@@ -1,12 +1,12 @@
 use borrow.Author.Needs.{needs}
 use native.Mathlib.Omega.{arith}
-use mathlib.Core.Path.{_≡_, refl, sym, ap, _∙_}
-use mathlib.Core.List.{List, [], _∷_, flatMap}
-use Prim.Native.Nat.{ℕ, _+_, _-_, _≤_, _<_}
+use mathlib.Core.Path.{_≡_, sym, ap, _∙_}
+use mathlib.Core.List.{List, flatMap}
+use Prim.Native.Nat.{ℕ, _+_, _-_, _≤_}
 use lib.ListN.{length}
 use denote.Ref.{now}
 use borrow.Author.Tests.{not-true, not-false, leb-true, leb-false}
-use Rattle.format.specs.TextWriter.{textLine, labelHeader}
+use Rattle.format.specs.TextWriter.{labelHeader}
 use Rattle.label_order.specs.Labels.{placesFrom, labelPlaces}
 use Rattle.label_order.proofs.PlaceLaws.{found-next, found-none}
 use Rattle.label_tables.specs.Rows.{labelLine}

@@ -1,11 +1,11 @@
 use borrow.Author.Needs.{needs}
 use native.Mathlib.Omega.{arith}
 use mathlib.Core.Path.{_≡_, refl, sym, ap, _∙_}
-use mathlib.Core.List.{List, [], _∷_, flatMap}
-use Prim.Native.Nat.{ℕ, _+_, _-_, _≤_, _<_}
+use mathlib.Core.List.{flatMap}
+use Prim.Native.Nat.{_+_, _-_}
 use lib.ListN.{length}
 use denote.Ref.{now}
-use Rattle.format.specs.TextWriter.{textLine, symbolHeader}
+use Rattle.format.specs.TextWriter.{symbolHeader}
 use Rattle.label_order.specs.Labels.{placesFrom, labelPlaces}
 use Rattle.label_order.proofs.PlaceLaws.{found-next, found-none}
 use Rattle.label_tables.specs.Rows.{symbolLine}

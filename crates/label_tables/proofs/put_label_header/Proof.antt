@@ -4,13 +4,13 @@ use borrow.Author.Tests.{not-true, not-false, leb-true, leb-false}
 use native.Mathlib.Omega.{arith}
 use mathlib.Core.Path.{_≡_, refl, sym, ap, ap₂, subst, _∙_}
 use mathlib.Core.List.{List, [], _∷_, _++_}
-use Prim.Native.Nat.{ℕ, _+_, _-_, _^_, _≤_, _<_}
+use Prim.Native.Nat.{ℕ, _+_, _-_, _^_, _<_}
 use lib.ListN.{length}
 use denote.Ref.{now}
 use Rattle.format.specs.TextWriter.{spaces, textLine, labelHeader}
 use Rattle.writing.specs.Written.{Put}
 use Rattle.writing.proofs.WriteLaws.{too-short}
-use Rattle.writing.proofs.Parts.{State, Emits, rest, after, begin, emit, emitted, within, small, same}
+use Rattle.writing.proofs.Parts.{State, Emits, after, begin, emit, emitted, within, small, same}
 use Rattle.label_tables.proofs.FrameLaws.{labelBytes, indexBytes, headerParts, label-header, label-header-size}
 use Rattle.label_tables.proofs.put_label_header.Statement.{statement}
 use Rattle.label_tables.proofs.put_label_header.Tie as tie

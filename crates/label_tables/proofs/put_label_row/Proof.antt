@@ -4,18 +4,16 @@ use borrow.Author.Tests.{not-true, not-false, leb-true, leb-false}
 use native.Mathlib.Omega.{arith}
 use mathlib.Core.Path.{_≡_, refl, sym, ap, subst, _∙_}
 use mathlib.Core.List.{List, [], _∷_, _++_}
-use Prim.Native.Nat.{ℕ, _+_, _-_, _^_, _≤_, _<_}
+use Prim.Native.Nat.{ℕ, _+_, _-_, _^_, _<_}
 use lib.ListN.{length}
-use lib.Dec.{leb}
 use denote.Ref.{now}
 use Rattle.format.specs.TextWriter.{decimal, spaces, toRight}
-use Rattle.format.specs.Utf8.{characters}
 use Rattle.writing.specs.Written.{Put}
 use Rattle.writing.proofs.WriteLaws.{too-short}
-use Rattle.writing.proofs.Parts.{State, Emits, rest, after, begin, emit, emitted, within, small, same}
+use Rattle.writing.proofs.Parts.{State, Emits, after, begin, emit, emitted, within, small, same}
 use Rattle.object.specs.Texts.{textBytes}
 use Rattle.object.proofs.ByteLaws.{bytes-length}
-use Rattle.label_tables.specs.Rows.{nameAt, labelLine}
+use Rattle.label_tables.specs.Rows.{labelLine}
 use Rattle.label_tables.proofs.RowLaws.{div, labelParts, label-parts, label-length}
 use Rattle.label_tables.proofs.put_label_row.Statement.{statement}
 use Rattle.label_tables.proofs.put_label_row.Tie as tie

@@ -6,9 +6,9 @@ use mathlib.Core.List.{List, [], _∷_, _++_, append-nil, flatMap}
 use Prim.Native.Nat.{ℕ, _+_, _-_, _^_, _≤_, _<_}
 use lib.ListN.{length}
 use denote.Ref.{now}
-use Rattle.format.specs.TextWriter.{textLine, symbolHeader, labelHeader}
+use Rattle.format.specs.TextWriter.{textLine, labelHeader}
 use Rattle.writing.specs.Written.{Put}
-use Rattle.writing.proofs.Parts.{State, Emits, rest, after, begin, emit, emitted, within, small, same}
+use Rattle.writing.proofs.Parts.{State, Emits, after, begin, emit, emitted, within, small, same}
 use Rattle.label_order.specs.Labels.{placesFrom, labelPlaces, labelKey}
 use Rattle.label_order.specs.declared.By.the-variants as by
 use Rattle.label_order.proofs.PlaceLaws.{found-next, found-none}

@@ -3,16 +3,16 @@ use borrow.Author.Needs.{needs}
 use native.Mathlib.Omega.{arith}
 use mathlib.Core.Path.{_≡_, refl, sym, ap, subst, _∙_}
 use mathlib.Core.List.{List, [], _∷_, _++_}
-use Prim.Native.Nat.{ℕ, _+_, _%_, _^_, _≤_, _<_}
+use Prim.Native.Nat.{ℕ, _+_, _%_, _^_, _<_}
 use lib.ListN.{length}
 use denote.Ref.{now}
 use Rattle.format.specs.TextWriter.{hex4, decimal, toRight}
 use Rattle.writing.specs.Written.{Put}
 use Rattle.writing.proofs.WriteLaws.{too-short}
-use Rattle.writing.proofs.Parts.{State, Emits, rest, after, begin, emit, emitted, within, small, same}
+use Rattle.writing.proofs.Parts.{State, Emits, after, begin, emit, emitted, within, small, same}
 use Rattle.object.specs.Texts.{textBytes}
 use Rattle.object.proofs.ByteLaws.{bytes-length}
-use Rattle.label_tables.specs.Rows.{nameAt, symbolLine}
+use Rattle.label_tables.specs.Rows.{symbolLine}
 use Rattle.label_tables.proofs.RowLaws.{div, symbolParts, symbol-parts, symbol-length}
 use Rattle.label_tables.proofs.put_symbol_row.Statement.{statement}
 use Rattle.label_tables.proofs.put_symbol_row.Tie as tie

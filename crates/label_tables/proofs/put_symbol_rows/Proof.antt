@@ -1,12 +1,11 @@
 -- A row a turn. Assumes nothing.
 use borrow.Author.Needs.{needs}
 use native.Mathlib.Omega.{arith}
-use mathlib.Core.Path.{_≡_, refl, sym, ap, _∙_}
 use mathlib.Core.List.{List, flatMap}
 use Prim.Native.Nat.{ℕ, _+_, _-_, _^_, _≤_, _<_}
 use lib.ListN.{length, take, drop, getD}
 use denote.Ref.{now}
-use Rattle.writing.proofs.Parts.{State, Emits, rest, after, begin, emit, emitted, within, small, same}
+use Rattle.writing.proofs.Parts.{State, Emits, after, begin, emit, emitted, within, small, same}
 use Rattle.label_tables.specs.Rows.{symbolLine}
 use Rattle.label_tables.proofs.HandedLaws.{window-row, window-end}
 use Rattle.label_tables.proofs.put_symbol_rows.Statement.{statement}

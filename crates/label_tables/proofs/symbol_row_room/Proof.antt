@@ -1,10 +1,6 @@
 use borrow.Author.Needs.{needs}
-use native.Mathlib.Omega.{arith}
-use mathlib.Core.Path.{_≡_, refl, sym, ap, _∙_}
-use mathlib.Core.List.{List, flatMap}
-use Prim.Native.Nat.{ℕ, _+_, _-_, _≤_, _<_, max}
-use lib.ListN.{length}
-use denote.Ref.{now}
+use mathlib.Core.Path.{sym, ap, _∙_}
+use Prim.Native.Nat.{_+_, _-_}
 use Rattle.label_tables.specs.Tables.{roomAfter}
 use Rattle.label_tables.proofs.RowLaws.{symbol-size}
 use Rattle.label_tables.proofs.RoomLaws.{room-short, room-left}
