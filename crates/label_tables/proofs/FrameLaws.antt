@@ -57,7 +57,8 @@ regroup a s d b t z =
 pub label-header : (names indices : ℕ) → headerParts (names - 5) (indices - 5) ≡ textLine (labelHeader names indices)
 unfolding ascii characters
 label-header names indices =
-    sym (regroup labelBytes (spaces (names - 5)) (0x20 ∷ 0x7C ∷ 0x20 ∷ []) (0x49 ∷ 0x4E ∷ 0x44 ∷ 0x45 ∷ 0x58 ∷ []) (spaces (indices - 5)) (0x0A ∷ []))
+    sym (regroup labelBytes (spaces (names - 5)) (0x20 ∷ 0x7C ∷ 0x20 ∷ []) (0x49 ∷ 0x4E ∷ 0x44 ∷ 0x45 ∷ 0x58 ∷ []) (spaces (indices - 5))
+    (0x0A ∷ []))
 
 header-length : (a b : ℕ) → length (headerParts a b) ≡ 14 + a + b
 header-length a b =
@@ -65,7 +66,8 @@ header-length a b =
     let y = length-append (spaces a) (indexBytes ++ (spaces b ++ (0x0A ∷ []))) in
     omega (arith, spaces-length a, spaces-length b)
 
-pub label-header-size : (names indices a b : ℕ) → a ≡ names - 5 → b ≡ indices - 5 → length (textLine (labelHeader names indices)) ≡ 14 + a + b
+pub label-header-size : (names indices a b : ℕ) → a ≡ names - 5 → b ≡ indices - 5
+    → length (textLine (labelHeader names indices)) ≡ 14 + a + b
 label-header-size names indices a b e f =
     ap length (sym (label-header names indices)) ∙ header-length (names - 5) (indices - 5) ∙ omega arith
 

@@ -16,7 +16,8 @@ use Rattle.gather.proofs.OrderLaws.{held-front}
 
 module _ (line : ℕ → List ℕ) (win : List ℕ) (n i : ℕ) where
   -- the row at a place, and those after it
-  pub window-row : i < n → n ≤ length win → flatMap line (drop i (take n win)) ≡ line (getD win i 0) ++ flatMap line (drop (i + 1) (take n win))
+  pub window-row : i < n → n ≤ length win
+      → flatMap line (drop i (take n win)) ≡ line (getD win i 0) ++ flatMap line (drop (i + 1) (take n win))
   window-row h k =
       flatMap-at line 0 (take n win) i (omega (arith, length-take-le n win k))
       ∙ ap (λ p. line p ++ flatMap line (drop (i + 1) (take n win))) (getD-take n win i 0 h)
@@ -35,8 +36,14 @@ module _ (places found now rest : List ℕ) (n : ℕ) (h : HandsOut places found
 
   pub handed-long : length now ≡ length found
   handed-long =
-      omega (arith, ap length (h .windowed .holds), length-append (take (length found) places) (drop n found), length-drop n found,
-      h .windowed .count, handed-few)
+      omega (
+        arith,
+        ap length (h .windowed .holds),
+        length-append (take (length found) places) (drop n found),
+        length-drop n found,
+        h .windowed .count,
+        handed-few,
+      )
 
   handed-front : take n now ≡ take n places
   handed-front =

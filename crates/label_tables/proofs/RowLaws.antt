@@ -96,7 +96,8 @@ pub label-parts : (ws : List ℕ) (p names indices fill start : ℕ) (name : Lis
     → start ≡ numberAt ws (p + 1) → labelParts name fill indices start ≡ labelLine names indices ws p
 unfolding labelLine ascii
 label-parts ws p names indices fill start name e f g =
-    rw (f, e, g) (sym (four (nameAt ws p) (spaces (names - characters (nameAt ws p))) div (toRight indices (decimal (numberAt ws (p + 1)))) (0x0A ∷ [])))
+    rw (f, e, g) (sym (four (nameAt ws p) (spaces (names - characters (nameAt ws p))) div (toRight indices (decimal (numberAt ws (p + 1))))
+    (0x0A ∷ [])))
 
 pub label-length : (name : List ℕ) (fill indices start : ℕ) → length (labelParts name fill indices start)
     ≡ length name + 4 + fill + length (toRight indices (decimal start))
@@ -118,5 +119,9 @@ module _ (ws : List ℕ) (p at n : ℕ) (named : textBytes ws at n ≡ nameAt ws
   pub label-size : (names indices fill start right : ℕ) → fill ≡ names - characters (textBytes ws at n) → start ≡ numberAt ws (p + 1)
       → right ≡ length (toRight indices (decimal start)) → length (labelLine names indices ws p) ≡ n + 4 + fill + right
   label-size names indices fill start right f s r =
-      omega (arith, ap length (label-parts ws p names indices fill start (textBytes ws at n) named f s),
-      label-length (textBytes ws at n) fill indices start, bytes-length ws at 0 n)
+      omega (
+        arith,
+        ap length (label-parts ws p names indices fill start (textBytes ws at n) named f s),
+        label-length (textBytes ws at n) fill indices start,
+        bytes-length ws at 0 n,
+      )

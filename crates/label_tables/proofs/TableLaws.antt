@@ -88,7 +88,8 @@ table-are : (header : List ℕ) (line : ℕ → List ℕ) (ps order : List ℕ) 
 unfolding tableOf
 table-are header line ps order ls rows e f = rw (e, f) refl
 
-framed-length : (ls : List Label) (header xs ys : List ℕ) → length xs ≡ length ys → length (framed ls header xs) ≡ length (framed ls header ys)
+framed-length : (ls : List Label) (header xs ys : List ℕ) → length xs ≡ length ys
+    → length (framed ls header xs) ≡ length (framed ls header ys)
 unfolding isEmpty
 framed-length [] header xs ys e = refl
 framed-length (l ∷ ls) header xs ys e = omega (arith, e, length-append (textLine header) xs, length-append (textLine header) ys)

@@ -1,5 +1,5 @@
--- The tables of labels by the labels' places in the words of an object, and the room that they take, for every slice of words. That they are
--- a well formed object's tables is said in proofs/TableLaws. Assumes nothing.
+-- The tables of labels by the labels' places in the words of an object, and the room that they take, for every slice of words. That they
+-- are a well formed object's tables is said in proofs/TableLaws. Assumes nothing.
 use mathlib.Core.List.{List, [], _++_, flatMap}
 use mathlib.Core.Option.{Option, none, some}
 use Prim.Native.Nat.{ℕ, _-_}

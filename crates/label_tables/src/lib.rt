@@ -36,11 +36,30 @@ const TABLE_DIV: [u8; 3] = [0x20, 0x7C, 0x20];
 
 // .SYMBOL's header.
 const SYMBOL_HEADER: [u8; 19] = [
-    0x41, 0x44, 0x44, 0x52, 0x20, 0x7C, 0x20, 0x45, 0x58, 0x54, 0x20, 0x7C, 0x20, 0x4C, 0x41, 0x42, 0x45, 0x4C, 0x0A,
+    0x41,
+    0x44,
+    0x44,
+    0x52,
+    0x20,
+    0x7C,
+    0x20,
+    0x45,
+    0x58,
+    0x54,
+    0x20,
+    0x7C,
+    0x20,
+    0x4C,
+    0x41,
+    0x42,
+    0x45,
+    0x4C,
+    0x0A,
 ];
 
 // The header of the label table, column by column.
 const LABEL: [u8; 5] = [0x4C, 0x41, 0x42, 0x45, 0x4C];
+
 const DIV_INDEX: [u8; 8] = [0x20, 0x7C, 0x20, 0x49, 0x4E, 0x44, 0x45, 0x58];
 
 // The room that is left, or that there is too little.
@@ -57,7 +76,8 @@ struct Name {
 
 // The name of the label at a place.
 fn name_of(ws: &[u32], p: usize) -> Name
-    ensures { λ r. ⌜ (textBytes (now (ws .entry)) (r .at) (r .len) ≡ nameAt (now (ws .entry)) p) × (r .len ≤ 3 * length (now (ws .entry))) ⌝ }
+    ensures { λ r. ⌜ (textBytes (now (ws .entry)) (r .at) (r .len) ≡ nameAt (now (ws .entry)) p)
+        × (r .len ≤ 3 * length (now (ws .entry))) ⌝ }
 {
     if ws.len() <= p {
         return Name { at: 0, len: 0 };
@@ -365,7 +385,14 @@ fn put_symbol_rows(out: &mut [u8], ws: &[u32], win: &[usize], n: usize) -> usize
 }
 
 // The rows of the label table at the first n places of a window.
-fn put_label_rows(out: &mut [u8], ws: &[u32], win: &[usize], n: usize, names: usize, indices: usize) -> usize
+fn put_label_rows(
+    out: &mut [u8],
+    ws: &[u32],
+    win: &[usize],
+    n: usize,
+    names: usize,
+    indices: usize,
+) -> usize
     requires { ⌜ (n ≤ length (now win)) × (length (flatMap (labelLine names indices (now ws)) (take n (now win))) ≤ length (now out)) ⌝ }
     ensures { λ r. ⌜ Put (flatMap (labelLine names indices (now (ws .entry))) (take n (now (win .entry))))
         (now (out .entry)) r (now (out .exit)) ⌝ }
@@ -398,7 +425,13 @@ fn put_symbol_windows(out: &mut [u8], ws: &[u32], win: &mut [usize]) -> usize
 }
 
 // The rows of the label table, window by window.
-fn put_label_windows(out: &mut [u8], ws: &[u32], win: &mut [usize], names: usize, indices: usize) -> usize
+fn put_label_windows(
+    out: &mut [u8],
+    ws: &[u32],
+    win: &mut [usize],
+    names: usize,
+    indices: usize,
+) -> usize
     requires { ⌜ (0 < length (now win)) × (length (flatMap (labelLine names indices (now ws)) (byStart (now ws))) ≤ length (now out)) ⌝ }
     ensures { λ r. ⌜ Put (flatMap (labelLine names indices (now (ws .entry))) (byStart (now (ws .entry))))
         (now (out .entry)) r (now (out .exit)) ⌝ }

@@ -33,15 +33,19 @@ returns c =
     let m = c .before .before in
     let ws = now (m .before .before .before .args .ws) in
     let l = m .before .loop in
-    sym (widest-end (size ws) (l .width) (placesFrom ws (l .at)) (found-none ws (l .at) _ (m .next-label .ensures .0) (c .enum-told .given .1)))
+    sym (widest-end (size ws) (l .width)
+    (placesFrom ws (l .at)) (found-none ws (l .at) _ (m .next-label .ensures .0) (c .enum-told .given .1)))
     ∙ l .inv
 
 loop-less : tie.Need-loop-less Inv-loop μ-loop
 loop-less c =
     let m = c .before .before .before .before .before .before in
     let g = c .before .before .before .before .p .given in
-    omega (arith, found-moves (m .before .loop .at) (length (now (m .before .before .before .args .ws))) (g .0 .0) (g .0 .1 .0) (m .next-label .result)
-    (m .next-label .ensures .1) (g .1))
+    omega (
+      arith,
+      found-moves (m .before .loop .at) (length (now (m .before .before .before .args .ws))) (g .0 .0) (g .0 .1 .0) (m .next-label .result)
+          (m .next-label .ensures .1) (g .1),
+    )
 
 loop-again : tie.Need-loop-again Inv-loop μ-loop
 loop-again c =
@@ -50,7 +54,8 @@ loop-again c =
     let ws = now (m .before .before .before .args .ws) in
     let l = m .before .loop in
     let n = c .before .before .start-at in
-    let e = c .larger .ensures ∙ ap (λ k. max k (l .width)) (c .before .count-digits .ensures ∙ ap (λ v. length (decimal v)) (n .ensures)) in
+    let e = c .larger .ensures
+    ∙ ap (λ k. max k (l .width)) (c .before .count-digits .ensures ∙ ap (λ v. length (decimal v)) (n .ensures)) in
     ap (λ k. widest (size ws) k (placesFrom ws (g .0 .1 .0))) e
     ∙ widest-on (size ws) (l .width) (g .0 .0) (placesFrom ws (l .at)) (placesFrom ws (g .0 .1 .0))
     (found-next ws (l .at) (m .next-label .result) (m .next-label .ensures .0) (g .0 .0) (g .0 .1 .0) (g .1)) ∙ l .inv

@@ -37,7 +37,8 @@ module _ (t : tie.After-is-room) where
 
   long : line ≡ first + fill + last
   long =
-      label-size (now (start .args .ws)) (start .args .p) (named .name-of .result .at) (named .name-of .result .len) (named .name-of .ensures .0)
+      label-size (now (start .args .ws)) (start .args .p) (named .name-of .result .at) (named .name-of .result .len)
+      (named .name-of .ensures .0)
       (start .args .names) (start .args .indices) fill (right .before .start-at .result) last (right .before .before .fill-of .ensures)
       (right .before .start-at .ensures) (right .right-len .ensures)
 
@@ -45,7 +46,12 @@ returns : tie.Need-returns
 returns c =
     let t = c .before in
     room-short (line t) (start t .args .room)
-    (omega (arith, long t, leb-false (first t + fill t + last t) (start t .args .room) (sym (t .is-room .ensures) ∙ not-true _ (c .if1 .taken))))
+    (omega (
+      arith,
+      long t,
+      leb-false (first t + fill t + last t) (start t .args .room)
+          (sym (t .is-room .ensures) ∙ not-true _ (c .if1 .taken)),
+    ))
 
 fits : (c : tie.Else1) → first (c .before) + fill (c .before) + last (c .before) ≤ start (c .before) .args .room
 fits c =

@@ -16,7 +16,8 @@ use Rattle.label_tables.proofs.label_rows_room.Tie as tie
 
 abbrev Inv-loop : tie.InvT-loop
 Inv-loop ws names indices room left₀ at₀ left at =
-    roomAfter (length (flatMap (labelLine names indices ws) (placesFrom ws at))) left ≡ roomAfter (length (flatMap (labelLine names indices ws) (labelPlaces ws))) room
+    roomAfter (length (flatMap (labelLine names indices ws) (placesFrom ws at))) left
+    ≡ roomAfter (length (flatMap (labelLine names indices ws) (labelPlaces ws))) room
 
 abbrev μ-loop : tie.MeasureT-loop
 μ-loop ws names indices room left₀ at₀ left at = length ws - at
@@ -31,7 +32,8 @@ returns c =
     let a = m .before .before .before .args in
     let ws = now (a .ws) in
     let l = m .before .loop in
-    rows-none (labelLine (a .names) (a .indices) ws) (placesFrom ws (l .at)) (l .left) (found-none ws (l .at) _ (m .next-label .ensures .0) (c .enum-told .given .1)) ∙ l .inv
+    rows-none (labelLine (a .names) (a .indices) ws) (placesFrom ws (l .at)) (l .left)
+    (found-none ws (l .at) _ (m .next-label .ensures .0) (c .enum-told .given .1)) ∙ l .inv
 
 returns-2 : tie.Need-returns-2 Inv-loop μ-loop
 returns-2 c =
@@ -49,8 +51,11 @@ loop-less : tie.Need-loop-less Inv-loop μ-loop
 loop-less c =
     let m = c .before .before .before .before .before .before .before in
     let g = c .before .before .before .before .before .p .given in
-    omega (arith, found-moves (m .before .loop .at) (length (now (m .before .before .before .args .ws))) (g .0 .0) (g .0 .1 .0) (m .next-label .result)
-    (m .next-label .ensures .1) (g .1))
+    omega (
+      arith,
+      found-moves (m .before .loop .at) (length (now (m .before .before .before .args .ws))) (g .0 .0) (g .0 .1 .0) (m .next-label .result)
+          (m .next-label .ensures .1) (g .1),
+    )
 
 loop-again : tie.Need-loop-again Inv-loop μ-loop
 loop-again c =

@@ -34,15 +34,19 @@ returns c =
     let m = c .before .before in
     let ws = now (m .before .before .before .args .ws) in
     let l = m .before .loop in
-    sym (widest-end (size ws) (l .width) (placesFrom ws (l .at)) (found-none ws (l .at) _ (m .next-label .ensures .0) (c .enum-told .given .1)))
+    sym (widest-end (size ws) (l .width)
+    (placesFrom ws (l .at)) (found-none ws (l .at) _ (m .next-label .ensures .0) (c .enum-told .given .1)))
     ∙ l .inv
 
 loop-less : tie.Need-loop-less Inv-loop μ-loop
 loop-less c =
     let m = c .before .before .before .before .before in
     let g = c .before .before .before .p .given in
-    omega (arith, found-moves (m .before .loop .at) (length (now (m .before .before .before .args .ws))) (g .0 .0) (g .0 .1 .0) (m .next-label .result)
-    (m .next-label .ensures .1) (g .1))
+    omega (
+      arith,
+      found-moves (m .before .loop .at) (length (now (m .before .before .before .args .ws))) (g .0 .0) (g .0 .1 .0) (m .next-label .result)
+          (m .next-label .ensures .1) (g .1),
+    )
 
 loop-again : tie.Need-loop-again Inv-loop μ-loop
 loop-again c =

@@ -54,7 +54,8 @@ module _ (t : tie.After-is-room) where
       let g = told .enum-told .given in
       let n = wide .before .label-width .ensures in
       let i = wide .index-width .ensures in
-      table-size (labelHeader (namesWidth ws) (indicesWidth ws)) (labelLine (namesWidth ws) (indicesWidth ws) ws) (labelPlaces ws) (labelPlaces ws)
+      table-size (labelHeader (namesWidth ws) (indicesWidth ws)) (labelLine (namesWidth ws) (indicesWidth ws) ws) (labelPlaces ws)
+      (labelPlaces ws)
       head (g .0 .0) (placesFrom ws (g .0 .1 .0))
       (found-next ws 0 (m .next-label .result) (m .next-label .ensures .0) (g .0 .0) (g .0 .1 .0) (g .1))
       (label-header-size (namesWidth ws) (indicesWidth ws) (t .before .before .past-header .result) (t .before .past-header2 .result)
@@ -76,8 +77,10 @@ returns-3 c =
     let left = room - 14 - t .before .before .past-header .result - t .before .past-header2 .result in
     let e : left ≡ room - head t = omega (arith, fits (c .before)) in
     c .label-rows-room .ensures
-    ∙ ap (λ k. roomAfter (length (flatMap (labelLine k (wide t .index-width .result) (ws t)) (labelPlaces (ws t)))) left) (wide t .before .label-width .ensures)
-    ∙ ap (λ k. roomAfter (length (flatMap (labelLine (namesWidth (ws t)) k (ws t)) (labelPlaces (ws t)))) left) (wide t .index-width .ensures)
+    ∙ ap (λ k. roomAfter (length (flatMap (labelLine k (wide t .index-width .result) (ws t)) (labelPlaces (ws t)))) left)
+    (wide t .before .label-width .ensures)
+    ∙ ap (λ k. roomAfter (length (flatMap (labelLine (namesWidth (ws t)) k (ws t)) (labelPlaces (ws t)))) left)
+    (wide t .index-width .ensures)
     ∙ room-more (head t) room (lines t) left (fits (c .before)) e ∙ ap (λ n. roomAfter n room) (sym (size t))
 
 pub measure-labels-spec : {M : Type 1} → statement M

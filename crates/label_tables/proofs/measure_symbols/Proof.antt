@@ -22,7 +22,8 @@ returns c =
     let a = m .before .before .args in
     let ws = now (a .ws) in
     let e = found-none ws 0 (m .next-label .result) (m .next-label .ensures .0) (c .enum-told2 .given .1) in
-    room-all (a .room) ∙ ap (λ l. roomAfter (length l) (a .room)) (sym (table-none symbolHeader (symbolLine ws) (labelPlaces ws) (labelPlaces ws) e))
+    room-all (a .room) ∙ ap (λ l. roomAfter (length l) (a .room))
+    (sym (table-none symbolHeader (symbolLine ws) (labelPlaces ws) (labelPlaces ws) e))
 
 -- where there is a label
 size : (c : tie.After-enum-told) → let ws = now (c .before .before .before .before .args .ws) in
@@ -45,7 +46,8 @@ returns-3 c =
     let t = c .before .before in
     let a = t .before .before .before .before .args in
     let ws = now (a .ws) in
-    c .symbol-rows-room .ensures ∙ room-more 19 (a .room) (length (flatMap (symbolLine ws) (labelPlaces ws))) (a .room - 19) (c .before .if1 .left) refl
+    c .symbol-rows-room .ensures ∙ room-more 19 (a .room) (length (flatMap (symbolLine ws) (labelPlaces ws))) (a .room - 19)
+    (c .before .if1 .left) refl
     ∙ ap (λ n. roomAfter n (a .room)) (sym (size t))
 
 pub measure-symbols-spec : {M : Type 1} → statement M

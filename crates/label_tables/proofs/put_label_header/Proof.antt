@@ -39,7 +39,8 @@ module _ (t : tie.After-is-room) where
 
   long : length line ≡ 14 + a + b
   long =
-      label-header-size (start .args .names) (start .args .indices) a b (t .before .before .past-header .ensures) (t .before .past-header2 .ensures)
+      label-header-size (start .args .names) (start .args .indices) a b (t .before .before .past-header .ensures)
+      (t .before .past-header2 .ensures)
 
   abbrev room : List ℕ
   room = now (start .args .out)
@@ -50,8 +51,12 @@ module _ (t : tie.After-is-room) where
 emits0 : (c : tie.Else1) → Emits (whole (c .before)) (room (c .before)) (whole (c .before)) (record { at = 0; out = room (c .before) })
 emits0 c =
     let t = c .before in
-    begin _ _ (omega (arith, ap length (is-line t), long t,
-    leb-true (14 + a t + b t) (length (room t)) (sym (t .is-room .ensures) ∙ not-false _ (c .if1 .left))))
+    begin _ _ (omega (
+      arith,
+      ap length (is-line t),
+      long t,
+      leb-true (14 + a t + b t) (length (room t)) (sym (t .is-room .ensures) ∙ not-false _ (c .if1 .left)),
+    ))
 
 abbrev State0 : tie.After-is-room → State ℕ
 State0 b = record { at = 0; out = room b }
@@ -62,8 +67,10 @@ base1 c = c .before .before .before .before
 abbrev State1 : tie.After-put-bytes → State ℕ
 State1 c = after (State0 (base1 c)) (c .put-bytes .result) (c .put-bytes .last .0)
 
-emits1 : (c : tie.After-put-bytes) → Emits (whole (base1 c)) (room (base1 c)) (spaces (a (base1 c)) ++ (indexBytes ++ (spaces (b (base1 c)) ++ (0x0A ∷ [])))) (State1 c)
-emits1 c = emit (emits0 (c .before .before .before)) (labelBytes) (spaces (a (base1 c)) ++ (indexBytes ++ (spaces (b (base1 c)) ++ (0x0A ∷ [])))) refl (c .put-bytes .ensures)
+emits1 : (c : tie.After-put-bytes) → Emits (whole (base1 c)) (room (base1 c))
+    (spaces (a (base1 c)) ++ (indexBytes ++ (spaces (b (base1 c)) ++ (0x0A ∷ [])))) (State1 c)
+emits1 c = emit (emits0 (c .before .before .before))
+    (labelBytes) (spaces (a (base1 c)) ++ (indexBytes ++ (spaces (b (base1 c)) ++ (0x0A ∷ [])))) refl (c .put-bytes .ensures)
 
 abbrev base2 : tie.After-put-spaces → tie.After-is-room
 base2 c = base1 (c .before .before .before .before)
@@ -71,8 +78,10 @@ base2 c = base1 (c .before .before .before .before)
 abbrev State2 : tie.After-put-spaces → State ℕ
 State2 c = after (State1 (c .before .before .before .before)) (c .put-spaces .result) (c .put-spaces .last .0)
 
-emits2 : (c : tie.After-put-spaces) → Emits (whole (base2 c)) (room (base2 c)) (indexBytes ++ (spaces (b (base2 c)) ++ (0x0A ∷ []))) (State2 c)
-emits2 c = emit (emits1 (c .before .before .before .before)) (spaces (a (base2 c))) (indexBytes ++ (spaces (b (base2 c)) ++ (0x0A ∷ []))) refl (c .put-spaces .ensures)
+emits2 : (c : tie.After-put-spaces) → Emits (whole (base2 c)) (room (base2 c)) (indexBytes ++ (spaces (b (base2 c)) ++ (0x0A ∷ [])))
+    (State2 c)
+emits2 c = emit (emits1 (c .before .before .before .before)) (spaces (a (base2 c))) (indexBytes ++ (spaces (b (base2 c)) ++ (0x0A ∷ [])))
+    refl (c .put-spaces .ensures)
 
 abbrev base3 : tie.After-put-bytes2 → tie.After-is-room
 base3 c = base2 (c .before .before .before .before .before)
@@ -81,7 +90,8 @@ abbrev State3 : tie.After-put-bytes2 → State ℕ
 State3 c = after (State2 (c .before .before .before .before .before)) (c .put-bytes2 .result) (c .put-bytes2 .last .0)
 
 emits3 : (c : tie.After-put-bytes2) → Emits (whole (base3 c)) (room (base3 c)) (spaces (b (base3 c)) ++ (0x0A ∷ [])) (State3 c)
-emits3 c = emit (emits2 (c .before .before .before .before .before)) (indexBytes) (spaces (b (base3 c)) ++ (0x0A ∷ [])) refl (c .put-bytes2 .ensures)
+emits3 c = emit (emits2 (c .before .before .before .before .before)) (indexBytes) (spaces (b (base3 c)) ++ (0x0A ∷ [])) refl
+    (c .put-bytes2 .ensures)
 
 abbrev base4 : tie.After-put-spaces2 → tie.After-is-room
 base4 c = base3 (c .before .before .before .before)
@@ -104,7 +114,8 @@ emits5 c = emit (emits4 (c .before .before .before .before)) ((0x0A ∷ [])) [] 
 returns : tie.Need-returns
 returns c =
     let t = c .before in
-    too-short _ _ (14 + a t + b t) (long t) (leb-false (14 + a t + b t) (length (room t)) (sym (t .is-room .ensures) ∙ not-true _ (c .if1 .taken)))
+    too-short _ _ (14 + a t + b t) (long t)
+    (leb-false (14 + a t + b t) (length (room t)) (sym (t .is-room .ensures) ∙ not-true _ (c .if1 .taken)))
 
 returns-2 : tie.Need-returns-2
 returns-2 c =

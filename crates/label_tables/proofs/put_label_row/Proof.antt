@@ -43,13 +43,20 @@ module _ (t : tie.After-is-room) where
 
   is-line : whole ≡ labelLine (start .args .names) (start .args .indices) (now (start .args .ws)) (start .args .p)
   is-line =
-      label-parts (now (start .args .ws)) (start .args .p) (start .args .names) (start .args .indices) fill first name (named .name-of .ensures .0)
+      label-parts (now (start .args .ws)) (start .args .p) (start .args .names) (start .args .indices) fill first name
+      (named .name-of .ensures .0)
       (right .before .before .fill-of .ensures) (right .before .start-at .ensures)
 
   -- how long it is
   long : length whole ≡ named .name-of .result .len + 4 + fill + right .right-len .result
   long =
-      omega (arith, label-length name fill (start .args .indices) first, bytes-length (now (start .args .ws)) (named .name-of .result .at) 0 (named .name-of .result .len), right .right-len .ensures)
+      omega (
+        arith,
+        label-length name fill (start .args .indices) first,
+        bytes-length (now (start .args .ws)) (named .name-of .result .at)
+            0 (named .name-of .result .len),
+        right .right-len .ensures,
+      )
 
   abbrev room : List ℕ
   room = now (start .args .out)
@@ -60,8 +67,12 @@ module _ (t : tie.After-is-room) where
 emits0 : (b : tie.Else1) → Emits (whole (b .before)) (room (b .before)) (whole (b .before)) (record { at = 0; out = room (b .before) })
 emits0 b =
     let t = b .before in
-    begin _ _ (omega (arith, long t, leb-true (named t .name-of .result .len + 4 + fill t + right t .right-len .result) (length (room t))
-    (sym (t .is-room .ensures) ∙ not-false _ (b .if1 .left))))
+    begin _ _ (omega (
+      arith,
+      long t,
+      leb-true (named t .name-of .result .len + 4 + fill t + right t .right-len .result) (length (room t))
+          (sym (t .is-room .ensures) ∙ not-false _ (b .if1 .left)),
+    ))
 
 abbrev State0 : tie.After-is-room → State ℕ
 State0 b = record { at = 0; out = room b }
@@ -72,8 +83,11 @@ base1 c = c .before .before .before
 abbrev State1 : tie.After-put-text → State ℕ
 State1 c = after (State0 (base1 c)) (c .put-text .result) (c .put-text .last .0)
 
-emits1 : (c : tie.After-put-text) → Emits (whole (base1 c)) (room (base1 c)) (spaces (fill (base1 c)) ++ (div ++ (toRight (start (base1 c) .args .indices) (decimal (first (base1 c))) ++ (0x0A ∷ [])))) (State1 c)
-emits1 c = emit (emits0 (c .before .before)) (name (base1 c)) (spaces (fill (base1 c)) ++ (div ++ (toRight (start (base1 c) .args .indices) (decimal (first (base1 c))) ++ (0x0A ∷ [])))) refl (c .put-text .ensures)
+emits1 : (c : tie.After-put-text) → Emits (whole (base1 c)) (room (base1 c))
+    (spaces (fill (base1 c)) ++ (div ++ (toRight (start (base1 c) .args .indices) (decimal (first (base1 c))) ++ (0x0A ∷ [])))) (State1 c)
+emits1 c = emit (emits0 (c .before .before))
+    (name (base1 c)) (spaces (fill (base1 c))
+    ++ (div ++ (toRight (start (base1 c) .args .indices) (decimal (first (base1 c))) ++ (0x0A ∷ [])))) refl (c .put-text .ensures)
 
 abbrev base2 : tie.After-put-spaces → tie.After-is-room
 base2 c = base1 (c .before .before .before .before)
@@ -81,8 +95,10 @@ base2 c = base1 (c .before .before .before .before)
 abbrev State2 : tie.After-put-spaces → State ℕ
 State2 c = after (State1 (c .before .before .before .before)) (c .put-spaces .result) (c .put-spaces .last .0)
 
-emits2 : (c : tie.After-put-spaces) → Emits (whole (base2 c)) (room (base2 c)) (div ++ (toRight (start (base2 c) .args .indices) (decimal (first (base2 c))) ++ (0x0A ∷ []))) (State2 c)
-emits2 c = emit (emits1 (c .before .before .before .before)) (spaces (fill (base2 c))) (div ++ (toRight (start (base2 c) .args .indices) (decimal (first (base2 c))) ++ (0x0A ∷ []))) refl (c .put-spaces .ensures)
+emits2 : (c : tie.After-put-spaces) → Emits (whole (base2 c)) (room (base2 c))
+    (div ++ (toRight (start (base2 c) .args .indices) (decimal (first (base2 c))) ++ (0x0A ∷ []))) (State2 c)
+emits2 c = emit (emits1 (c .before .before .before .before)) (spaces (fill (base2 c)))
+    (div ++ (toRight (start (base2 c) .args .indices) (decimal (first (base2 c))) ++ (0x0A ∷ []))) refl (c .put-spaces .ensures)
 
 abbrev base3 : tie.After-put-bytes → tie.After-is-room
 base3 c = base2 (c .before .before .before .before .before)
@@ -90,8 +106,10 @@ base3 c = base2 (c .before .before .before .before .before)
 abbrev State3 : tie.After-put-bytes → State ℕ
 State3 c = after (State2 (c .before .before .before .before .before)) (c .put-bytes .result) (c .put-bytes .last .0)
 
-emits3 : (c : tie.After-put-bytes) → Emits (whole (base3 c)) (room (base3 c)) (toRight (start (base3 c) .args .indices) (decimal (first (base3 c))) ++ (0x0A ∷ [])) (State3 c)
-emits3 c = emit (emits2 (c .before .before .before .before .before)) (div) (toRight (start (base3 c) .args .indices) (decimal (first (base3 c))) ++ (0x0A ∷ [])) refl (c .put-bytes .ensures)
+emits3 : (c : tie.After-put-bytes) → Emits (whole (base3 c)) (room (base3 c))
+    (toRight (start (base3 c) .args .indices) (decimal (first (base3 c))) ++ (0x0A ∷ [])) (State3 c)
+emits3 c = emit (emits2 (c .before .before .before .before .before)) (div)
+    (toRight (start (base3 c) .args .indices) (decimal (first (base3 c))) ++ (0x0A ∷ [])) refl (c .put-bytes .ensures)
 
 abbrev base4 : tie.After-put-right → tie.After-is-room
 base4 c = base3 (c .before .before .before .before)
@@ -100,7 +118,8 @@ abbrev State4 : tie.After-put-right → State ℕ
 State4 c = after (State3 (c .before .before .before .before)) (c .put-right .result) (c .put-right .last .0)
 
 emits4 : (c : tie.After-put-right) → Emits (whole (base4 c)) (room (base4 c)) (0x0A ∷ []) (State4 c)
-emits4 c = emit (emits3 (c .before .before .before .before)) (toRight (start (base4 c) .args .indices) (decimal (first (base4 c)))) (0x0A ∷ []) refl (c .put-right .ensures)
+emits4 c = emit (emits3 (c .before .before .before .before)) (toRight (start (base4 c) .args .indices) (decimal (first (base4 c))))
+    (0x0A ∷ []) refl (c .put-right .ensures)
 
 abbrev base5 : tie.After-put-u8 → tie.After-is-room
 base5 c = base4 (c .before .before .before .before)

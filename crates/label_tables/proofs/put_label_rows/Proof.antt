@@ -13,7 +13,8 @@ use Rattle.label_tables.proofs.put_label_rows.Tie as tie
 
 abbrev Inv-loop : tie.InvT-loop
 Inv-loop out₀ ws win n names indices at₀ i₀ out at i =
-    (i ≤ n) × Emits (flatMap (labelLine names indices ws) (take n win)) out₀ (flatMap (labelLine names indices ws) (drop i (take n win))) (record { at = at; out = out })
+    (i ≤ n) × Emits (flatMap (labelLine names indices ws) (take n win)) out₀ (flatMap (labelLine names indices ws) (drop i (take n win)))
+    (record { at = at; out = out })
 
 abbrev μ-loop : tie.MeasureT-loop
 μ-loop out₀ ws win n names indices at₀ i₀ out at i = n - i
@@ -62,7 +63,8 @@ same-length c = same (c .before .loop .inv .1)
 returns : tie.Need-returns Inv-loop μ-loop
 returns c =
     let a = c .before .before .before .before .before .args in
-    emitted (c .before .loop .inv .1) (window-end (labelLine (a .names) (a .indices) (now (a .ws))) (now (a .win)) (a .n) (c .before .loop .i) (omega arith))
+    emitted (c .before .loop .inv .1)
+    (window-end (labelLine (a .names) (a .indices) (now (a .ws))) (now (a .win)) (a .n) (c .before .loop .i) (omega arith))
 
 pub put-label-rows-spec : {M : Type 1} → statement M
 put-label-rows-spec =
@@ -71,7 +73,8 @@ put-label-rows-spec =
     Inv-loop
     μ-loop
     loop-holds
-    (λ c. let h : c .before .loop .i < length (now (c .before .before .before .before .before .args .win)) = omega (arith, c .before .before .before .before .before .pre .0) in search needs)
+    (λ c. let h : c .before .loop .i < length (now (c .before .before .before .before .before .args .win)) = omega
+    (arith, c .before .before .before .before .before .pre .0) in search needs)
     (λ c. omega (arith, c .before .before .before .before .before .before .pre .0))
     (λ c. within (c .before .before .loop .inv .1))
     (λ c. within (c .before .before .loop .inv .1))

@@ -80,8 +80,10 @@ module _ (t : tie.After-index-width) where
   is-table : head ++ rows ≡ labelsOf (ws b)
   is-table =
       let g = told .enum-told3 .given in
-      ap₂ (λ x y. textLine (labelHeader x y) ++ flatMap (labelLine x y (ws b)) (byStart (ws b))) (t .before .label-width .ensures) (t .index-width .ensures)
-      ∙ sym (table-some (header (ws b)) (line (ws b)) (labelPlaces (ws b)) (byStart (ws b)) (g .0 .0) (placesFrom (ws b) (g .0 .1 .0)) found)
+      ap₂ (λ x y. textLine (labelHeader x y) ++ flatMap (labelLine x y (ws b)) (byStart (ws b))) (t .before .label-width .ensures)
+      (t .index-width .ensures)
+      ∙ sym (table-some (header (ws b)) (line (ws b)) (labelPlaces (ws b)) (byStart (ws b)) (g .0 .0) (placesFrom (ws b) (g .0 .1 .0))
+      found)
 
   short : length (head ++ rows) ≤ length (room b)
   short =
@@ -89,11 +91,18 @@ module _ (t : tie.After-index-width) where
       let qs = placesFrom (ws b) (g .0 .1 .0) in
       let ps = labelPlaces (ws b) in
       let n = length (textLine (header (ws b))) in
-      omega (arith, ap length is-table, table-size (header (ws b)) (line (ws b)) ps (byStart (ws b)) n (g .0 .0) qs found refl,
-      table-size (header (ws b)) (line (ws b)) ps ps n (g .0 .0) qs found refl, sorted-rows (labelKey by.Start (ws b)) (line (ws b)) ps, fits b)
+      omega (
+        arith,
+        ap length is-table,
+        table-size (header (ws b)) (line (ws b)) ps (byStart (ws b)) n (g .0 .0) qs found refl,
+        table-size (header (ws b)) (line (ws b)) ps ps n (g .0 .0) qs found refl,
+        sorted-rows (labelKey by.Start (ws b)) (line (ws b)) ps,
+        fits b,
+      )
 
 emits1 : (c : tie.After-put-label-header) → let t = c .before .before in
-    Emits (head t ++ rows t) (room (b t)) (rows t) (after (record { at = 0; out = room (b t) }) (c .put-label-header .result) (c .put-label-header .last .0))
+    Emits (head t ++ rows t) (room (b t))
+    (rows t) (after (record { at = 0; out = room (b t) }) (c .put-label-header .result) (c .put-label-header .last .0))
 emits1 c =
     let t = c .before .before in
     emit (begin (head t ++ rows t) (room (b t)) (short t)) (head t) (rows t) refl (c .put-label-header .ensures)
@@ -109,7 +118,8 @@ State2 c =
 
 emits2 : (c : tie.After-put-label-windows) → Emits (head (base2 c) ++ rows (base2 c)) (room (b (base2 c))) [] (State2 c)
 emits2 c =
-    emit (emits1 (c .before .before .before .before .before)) (rows (base2 c)) [] (sym (append-nil (rows (base2 c)))) (c .put-label-windows .ensures)
+    emit (emits1 (c .before .before .before .before .before)) (rows (base2 c)) [] (sym (append-nil (rows (base2 c))))
+    (c .put-label-windows .ensures)
 
 returns : tie.Need-returns
 returns c =
@@ -140,7 +150,8 @@ windows-requires c κs =
 returns-3 : tie.Need-returns-3
 returns-3 c =
     let p = c .before .before .before in
-    subst (λ l. Put l (room (b (base2 p))) (State2 p .at) (State2 p .out)) (is-table (base2 p) ∙ sym (is-fitting (b (base2 p)))) (emitted (emits2 p) refl)
+    subst (λ l. Put l (room (b (base2 p))) (State2 p .at) (State2 p .out)) (is-table (base2 p) ∙ sym (is-fitting (b (base2 p))))
+    (emitted (emits2 p) refl)
 
 pub put-label-table-spec : {M : Type 1} → statement M
 put-label-table-spec =

@@ -18,7 +18,8 @@ use Rattle.label_tables.proofs.put_label_windows.Tie as tie
 abbrev Inv-loop : tie.InvT-loop
 Inv-loop out₀ ws win₀ names indices at₀ labels₀ out win at labels =
     (length win ≡ length win₀)
-    × Emits (flatMap (labelLine names indices ws) (byStart ws)) out₀ (flatMap (labelLine names indices ws) (left ws labels)) (record { at = at; out = out })
+    × Emits (flatMap (labelLine names indices ws) (byStart ws)) out₀ (flatMap (labelLine names indices ws) (left ws labels))
+    (record { at = at; out = out })
 
 abbrev μ-loop : tie.MeasureT-loop
 μ-loop out₀ ws win₀ names indices at₀ labels₀ out win at labels = length (left ws labels)
@@ -82,7 +83,8 @@ module _ (c : tie.After-put-label-rows Inv-loop μ-loop) where
 
   emits : Emits (flatMap (line w) (byStart (ws w))) (now (start w .args .out)) (flatMap (line w) (others w))
       (after (state w) (c .put-label-rows .result) (c .put-label-rows .last .0))
-  emits = emit (at-loop w .loop .inv .1) (flatMap (line w) (take (n w) (win w))) (flatMap (line w) (others w)) (split w) (c .put-label-rows .ensures)
+  emits = emit (at-loop w .loop .inv .1) (flatMap (line w) (take (n w) (win w))) (flatMap (line w) (others w)) (split w)
+      (c .put-label-rows .ensures)
 
 rows-requires : tie.Need-put-label-rows-requires Inv-loop μ-loop
 rows-requires c κs =
@@ -97,7 +99,8 @@ same-length-2 c = let r = c .before .before .before .before in long (w r) ∙ at
 returns : tie.Need-returns Inv-loop μ-loop
 returns c =
     let r = c .before .before .before .before in
-    emitted (emits r) (handed-last (places (w r)) (at-loop (w r) .loop .win) (win (w r)) (others (w r)) (n (w r)) (handed (w r)) (line (w r))
+    emitted (emits r) (handed-last (places (w r)) (at-loop (w r) .loop .win) (win (w r)) (others (w r)) (n (w r)) (handed (w r))
+    (line (w r))
     (omega (arith, long (w r), c .if1 .taken)))
 
 loop-less : tie.Need-loop-less Inv-loop μ-loop

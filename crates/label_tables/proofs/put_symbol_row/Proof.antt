@@ -38,10 +38,12 @@ module _ (b : tie.After-external) where
   whole = symbolParts (word % 2 ^ 16) (b .external .result) name
 
   is-line : whole ≡ symbolLine (now (start .args .ws)) (start .args .p)
-  is-line = symbol-parts (now (start .args .ws)) (start .args .p) word (b .external .result) name (b .before .head-at .ensures) (b .external .ensures) (named .name-of .ensures .0)
+  is-line = symbol-parts (now (start .args .ws)) (start .args .p) word (b .external .result) name (b .before .head-at .ensures)
+      (b .external .ensures) (named .name-of .ensures .0)
 
 -- how long the row is
-long : (c : tie.After-name-of) → length (symbolLine (now (c .before .before .before .args .ws)) (c .before .before .before .args .p)) ≡ c .name-of .result .len + 14
+long : (c : tie.After-name-of) → let a = c .before .before .before .args in
+    length (symbolLine (now (a .ws)) (a .p)) ≡ c .name-of .result .len + 14
 long c =
     let a = c .before .before .before .args in
     let n = c .name-of .result in
@@ -63,8 +65,11 @@ base1 c = c .before .before
 abbrev State1 : tie.After-put-hex4 → State ℕ
 State1 c = after (State0 (base1 c)) (c .put-hex4 .result) (c .put-hex4 .last .0)
 
-emits1 : (c : tie.After-put-hex4) → Emits (whole (base1 c)) (room (base1 c)) (div ++ (toRight 3 (decimal (base1 c .external .result)) ++ (div ++ (name (base1 c) ++ (0x0A ∷ []))))) (State1 c)
-emits1 c = emit (emits0 (base1 c)) (hex4 (word (base1 c) % 2 ^ 16)) (div ++ (toRight 3 (decimal (base1 c .external .result)) ++ (div ++ (name (base1 c) ++ (0x0A ∷ []))))) refl (c .put-hex4 .ensures)
+emits1 : (c : tie.After-put-hex4) → Emits (whole (base1 c)) (room (base1 c))
+    (div ++ (toRight 3 (decimal (base1 c .external .result)) ++ (div ++ (name (base1 c) ++ (0x0A ∷ []))))) (State1 c)
+emits1 c = emit (emits0 (base1 c))
+    (hex4 (word (base1 c) % 2 ^ 16)) (div ++ (toRight 3 (decimal (base1 c .external .result)) ++ (div ++ (name (base1 c) ++ (0x0A ∷ [])))))
+    refl (c .put-hex4 .ensures)
 
 abbrev base2 : tie.After-put-bytes → tie.After-external
 base2 c = base1 (c .before .before .before .before .before)
@@ -72,8 +77,10 @@ base2 c = base1 (c .before .before .before .before .before)
 abbrev State2 : tie.After-put-bytes → State ℕ
 State2 c = after (State1 (c .before .before .before .before .before)) (c .put-bytes .result) (c .put-bytes .last .0)
 
-emits2 : (c : tie.After-put-bytes) → Emits (whole (base2 c)) (room (base2 c)) (toRight 3 (decimal (base2 c .external .result)) ++ (div ++ (name (base2 c) ++ (0x0A ∷ [])))) (State2 c)
-emits2 c = emit (emits1 (c .before .before .before .before .before)) (div) (toRight 3 (decimal (base2 c .external .result)) ++ (div ++ (name (base2 c) ++ (0x0A ∷ [])))) refl (c .put-bytes .ensures)
+emits2 : (c : tie.After-put-bytes) → Emits (whole (base2 c)) (room (base2 c))
+    (toRight 3 (decimal (base2 c .external .result)) ++ (div ++ (name (base2 c) ++ (0x0A ∷ [])))) (State2 c)
+emits2 c = emit (emits1 (c .before .before .before .before .before)) (div)
+    (toRight 3 (decimal (base2 c .external .result)) ++ (div ++ (name (base2 c) ++ (0x0A ∷ [])))) refl (c .put-bytes .ensures)
 
 abbrev base3 : tie.After-put-right → tie.After-external
 base3 c = base2 (c .before .before .before .before)
@@ -82,7 +89,8 @@ abbrev State3 : tie.After-put-right → State ℕ
 State3 c = after (State2 (c .before .before .before .before)) (c .put-right .result) (c .put-right .last .0)
 
 emits3 : (c : tie.After-put-right) → Emits (whole (base3 c)) (room (base3 c)) (div ++ (name (base3 c) ++ (0x0A ∷ []))) (State3 c)
-emits3 c = emit (emits2 (c .before .before .before .before)) (toRight 3 (decimal (base3 c .external .result))) (div ++ (name (base3 c) ++ (0x0A ∷ []))) refl (c .put-right .ensures)
+emits3 c = emit (emits2 (c .before .before .before .before)) (toRight 3 (decimal (base3 c .external .result)))
+    (div ++ (name (base3 c) ++ (0x0A ∷ []))) refl (c .put-right .ensures)
 
 abbrev base4 : tie.After-put-bytes2 → tie.After-external
 base4 c = base3 (c .before .before .before .before .before)

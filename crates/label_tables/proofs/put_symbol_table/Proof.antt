@@ -15,7 +15,8 @@ use Rattle.label_order.proofs.PlaceLaws.{found-next, found-none}
 use Rattle.label_tables.specs.Rows.{symbolLine}
 use Rattle.label_tables.specs.Tables.{byAddress, symbolsOf, symbolsLength, fitting}
 use Rattle.label_tables.proofs.RoomLaws.{room-fits, room-lacks}
-use Rattle.label_tables.proofs.FrameLaws.{table-none, table-some, table-size, symbolBytes, symbol-header, put-nothing, fitting-not, fitting-is}
+use Rattle.label_tables.proofs.FrameLaws.{table-none, table-some, table-size, symbolBytes, symbol-header, put-nothing, fitting-not}
+use Rattle.label_tables.proofs.FrameLaws.{fitting-is}
 use Rattle.label_tables.proofs.HandedLaws.{sorted-rows, lent-room}
 use Rattle.label_tables.proofs.put_symbol_table.Statement.{statement}
 use Rattle.label_tables.proofs.put_symbol_table.Tie as tie
@@ -64,7 +65,8 @@ module _ (t : tie.After-enum-told3) where
   is-table =
       let g = t .enum-told3 .given in
       ap (λ h. h ++ rows) symbol-header
-      ∙ sym (table-some symbolHeader (symbolLine (ws b)) (labelPlaces (ws b)) (byAddress (ws b)) (g .0 .0) (placesFrom (ws b) (g .0 .1 .0)) found)
+      ∙ sym (table-some symbolHeader (symbolLine (ws b)) (labelPlaces (ws b)) (byAddress (ws b)) (g .0 .0) (placesFrom (ws b) (g .0 .1 .0))
+      found)
 
   short : length whole ≤ length (room b)
   short =
@@ -73,8 +75,14 @@ module _ (t : tie.After-enum-told3) where
       let line = symbolLine (ws b) in
       let ps = labelPlaces (ws b) in
       let e : length (textLine symbolHeader) ≡ 19 = ap length (sym symbol-header) in
-      omega (arith, ap length is-table, table-size symbolHeader line ps (byAddress (ws b)) 19 (g .0 .0) qs found e,
-      table-size symbolHeader line ps ps 19 (g .0 .0) qs found e, sorted-rows (labelKey by.Address (ws b)) line ps, fits b)
+      omega (
+        arith,
+        ap length is-table,
+        table-size symbolHeader line ps (byAddress (ws b)) 19 (g .0 .0) qs found e,
+        table-size symbolHeader line ps ps 19 (g .0 .0) qs found e,
+        sorted-rows (labelKey by.Address (ws b)) line ps,
+        fits b,
+      )
 
 emits1 : (c : tie.After-put-bytes) → let t = c .before .before .before in
     Emits (whole t) (room (b t)) (rows t) (after (record { at = 0; out = room (b t) }) (c .put-bytes .result) (c .put-bytes .last .0))
@@ -88,12 +96,14 @@ base2 c = c .before .before .before .before .before .before .before .before
 abbrev State2 : tie.After-put-symbol-windows → State ℕ
 State2 c =
     let h = c .before .before .before .before .before in
-    after (after (record { at = 0; out = room (b (base2 c)) }) (h .put-bytes .result) (h .put-bytes .last .0)) (c .put-symbol-windows .result)
+    after (after (record { at = 0; out = room (b (base2 c)) }) (h .put-bytes .result) (h .put-bytes .last .0))
+    (c .put-symbol-windows .result)
     (c .put-symbol-windows .last .0)
 
 emits2 : (c : tie.After-put-symbol-windows) → Emits (whole (base2 c)) (room (b (base2 c))) [] (State2 c)
 emits2 c =
-    emit (emits1 (c .before .before .before .before .before)) (rows (base2 c)) [] (sym (append-nil (rows (base2 c)))) (c .put-symbol-windows .ensures)
+    emit (emits1 (c .before .before .before .before .before)) (rows (base2 c)) [] (sym (append-nil (rows (base2 c))))
+    (c .put-symbol-windows .ensures)
 
 returns : tie.Need-returns
 returns c =
@@ -111,7 +121,8 @@ returns-2 c =
     let m = c .before .before in
     let e = found-none (ws (m .before)) 0 (m .next-label .result) (m .next-label .ensures .0) (c .enum-told4 .given .1) in
     subst (λ l. Put l (room (m .before)) 0 (room (m .before)))
-    (sym (is-fitting (m .before) ∙ table-none symbolHeader (symbolLine (ws (m .before))) (labelPlaces (ws (m .before))) (byAddress (ws (m .before))) e))
+    (sym (is-fitting (m .before) ∙ table-none symbolHeader (symbolLine (ws (m .before))) (labelPlaces (ws (m .before)))
+    (byAddress (ws (m .before))) e))
     (put-nothing (room (m .before)))
 
 windows-requires : tie.Need-put-symbol-windows-requires
@@ -123,7 +134,8 @@ windows-requires c κs =
 returns-3 : tie.Need-returns-3
 returns-3 c =
     let p = c .before .before .before in
-    subst (λ l. Put l (room (b (base2 p))) (State2 p .at) (State2 p .out)) (is-table (base2 p) ∙ sym (is-fitting (b (base2 p)))) (emitted (emits2 p) refl)
+    subst (λ l. Put l (room (b (base2 p))) (State2 p .at) (State2 p .out)) (is-table (base2 p) ∙ sym (is-fitting (b (base2 p))))
+    (emitted (emits2 p) refl)
 
 pub put-symbol-table-spec : {M : Type 1} → statement M
 put-symbol-table-spec =

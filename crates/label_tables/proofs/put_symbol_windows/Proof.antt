@@ -82,7 +82,8 @@ module _ (c : tie.After-put-symbol-rows Inv-loop μ-loop) where
 
   emits : Emits (flatMap (line w) (byAddress (ws w))) (now (start w .args .out)) (flatMap (line w) (others w))
       (after (state w) (c .put-symbol-rows .result) (c .put-symbol-rows .last .0))
-  emits = emit (at-loop w .loop .inv .1) (flatMap (line w) (take (n w) (win w))) (flatMap (line w) (others w)) (split w) (c .put-symbol-rows .ensures)
+  emits = emit (at-loop w .loop .inv .1) (flatMap (line w) (take (n w) (win w))) (flatMap (line w) (others w)) (split w)
+      (c .put-symbol-rows .ensures)
 
 rows-requires : tie.Need-put-symbol-rows-requires Inv-loop μ-loop
 rows-requires c κs =
@@ -97,7 +98,8 @@ same-length-2 c = let r = c .before .before .before .before in long (w r) ∙ at
 returns : tie.Need-returns Inv-loop μ-loop
 returns c =
     let r = c .before .before .before .before in
-    emitted (emits r) (handed-last (places (w r)) (at-loop (w r) .loop .win) (win (w r)) (others (w r)) (n (w r)) (handed (w r)) (line (w r))
+    emitted (emits r) (handed-last (places (w r)) (at-loop (w r) .loop .win) (win (w r)) (others (w r)) (n (w r)) (handed (w r))
+    (line (w r))
     (omega (arith, long (w r), c .if1 .taken)))
 
 loop-less : tie.Need-loop-less Inv-loop μ-loop
