@@ -43,11 +43,12 @@ module _ (ws : List ℕ) (p : ℕ) (named : Named ws p) where
       ap (λ (n : List ℕ). record
       { name = n; address = labelAt ws p .address; external = labelAt ws p .external; start = labelAt ws p .start }) name-is
 
-  symbol-line : symbolLine ws p ≡ textLine (symbolRow (labelAt ws p))
+  -- its rows
+  pub symbol-line : symbolLine ws p ≡ textLine (symbolRow (labelAt ws p))
   unfolding symbolLine
   symbol-line = ap (λ m. textLine (symbolRow m)) label-is
 
-  label-line : (names indices : ℕ) → labelLine names indices ws p ≡ textLine (labelRow names indices (labelAt ws p))
+  pub label-line : (names indices : ℕ) → labelLine names indices ws p ≡ textLine (labelRow names indices (labelAt ws p))
   unfolding labelLine
   label-line names indices = ap (λ m. textLine (labelRow names indices m)) label-is
 

@@ -255,13 +255,13 @@ pub fn label_width(ws: &[u32]) -> usize
 pub fn index_width(ws: &[u32]) -> usize
     ensures { λ r. ⌜ r ≡ indicesWidth (now (ws .entry)) ⌝ }
 {
-    let mut width = 5;
+    let mut digits = 5;
     let mut at = 0;
     loop {
         let Found::At(p, next) = next_label(ws, at) else {
-            return width;
+            return digits;
         };
-        width = larger(count_digits(start_at(ws, p)), width);
+        digits = larger(count_digits(start_at(ws, p)), digits);
         at = next;
     }
 }
@@ -468,7 +468,7 @@ pub fn put_symbol_table(out: &mut [u8], ws: &[u32]) -> usize
 }
 
 // The header of the label table, in columns of these widths.
-pub fn put_label_header(out: &mut [u8], names: usize, indices: usize) -> usize
+fn put_label_header(out: &mut [u8], names: usize, indices: usize) -> usize
     ensures { λ r. ⌜ Put (textLine (labelHeader names indices)) (now (out .entry)) r (now (out .exit)) ⌝ }
 {
     let a = past_header(names);

@@ -19,10 +19,10 @@ abbrev size : List ℕ → ℕ → ℕ
 size ws p = length (decimal (labelAt ws p .start))
 
 abbrev Inv-loop : tie.InvT-loop
-Inv-loop ws width₀ at₀ width at = widest (size ws) width (placesFrom ws at) ≡ indicesWidth ws
+Inv-loop ws digits₀ at₀ digits at = widest (size ws) digits (placesFrom ws at) ≡ indicesWidth ws
 
 abbrev μ-loop : tie.MeasureT-loop
-μ-loop ws width₀ at₀ width at = length ws - at
+μ-loop ws digits₀ at₀ digits at = length ws - at
 
 loop-holds : tie.Need-loop-holds Inv-loop μ-loop
 unfolding indicesWidth labelPlaces
@@ -33,7 +33,7 @@ returns c =
     let m = c .before .before in
     let ws = now (m .before .before .before .args .ws) in
     let l = m .before .loop in
-    sym (widest-end (size ws) (l .width)
+    sym (widest-end (size ws) (l .digits)
     (placesFrom ws (l .at)) (found-none ws (l .at) _ (m .next-label .ensures .0) (c .enum-told .given .1)))
     ∙ l .inv
 
@@ -55,9 +55,9 @@ loop-again c =
     let l = m .before .loop in
     let n = c .before .before .start-at in
     let e = c .larger .ensures
-    ∙ ap (λ k. max k (l .width)) (c .before .count-digits .ensures ∙ ap (λ v. length (decimal v)) (n .ensures)) in
+    ∙ ap (λ k. max k (l .digits)) (c .before .count-digits .ensures ∙ ap (λ v. length (decimal v)) (n .ensures)) in
     ap (λ k. widest (size ws) k (placesFrom ws (g .0 .1 .0))) e
-    ∙ widest-on (size ws) (l .width) (g .0 .0) (placesFrom ws (l .at)) (placesFrom ws (g .0 .1 .0))
+    ∙ widest-on (size ws) (l .digits) (g .0 .0) (placesFrom ws (l .at)) (placesFrom ws (g .0 .1 .0))
     (found-next ws (l .at) (m .next-label .result) (m .next-label .ensures .0) (g .0 .0) (g .0 .1 .0) (g .1)) ∙ l .inv
 
 pub index-width-spec : {M : Type 1} → statement M
