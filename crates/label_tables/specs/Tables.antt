@@ -43,7 +43,7 @@ abbrev pub labelsIn : List ℕ → List ℕ → List ℕ
 labelsIn ws order =
     tableOf (labelHeader (namesWidth ws) (indicesWidth ws)) (labelLine (namesWidth ws) (indicesWidth ws) ws) (labelPlaces ws) order
 
--- the places, "labels by address, then name" and by source start, then name
+-- the places in the order of address, then name, and of source start, then name
 abbrev pub byAddress : List ℕ → List ℕ
 byAddress ws = sorted (labelKey by.Address ws) (labelPlaces ws)
 

@@ -34,7 +34,7 @@ ghost use Rattle.label_order.specs.Labels.{labelPlaces};
 // 000's TABLE_DIV.
 const TABLE_DIV: [u8; 3] = [0x20, 0x7C, 0x20];
 
-// .SYMBOL's header.
+// .SYMBOL's header: ADDR | EXT | LABEL, and a newline.
 const SYMBOL_HEADER: [u8; 19] = [
     0x41,
     0x44,
@@ -57,7 +57,7 @@ const SYMBOL_HEADER: [u8; 19] = [
     0x0A,
 ];
 
-// The header of the label table, column by column.
+// The header of the label table in two parts: LABEL, and after its spaces the divider and INDEX.
 const LABEL: [u8; 5] = [0x4C, 0x41, 0x42, 0x45, 0x4C];
 
 const DIV_INDEX: [u8; 8] = [0x20, 0x7C, 0x20, 0x49, 0x4E, 0x44, 0x45, 0x58];
