@@ -1,0 +1,508 @@
+// The text writer's two tables of labels, .SYMBOL and .DEBUG's label table: their rows by the labels' places in the words of an object.
+use gather::Found;
+use label_order::By;
+use label_order::Labels;
+use label_order::next_label;
+use object::body_end;
+use object::number_at;
+use object::put_text;
+use object::text_byte;
+use object::text_len;
+use text_numerals::count_digits;
+use text_numerals::put_hex4;
+use text_numerals::put_right;
+use text_numerals::put_spaces;
+use writing::put_bytes;
+use writing::put_u8;
+ghost use mathlib.Core.Path.{_≡_};
+ghost use Prim.Native.Nat.{_+_, _-_, _*_, _%_, _^_, _≤_, _<_, max};
+ghost use mathlib.Core.List.{flatMap};
+ghost use lib.ListN.{length, getD, take};
+ghost use lib.Dec.{leb};
+ghost use Rattle.format.specs.Utf8.{characters};
+ghost use Rattle.format.specs.TextWriter.{decimal, toRight, textLine, labelHeader};
+ghost use Rattle.format.specs.Words.{flagBit};
+ghost use Rattle.utf8.specs.Chars.{begins};
+ghost use Rattle.writing.specs.Written.{Put};
+ghost use Rattle.object.specs.Bodies.{numberAt};
+ghost use Rattle.object.specs.Texts.{textBytes};
+ghost use Rattle.label_tables.specs.Rows.{nameAt, symbolLine, labelLine};
+ghost use Rattle.label_tables.specs.Tables.{roomOf, roomAfter, namesWidth, indicesWidth, symbolsLength, labelsLength};
+ghost use Rattle.label_tables.specs.Tables.{byAddress, byStart, symbolsOf, labelsOf, fitting};
+ghost use Rattle.label_order.specs.Labels.{labelPlaces};
+
+// 000's TABLE_DIV.
+const TABLE_DIV: [u8; 3] = [0x20, 0x7C, 0x20];
+
+// .SYMBOL's header: ADDR | EXT | LABEL, and a newline.
+const SYMBOL_HEADER: [u8; 19] = [
+    0x41,
+    0x44,
+    0x44,
+    0x52,
+    0x20,
+    0x7C,
+    0x20,
+    0x45,
+    0x58,
+    0x54,
+    0x20,
+    0x7C,
+    0x20,
+    0x4C,
+    0x41,
+    0x42,
+    0x45,
+    0x4C,
+    0x0A,
+];
+
+// The header of the label table in two parts: LABEL, and after its spaces the divider and INDEX.
+const LABEL: [u8; 5] = [0x4C, 0x41, 0x42, 0x45, 0x4C];
+
+const DIV_INDEX: [u8; 8] = [0x20, 0x7C, 0x20, 0x49, 0x4E, 0x44, 0x45, 0x58];
+
+// The room that is left, or that there is too little.
+pub enum Room {
+    Left(usize),
+    Short,
+}
+
+// A label's name: where its words begin, and how many bytes it has.
+struct Name {
+    at: usize,
+    len: usize,
+}
+
+// The name of the label at a place.
+fn name_of(ws: &[u32], p: usize) -> Name
+    ensures { λ r. ⌜ (textBytes (now (ws .entry)) (r .at) (r .len) ≡ nameAt (now (ws .entry)) p)
+        × (r .len ≤ 3 * length (now (ws .entry))) ⌝ }
+{
+    if ws.len() <= p {
+        return Name { at: 0, len: 0 };
+    }
+    let body = p + 1;
+    let at = body + 3;
+    let end = body_end(ws, at);
+    Name {
+        at: at,
+        len: text_len(ws, at, end),
+    }
+}
+
+// The first word of the label at a place.
+fn head_at(ws: &[u32], p: usize) -> u32
+    ensures { λ r. ⌜ r ≡ getD (now (ws .entry)) p 0 ⌝ }
+{
+    if ws.len() <= p {
+        return 0;
+    }
+    ws[p]
+}
+
+// The source start of the label at a place.
+fn start_at(ws: &[u32], p: usize) -> u64
+    ensures { λ r. ⌜ r ≡ numberAt (now (ws .entry)) (p + 1) ⌝ }
+{
+    if ws.len() <= p {
+        return 0;
+    }
+    number_at(ws, p + 1)
+}
+
+// EXT: 1 for an external label.
+fn external(w: u32) -> u64
+    ensures { λ r. ⌜ r ≡ flagBit (leb (2 ^ 16) (w % 2 ^ 29)) ⌝ }
+{
+    if w % 0x2000_0000 < 0x1_0000 {
+        return 0;
+    }
+    1
+}
+
+// A row of .SYMBOL: address, EXT and name.
+pub fn put_symbol_row(out: &mut [u8], ws: &[u32], p: usize) -> usize
+    ensures { λ r. ⌜ Put (symbolLine (now (ws .entry)) p) (now (out .entry)) r (now (out .exit)) ⌝ }
+{
+    let name = name_of(ws, p);
+    if out.len() < name.len + 14 {
+        return 0;
+    }
+    let w = head_at(ws, p);
+    let ext = external(w);
+    let div = TABLE_DIV;
+    let mut at = 0;
+    at += put_hex4(&mut out[at..], (w % 0x1_0000) as u16);
+    at += put_bytes(&mut out[at..], &div);
+    at += put_right(&mut out[at..], 3, ext);
+    at += put_bytes(&mut out[at..], &div);
+    at += put_text(&mut out[at..], ws, name.at, name.len);
+    at += put_u8(&mut out[at..], 0x0A);
+    at
+}
+
+// 1 for a byte that begins a character.
+fn begins(b: u8) -> usize
+    ensures { λ r. ⌜ (r ≡ begins b) × (r ≤ 1) ⌝ }
+{
+    if b < 0x80 {
+        return 1;
+    }
+    if 0xBF < b {
+        return 1;
+    }
+    0
+}
+
+// How many characters the first n bytes of the text words from a place on have.
+fn characters(ws: &[u32], at: usize, n: usize) -> usize
+    ensures { λ r. ⌜ r ≡ characters (textBytes (now (ws .entry)) at n) ⌝ }
+{
+    let mut count = 0;
+    let mut i = 0;
+    while i < n {
+        count += begins(text_byte(ws, at, i));
+        i += 1;
+    }
+    count
+}
+
+// How many spaces fill a name to a column: "filled by characters".
+fn fill_of(ws: &[u32], at: usize, n: usize, width: usize) -> usize
+    ensures { λ r. ⌜ r ≡ width - characters (textBytes (now (ws .entry)) at n) ⌝ }
+{
+    let c = characters(ws, at, n);
+    if width <= c {
+        return 0;
+    }
+    width - c
+}
+
+// How long a number is in its column.
+fn right_len(width: usize, n: u64) -> usize
+    ensures { λ r. ⌜ r ≡ length (toRight width (decimal n)) ⌝ }
+{
+    let len = count_digits(n);
+    if width <= len {
+        return len;
+    }
+    width
+}
+
+// Whether three parts fit, as whole numbers.
+fn is_room(room: usize, a: usize, b: usize, c: usize) -> bool
+    ensures { λ r. ⌜ r ≡ leb (a + b + c) room ⌝ }
+{
+    if room < a {
+        return false;
+    }
+    let x = room - a;
+    if x < b {
+        return false;
+    }
+    c <= x - b
+}
+
+// A row of the label table, in columns of these widths: name and source start.
+pub fn put_label_row(out: &mut [u8], ws: &[u32], p: usize, names: usize, indices: usize) -> usize
+    ensures { λ r. ⌜ Put (labelLine names indices (now (ws .entry)) p) (now (out .entry)) r (now (out .exit)) ⌝ }
+{
+    let name = name_of(ws, p);
+    let fill = fill_of(ws, name.at, name.len, names);
+    let start = start_at(ws, p);
+    let right = right_len(indices, start);
+    if !is_room(out.len(), name.len + 4, fill, right) {
+        return 0;
+    }
+    let div = TABLE_DIV;
+    let mut at = 0;
+    at += put_text(&mut out[at..], ws, name.at, name.len);
+    at += put_spaces(&mut out[at..], fill);
+    at += put_bytes(&mut out[at..], &div);
+    at += put_right(&mut out[at..], indices, start);
+    at += put_u8(&mut out[at..], 0x0A);
+    at
+}
+
+// The larger of two numbers.
+fn larger(a: usize, b: usize) -> usize
+    ensures { λ r. ⌜ r ≡ max a b ⌝ }
+{
+    if a < b {
+        return b;
+    }
+    a
+}
+
+// The width of the name column: the longest name in bytes, at least 5.
+pub fn label_width(ws: &[u32]) -> usize
+    ensures { λ r. ⌜ r ≡ namesWidth (now (ws .entry)) ⌝ }
+{
+    let mut width = 5;
+    let mut at = 0;
+    loop {
+        let Found::At(p, next) = next_label(ws, at) else {
+            return width;
+        };
+        let name = name_of(ws, p);
+        width = larger(name.len, width);
+        at = next;
+    }
+}
+
+// The width of the index column: the longest index, at least 5.
+pub fn index_width(ws: &[u32]) -> usize
+    ensures { λ r. ⌜ r ≡ indicesWidth (now (ws .entry)) ⌝ }
+{
+    let mut digits = 5;
+    let mut at = 0;
+    loop {
+        let Found::At(p, next) = next_label(ws, at) else {
+            return digits;
+        };
+        digits = larger(count_digits(start_at(ws, p)), digits);
+        at = next;
+    }
+}
+
+// The room that a row of .SYMBOL leaves.
+fn symbol_row_room(ws: &[u32], p: usize, room: usize) -> Room
+    ensures { λ r. ⌜ roomOf r ≡ roomAfter (length (symbolLine (now (ws .entry)) p)) room ⌝ }
+{
+    let name = name_of(ws, p);
+    let len = name.len + 14;
+    if room < len {
+        return Room::Short;
+    }
+    Room::Left(room - len)
+}
+
+// The room that a row of the label table leaves.
+fn label_row_room(ws: &[u32], p: usize, names: usize, indices: usize, room: usize) -> Room
+    ensures { λ r. ⌜ roomOf r ≡ roomAfter (length (labelLine names indices (now (ws .entry)) p)) room ⌝ }
+{
+    let name = name_of(ws, p);
+    let fill = fill_of(ws, name.at, name.len, names);
+    let right = right_len(indices, start_at(ws, p));
+    let len = name.len + 4;
+    if !is_room(room, len, fill, right) {
+        return Room::Short;
+    }
+    Room::Left(room - len - fill - right)
+}
+
+// The room that the rows of .SYMBOL leave.
+fn symbol_rows_room(ws: &[u32], room: usize) -> Room
+    ensures { λ r. ⌜ roomOf r ≡ roomAfter (length (flatMap (symbolLine (now (ws .entry))) (labelPlaces (now (ws .entry))))) room ⌝ }
+{
+    let mut left = room;
+    let mut at = 0;
+    loop {
+        let Found::At(p, next) = next_label(ws, at) else {
+            return Room::Left(left);
+        };
+        let Room::Left(n) = symbol_row_room(ws, p, left) else {
+            return Room::Short;
+        };
+        left = n;
+        at = next;
+    }
+}
+
+// The room that the rows of the label table leave.
+fn label_rows_room(ws: &[u32], names: usize, indices: usize, room: usize) -> Room
+    ensures { λ r. ⌜ roomOf r
+        ≡ roomAfter (length (flatMap (labelLine names indices (now (ws .entry))) (labelPlaces (now (ws .entry))))) room ⌝ }
+{
+    let mut left = room;
+    let mut at = 0;
+    loop {
+        let Found::At(p, next) = next_label(ws, at) else {
+            return Room::Left(left);
+        };
+        let Room::Left(n) = label_row_room(ws, p, names, indices, left) else {
+            return Room::Short;
+        };
+        left = n;
+        at = next;
+    }
+}
+
+// The room that .SYMBOL's table leaves, counted down: a sum of columns could pass 64 bits.
+pub fn measure_symbols(ws: &[u32], room: usize) -> Room
+    ensures { λ r. ⌜ roomOf r ≡ roomAfter (symbolsLength (now (ws .entry))) room ⌝ }
+{
+    let Found::At(_, _) = next_label(ws, 0) else {
+        return Room::Left(room);
+    };
+    if room < 19 {
+        return Room::Short;
+    }
+    symbol_rows_room(ws, room - 19)
+}
+
+// How many characters a column has past those of its header, LABEL or INDEX.
+fn past_header(width: usize) -> usize
+    ensures { λ r. ⌜ r ≡ width - 5 ⌝ }
+{
+    if width <= 5 {
+        return 0;
+    }
+    width - 5
+}
+
+// The room that the label table leaves.
+pub fn measure_labels(ws: &[u32], room: usize) -> Room
+    ensures { λ r. ⌜ roomOf r ≡ roomAfter (labelsLength (now (ws .entry))) room ⌝ }
+{
+    let Found::At(_, _) = next_label(ws, 0) else {
+        return Room::Left(room);
+    };
+    let names = label_width(ws);
+    let indices = index_width(ws);
+    let a = past_header(names);
+    let b = past_header(indices);
+    if !is_room(room, 14, a, b) {
+        return Room::Short;
+    }
+    label_rows_room(ws, names, indices, room - 14 - a - b)
+}
+
+// The rows of .SYMBOL at the first n places of a window.
+fn put_symbol_rows(out: &mut [u8], ws: &[u32], win: &[usize], n: usize) -> usize
+    requires { ⌜ (n ≤ length (now win)) × (length (flatMap (symbolLine (now ws)) (take n (now win))) ≤ length (now out)) ⌝ }
+    ensures { λ r. ⌜ Put (flatMap (symbolLine (now (ws .entry))) (take n (now (win .entry)))) (now (out .entry)) r (now (out .exit)) ⌝ }
+{
+    let mut at = 0;
+    let mut i = 0;
+    while i < n {
+        let p = win[i];
+        at += put_symbol_row(&mut out[at..], ws, p);
+        i += 1;
+    }
+    at
+}
+
+// The rows of the label table at the first n places of a window.
+fn put_label_rows(
+    out: &mut [u8],
+    ws: &[u32],
+    win: &[usize],
+    n: usize,
+    names: usize,
+    indices: usize,
+) -> usize
+    requires { ⌜ (n ≤ length (now win)) × (length (flatMap (labelLine names indices (now ws)) (take n (now win))) ≤ length (now out)) ⌝ }
+    ensures { λ r. ⌜ Put (flatMap (labelLine names indices (now (ws .entry))) (take n (now (win .entry))))
+        (now (out .entry)) r (now (out .exit)) ⌝ }
+{
+    let mut at = 0;
+    let mut i = 0;
+    while i < n {
+        let p = win[i];
+        at += put_label_row(&mut out[at..], ws, p, names, indices);
+        i += 1;
+    }
+    at
+}
+
+// The rows of .SYMBOL, window by window.
+fn put_symbol_windows(out: &mut [u8], ws: &[u32], win: &mut [usize]) -> usize
+    requires { ⌜ (0 < length (now win)) × (length (flatMap (symbolLine (now ws)) (byAddress (now ws))) ≤ length (now out)) ⌝ }
+    ensures { λ r. ⌜ Put (flatMap (symbolLine (now (ws .entry))) (byAddress (now (ws .entry)))) (now (out .entry)) r (now (out .exit)) ⌝ }
+{
+    let mut at = 0;
+    let mut labels = Labels::new(ws, By::Address);
+    loop {
+        let w = labels.next_window(ws, win);
+        at += put_symbol_rows(&mut out[at..], ws, win, w.count);
+        if w.count < win.len() {
+            return at;
+        }
+        labels = w.labels;
+    }
+}
+
+// The rows of the label table, window by window.
+fn put_label_windows(
+    out: &mut [u8],
+    ws: &[u32],
+    win: &mut [usize],
+    names: usize,
+    indices: usize,
+) -> usize
+    requires { ⌜ (0 < length (now win)) × (length (flatMap (labelLine names indices (now ws)) (byStart (now ws))) ≤ length (now out)) ⌝ }
+    ensures { λ r. ⌜ Put (flatMap (labelLine names indices (now (ws .entry))) (byStart (now (ws .entry))))
+        (now (out .entry)) r (now (out .exit)) ⌝ }
+{
+    let mut at = 0;
+    let mut labels = Labels::new(ws, By::Start);
+    loop {
+        let w = labels.next_window(ws, win);
+        at += put_label_rows(&mut out[at..], ws, win, w.count, names, indices);
+        if w.count < win.len() {
+            return at;
+        }
+        labels = w.labels;
+    }
+}
+
+// The table of .SYMBOL; nothing where it doesn't fit.
+pub fn put_symbol_table(out: &mut [u8], ws: &[u32]) -> usize
+    ensures { λ r. ⌜ Put (fitting (symbolsLength (now (ws .entry))) (symbolsOf (now (ws .entry))) (now (out .entry)))
+        (now (out .entry)) r (now (out .exit)) ⌝ }
+{
+    let Room::Left(_) = measure_symbols(ws, out.len()) else {
+        return 0;
+    };
+    let Found::At(_, _) = next_label(ws, 0) else {
+        return 0;
+    };
+    let header = SYMBOL_HEADER;
+    let mut win = [0usize; 1024];
+    let mut at = 0;
+    at += put_bytes(&mut out[at..], &header);
+    at += put_symbol_windows(&mut out[at..], ws, &mut win);
+    at
+}
+
+// The header of the label table, in columns of these widths.
+fn put_label_header(out: &mut [u8], names: usize, indices: usize) -> usize
+    ensures { λ r. ⌜ Put (textLine (labelHeader names indices)) (now (out .entry)) r (now (out .exit)) ⌝ }
+{
+    let a = past_header(names);
+    let b = past_header(indices);
+    if !is_room(out.len(), 14, a, b) {
+        return 0;
+    }
+    let label = LABEL;
+    let index = DIV_INDEX;
+    let mut at = 0;
+    at += put_bytes(&mut out[at..], &label);
+    at += put_spaces(&mut out[at..], a);
+    at += put_bytes(&mut out[at..], &index);
+    at += put_spaces(&mut out[at..], b);
+    at += put_u8(&mut out[at..], 0x0A);
+    at
+}
+
+// The label table; nothing where it doesn't fit.
+pub fn put_label_table(out: &mut [u8], ws: &[u32]) -> usize
+    ensures { λ r. ⌜ Put (fitting (labelsLength (now (ws .entry))) (labelsOf (now (ws .entry))) (now (out .entry)))
+        (now (out .entry)) r (now (out .exit)) ⌝ }
+{
+    let Room::Left(_) = measure_labels(ws, out.len()) else {
+        return 0;
+    };
+    let Found::At(_, _) = next_label(ws, 0) else {
+        return 0;
+    };
+    let names = label_width(ws);
+    let indices = index_width(ws);
+    let mut win = [0usize; 1024];
+    let mut at = 0;
+    at += put_label_header(&mut out[at..], names, indices);
+    at += put_label_windows(&mut out[at..], ws, &mut win, names, indices);
+    at
+}
