@@ -46,3 +46,7 @@ wordsAt kind t p = recordWords (rowAt kind t p)
 unfoldable pub putEach : List (List ℕ) → ℕ → List ℕ → ℕ × List ℕ
 putEach [] at out = (at, out)
 putEach (p ∷ ps) at out = putEach ps (at + filled p (drop at out)) (take at out ++ written p (drop at out))
+
+-- THE CONTRACT OF A WRITER of several parts: what it returns, and what the room holds at exit
+abbrev pub PutEach : List (List ℕ) → List ℕ → ℕ → List ℕ → Type 0
+PutEach ps room r after = (r, after) ≡ putEach ps 0 room

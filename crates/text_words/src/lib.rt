@@ -4,6 +4,7 @@ use text_cells::Entry;
 use text_cells::Number;
 use text_cells::decimal;
 use text_cells::maybe_hex2u16;
+use text_gather::Sorting;
 use text_gather::address_at;
 use text_gather::cell_at;
 use text_gather::name_at;
@@ -17,8 +18,8 @@ use writing::put_word;
 ghost use mathlib.Core.Path.{_≡_};
 ghost use mathlib.Core.Bool.{true};
 ghost use mathlib.Core.List.{map};
-ghost use Prim.Native.Nat.{_+_, _*_, _^_, _≤_};
-ghost use lib.ListN.{length};
+ghost use Prim.Native.Nat.{_+_, _*_, _^_, _≤_, _<_};
+ghost use lib.ListN.{length, take};
 ghost use Rattle.format.specs.Basics.{isSome};
 ghost use Rattle.format.specs.TextReader.{maybeHex2u16};
 ghost use Rattle.format.specs.Records.{block, label, relocation};
@@ -26,7 +27,9 @@ ghost use Rattle.format.specs.Words.{word, flagBit, memoryWord, recordWords};
 ghost use Rattle.writing.specs.Written.{Put};
 ghost use Rattle.text_lines.specs.Groups.{partsFrom};
 ghost use Rattle.text_blocks.specs.Blocks.{wordsIn};
-ghost use Rattle.text_words.specs.Written.{externalAt, indexAt, entryWord, entriesFrom, EntriesOf, wordsAt};
+ghost use Rattle.text_words.specs.Written.{externalAt, indexAt, entryWord, entriesFrom, EntriesOf, wordsAt, PutEach};
+ghost use Rattle.format.specs.Sorted.{sorted};
+ghost use Rattle.text_rows.specs.Rows.{rowKey, rowsOf};
 
 // A relocation: its address and its name.
 fn put_relocation(out: &mut [u32], address: u16, name: &[u8]) -> usize
@@ -205,4 +208,45 @@ fn put_row(out: &mut [u32], t: &[u8], kind: u8, p: usize) -> usize
         return put_relocation(out, address_at(t, kind, p), &t[start..end]);
     }
     put_label(out, 0, false, index_at(t, p), &t[start..end])
+}
+
+// The rows at the first n places of a window.
+fn put_window(out: &mut [u32], t: &[u8], kind: u8, win: &[usize], n: usize) -> usize
+    requires { ⌜ n ≤ length (now win) ⌝ }
+    ensures { λ r. ⌜ PutEach (map (wordsAt kind (now (t .entry))) (take n (now (win .entry)))) (now (out .entry)) r (now (out .exit)) ⌝ }
+{
+    let mut at = 0;
+    let mut i = 0;
+    while i < n {
+        let p = win[i];
+        at += put_row(&mut out[at..], t, kind, p);
+        i += 1;
+    }
+    at
+}
+
+// The rows of a kind in the order of their keys, window by window.
+fn put_windows(out: &mut [u32], t: &[u8], kind: u8, win: &mut [usize]) -> usize
+    requires { ⌜ 0 < length (now win) ⌝ }
+    ensures { λ r. ⌜ PutEach (map recordWords (sorted rowKey (rowsOf kind (now (t .entry))))) (now (out .entry)) r (now (out .exit)) ⌝ }
+{
+    let mut at = 0;
+    let mut sorting = Sorting::new(t, kind);
+    loop {
+        let w = sorting.next_window(t, win);
+        let n = w.count;
+        at += put_window(&mut out[at..], t, kind, win, n);
+        if n < win.len() {
+            return at;
+        }
+        sorting = w.sorting;
+    }
+}
+
+// The rows of a kind in the order of their keys.
+pub fn put_rows(out: &mut [u32], t: &[u8], kind: u8) -> usize
+    ensures { λ r. ⌜ PutEach (map recordWords (sorted rowKey (rowsOf kind (now (t .entry))))) (now (out .entry)) r (now (out .exit)) ⌝ }
+{
+    let mut win = [0usize; 1024];
+    put_windows(out, t, kind, &mut win)
 }
