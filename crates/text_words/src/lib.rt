@@ -28,6 +28,7 @@ ghost use Rattle.writing.specs.Written.{Put};
 ghost use Rattle.text_lines.specs.Groups.{partsFrom};
 ghost use Rattle.text_blocks.specs.Blocks.{wordsIn};
 ghost use Rattle.text_words.specs.Written.{externalAt, indexAt, entryWord, entriesFrom, EntriesOf, wordsAt, PutEach};
+ghost use Rattle.text_words.specs.Room.{roomOf, roomFor, roomAfter};
 ghost use Rattle.format.specs.Sorted.{sorted};
 ghost use Rattle.text_rows.specs.Rows.{rowKey, rowsOf};
 
@@ -249,4 +250,89 @@ pub fn put_rows(out: &mut [u32], t: &[u8], kind: u8) -> usize
 {
     let mut win = [0usize; 1024];
     put_windows(out, t, kind, &mut win)
+}
+
+// The room that is left.
+pub enum Room {
+    Left(usize),
+    Short,
+}
+
+// The room after n words.
+fn take_room(room: usize, n: usize) -> Room
+    ensures { λ r. ⌜ roomOf r ≡ roomFor n room ⌝ }
+{
+    if room < n {
+        return Room::Short;
+    }
+    Room::Left(room - n)
+}
+
+// The room after the words of the row of a kind at a place.
+fn row_room(t: &[u8], kind: u8, p: usize, room: usize) -> Room
+    ensures { λ r. ⌜ roomOf r ≡ roomFor (length (wordsAt kind (now (t .entry)) p)) room ⌝ }
+{
+    if kind == 0 {
+        let e = entries_at(t, p);
+        let n = e.count;
+        if room <= n {
+            return Room::Short;
+        }
+        return Room::Left(room - n - 1);
+    }
+    let c = name_at(t, kind, p);
+    let start = c.start;
+    let end = c.end;
+    let n = (end - start + 2) / 3;
+    if kind == 2 {
+        return take_room(room, 1 + n);
+    }
+    take_room(room, 4 + n)
+}
+
+// The room after the rows at the first n places of a window.
+fn window_room(t: &[u8], kind: u8, win: &[usize], n: usize, room: usize) -> Room
+    requires { ⌜ n ≤ length (now win) ⌝ }
+    ensures { λ r. ⌜ roomOf r ≡ roomAfter (map (wordsAt kind (now (t .entry))) (take n (now (win .entry)))) room ⌝ }
+{
+    let mut left = room;
+    let mut i = 0;
+    while i < n {
+        let p = win[i];
+        let Room::Left(m) = row_room(t, kind, p, left) else {
+            return Room::Short;
+        };
+        left = m;
+        i += 1;
+    }
+    Room::Left(left)
+}
+
+// The room after the rows of a kind, window by window.
+fn windows_room(t: &[u8], kind: u8, win: &mut [usize], room: usize) -> Room
+    requires { ⌜ 0 < length (now win) ⌝ }
+    ensures { λ r. ⌜ roomOf r ≡ roomAfter (map recordWords (sorted rowKey (rowsOf kind (now (t .entry))))) room ⌝ }
+{
+    let mut left = room;
+    let mut sorting = Sorting::new(t, kind);
+    loop {
+        let w = sorting.next_window(t, win);
+        let n = w.count;
+        let Room::Left(m) = window_room(t, kind, win, n, left) else {
+            return Room::Short;
+        };
+        if n < win.len() {
+            return Room::Left(m);
+        }
+        left = m;
+        sorting = w.sorting;
+    }
+}
+
+// The room after the rows of a kind, a later row with the same key replacing.
+pub fn rows_room(t: &[u8], kind: u8, room: usize) -> Room
+    ensures { λ r. ⌜ roomOf r ≡ roomAfter (map recordWords (sorted rowKey (rowsOf kind (now (t .entry))))) room ⌝ }
+{
+    let mut win = [0usize; 1024];
+    windows_room(t, kind, &mut win, room)
 }
