@@ -57,7 +57,7 @@ fn label_word(address: u16, external: bool) -> u32
 }
 
 // A label: its address and whether it is external, its source start and its name.
-fn put_label(out: &mut [u32], address: u16, external: bool, start: u64, name: &[u8]) -> usize
+pub fn put_label(out: &mut [u32], address: u16, external: bool, start: u64, name: &[u8]) -> usize
     ensures { λ r. ⌜ Put (recordWords (label (record { name = now (name .entry); address = address; external = external; start = start })))
         (now (out .entry)) r (now (out .exit)) ⌝ }
 {
@@ -73,7 +73,7 @@ fn put_label(out: &mut [u32], address: u16, external: bool, start: u64, name: &[
 }
 
 // Whether the row of .SYMBOL at a place says that its label is external.
-fn external_at(t: &[u8], p: usize) -> bool
+pub fn external_at(t: &[u8], p: usize) -> bool
     ensures { λ r. ⌜ r ≡ externalAt (now (t .entry)) p ⌝ }
 {
     let c = cell_at(t, p, 2, 1);
@@ -86,7 +86,7 @@ fn external_at(t: &[u8], p: usize) -> bool
 }
 
 // The source start that the row of the label table at a place says.
-fn index_at(t: &[u8], p: usize) -> u64
+pub fn index_at(t: &[u8], p: usize) -> u64
     ensures { λ r. ⌜ r ≡ indexAt (now (t .entry)) p ⌝ }
 {
     let c = cell_at(t, p, 1, 1);
@@ -187,7 +187,7 @@ fn put_block(out: &mut [u32], t: &[u8], p: usize) -> usize
 }
 
 // The row of a kind at a place.
-fn put_row(out: &mut [u32], t: &[u8], kind: u8, p: usize) -> usize
+pub fn put_row(out: &mut [u32], t: &[u8], kind: u8, p: usize) -> usize
     ensures { λ r. ⌜ Put (wordsAt kind (now (t .entry)) p) (now (out .entry)) r (now (out .exit)) ⌝ }
 {
     if kind == 0 {
