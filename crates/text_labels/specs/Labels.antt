@@ -2,7 +2,7 @@
 use mathlib.Core.Path.{_≡_}
 use mathlib.Core.Bool.{Bool, true, false}
 use mathlib.Core.List.{List, [], _++_, map}
-use Prim.Native.Nat.{ℕ, _≤_, Ordering}
+use Prim.Native.Nat.{ℕ, _+_, _≤_, Ordering}
 use lib.ListN.{length, take, drop}
 use Rattle.format.specs.Basics.{if_then_else_}
 use Rattle.format.specs.Sorted.{byOrdering, sorted}
@@ -51,3 +51,7 @@ bothWords t p q =
 -- the words of the next label, of the row of .SYMBOL at p, the row of the label table at q, or both
 unfoldable pub nextWords : Next → List ℕ → ℕ → ℕ → List ℕ
 nextWords x t p q = if x .symbol then (if x .start then bothWords t p q else wordsAt 1 t p) else wordsAt 3 t q
+
+-- past its next row, if that is used
+unfoldable pub stepped : Stream → Bool → Stream
+stepped s used = if used then record { sorting = s .sorting; i = s .i + 1; n = s .n } else s

@@ -18,7 +18,11 @@ ghost use Rattle.format.specs.Words.{recordWords};
 ghost use Rattle.writing.specs.Written.{Put};
 ghost use Rattle.text_gather.specs.Keys.{nameAt};
 ghost use Rattle.text_words.specs.Written.{PutEach};
-ghost use Rattle.text_labels.specs.Labels.{labelsOf, leftIn, Within, Refilled, chosen, bothWords, nextWords};
+ghost use Rattle.text_labels.specs.Labels.{labelsOf, leftIn, Within, Refilled, chosen, bothWords, nextWords, stepped};
+ghost use mathlib.Core.Bool.{true};
+ghost use mathlib.Core.List.{[]};
+ghost use Rattle.format.specs.Sorted.{sorted};
+ghost use Rattle.text_rows.specs.Rows.{rowKey, rowsOf};
 
 // The rows of a table that are left, in the order of names: the places of a window from i up to n, and the rows after them.
 pub struct Stream {
@@ -135,4 +139,64 @@ fn put_next(out: &mut [u32], t: &[u8], x: Next, p: usize, q: usize) -> usize
         return put_row(out, t, 1, p);
     }
     put_row(out, t, 3, q)
+}
+
+// Past a stream's next row, if that is used.
+fn step(s: Stream, used: bool) -> Stream
+    requires { ⌜ (used ≡ true → s .i < s .n) ⌝ }
+    ensures { λ r. ⌜ r ≡ stepped s used ⌝ }
+{
+    if used {
+        let sorting = s.sorting;
+        return Stream {
+            sorting: sorting,
+            i: s.i + 1,
+            n: s.n,
+        };
+    }
+    s
+}
+
+// All rows of a kind.
+fn all_rows(t: &[u8], kind: u8) -> Stream
+    ensures { λ r. ⌜ (leftIn kind (now (t .entry)) [] r ≡ sorted rowKey (rowsOf kind (now (t .entry)))) × Within kind [] r ⌝ }
+{
+    let sorting = Sorting::new(t, kind);
+    Stream {
+        sorting: sorting,
+        i: 0,
+        n: 0,
+    }
+}
+
+// The labels of both tables, in the order of names.
+fn put_joined(out: &mut [u32], t: &[u8], symbols: &mut [usize], starts: &mut [usize]) -> usize
+    requires { ⌜ (0 < length (now symbols)) × (0 < length (now starts)) ⌝ }
+    ensures { λ r. ⌜ PutEach (map recordWords (map label (labelsOf (now (t .entry))))) (now (out .entry)) r (now (out .exit)) ⌝ }
+{
+    let mut at = 0;
+    let mut s = all_rows(t, 1);
+    let mut d = all_rows(t, 3);
+    loop {
+        s = refill(s, t, symbols);
+        d = refill(d, t, starts);
+        let p = place_at(symbols, s);
+        let q = place_at(starts, d);
+        let x = choose(t, s.i < s.n, p, d.i < d.n, q);
+        if is_done(x) {
+            return at;
+        }
+        at += put_next(&mut out[at..], t, x, p, q);
+        s = step(s, x.symbol);
+        d = step(d, x.start);
+    }
+}
+
+// The labels of a text file, in the order of names.
+pub fn put_labels(out: &mut [u32], t: &[u8]) -> usize
+    ensures { λ r. ⌜ PutEach (map recordWords (map label (labelsOf (now (t .entry))))) (now (out .entry)) r (now (out .exit)) ⌝ }
+{
+    let mut symbols = [0usize; 1024];
+    let mut starts = [0usize; 1024];
+    put_joined(out, t, &mut symbols, &mut starts)
 }
