@@ -1,2 +1,3 @@
 pub mod StreamLaws
 pub mod JoinLaws
+pub mod FileLaws
