@@ -1,0 +1,4 @@
+pub mod StreamLaws
+pub mod JoinLaws
+pub mod RoomLaws
+pub mod FileLaws
