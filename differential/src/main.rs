@@ -16,7 +16,7 @@ differential write-binary | write-text               an object's words in hex
 differential count_lines | raw_line_span N | line_span N | get_pos_pair N | get N | find N | is_fair    the same
 differential marked                                  document 01's cases marked M
 differential vectors queries | binary | text         the lists for the test programs
-differential speed                                   times of the crate
+differential speed                                   times of the crate, and of the library's binary calls beside them
 differential growth                                  times of the library's check and queries on objects that grow";
 
 fn stop(why: &str) -> ! {
@@ -121,7 +121,7 @@ fn main() {
             Some("text") => vectors::text(),
             _ => stop("queries, binary or text?"),
         },
-        "speed" => speed::print(),
+        "speed" => speed::print(&ffi::calls()),
         "growth" => match ffi::calls().queries {
             Some(q) => speed::growth(&q),
             None => println!("growth: the library isn't linked"),

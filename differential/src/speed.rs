@@ -1,5 +1,5 @@
-//! Times, each the best of several batches, a call's share, in nanoseconds: of the crate's four calls on three objects, and of the
-//! library's `check` and queries on objects that grow.
+//! Times, each the best of several batches, a call's share, in nanoseconds: of the crate's four calls on three objects, of the library's
+//! binary calls beside them, and of the library's `check` and queries on objects that grow.
 use std::hint::black_box;
 use std::time::Instant;
 
@@ -7,7 +7,7 @@ use crate::asm::access;
 use crate::asm::encoding::{BinaryFormat, ObjFileFormat, TextFormat};
 use crate::parts::{Label, Parts};
 use crate::numbers::query::Query;
-use crate::under::Queries;
+use crate::under::{Calls, Form, Queries};
 use crate::prng::Prng;
 
 /// A typical assignment: 50 labels, 400 lines, about 12 KB of source, one block.
@@ -74,16 +74,34 @@ pub fn best<T>(mut f: impl FnMut() -> T) -> f64 {
         .fold(f64::INFINITY, f64::min)
 }
 
-pub fn print() {
+pub fn print(calls: &Calls) {
     for (name, p) in [("assignment", assignment()), ("labels", labels()), ("block", block())] {
         let o = access::build(&p);
         let (b, t) = (BinaryFormat::serialize(&o), TextFormat::serialize(&o));
         println!("{name}: {} words, binary {} bytes, text {} bytes", crate::object::encode(&p).len(), b.len(), t.len());
-        println!("  binary write {:12.0} ns", best(|| BinaryFormat::serialize(black_box(&o))));
-        println!("  binary read  {:12.0} ns", best(|| BinaryFormat::deserialize(black_box(&b))));
+        let write = best(|| BinaryFormat::serialize(black_box(&o)));
+        let read = best(|| BinaryFormat::deserialize(black_box(&b)));
+        println!("  binary write {write:12.0} ns");
+        println!("  binary read  {read:12.0} ns");
         println!("  text write   {:12.0} ns", best(|| TextFormat::serialize(black_box(&o))));
         println!("  text read    {:12.0} ns", best(|| TextFormat::deserialize(black_box(&t))));
+        if let Some(form) = calls.binary {
+            library(calls, &form, &crate::object::encode(&p), &b, write, read);
+        }
     }
+}
+
+/// The library's binary calls on the object and on the crate's file of it, its labels in hash order, with buffers of the very length;
+/// and how many times the crate's.
+fn library(calls: &Calls, form: &Form, object: &[u32], file: &[u8], write: f64, read: f64) {
+    let (mut words, mut bytes) = (vec![0; object.len()], vec![0; file.len()]);
+    let row = |name: &str, ns: f64, crate_ns: f64| println!("  ours: {name:12} {ns:12.0} ns {:6.2} times the crate's", ns / crate_ns);
+    if let Some(q) = &calls.queries {
+        row("check", best(|| (q.check)(black_box(object))), write);
+    }
+    row("binary write", best(|| (form.write)(black_box(object), &mut bytes)), write);
+    row("length", best(|| (form.length)(black_box(file))), read);
+    row("binary read", best(|| (form.read)(black_box(file), &mut words)), read);
 }
 
 /// An object of about `words` words: a quarter labels, a quarter line blocks, half source.

@@ -1,5 +1,6 @@
 -- Numbers and bytes at places, clipped to the input. Assumes nothing.
 use mathlib.Core.Path.{_≡_, refl, sym, ap, _∙_}
+use mathlib.Core.Bool.{false}
 use mathlib.Core.List.{List, [], _∷_}
 use Prim.Native.Nat.{ℕ, zero, suc, _+_, _-_, _*_, _^_, _≤_, _<_, min}
 use native.Mathlib.Nat.{pow-zero, pow-suc, lt-of-lt-of-le, pow-le-pow-right}
@@ -9,7 +10,7 @@ use lib.Seq.{drop-cons, getD-drop, take-all}
 use Rattle.format.specs.Digits.{valueOf}
 use Rattle.format.specs.Binary.{bytesAt, numberAt}
 use lib.Dec.{leb}
-use borrow.Author.Tests.{leb-true, leb-false}
+use borrow.Author.Tests.{leb-true, leb-false, le-leb, lt-leb}
 use Rattle.format.proofs.ListLaws.{by-test}
 
 -- one byte more, below the others
@@ -60,3 +61,49 @@ count-below s at h =
     let l : length xs ≤ 2 = omega (arith, length-take 2 (drop at s)) in
     let p : 0 < 256 = omega arith in
     lt-of-lt-of-le (value-below xs (take-below 2 256 (drop at s) p (λ k. rw getD-drop (h (at + k))))) (pow-le-pow-right p l)
+
+-- A NUMBER WHOSE BYTES ARE ALL THERE
+pub there : (p k n l : ℕ) → p ≤ l → k ≤ l - p → leb n (l - p - k) ≡ leb (p + k + n) l
+there p k n l h i =
+    by-test (leb n (l - p - k))
+    (λ e. let j = leb-true n (l - p - k) e in e ∙ sym (le-leb (p + k + n) l (omega arith)))
+    (λ e. let j = leb-false n (l - p - k) e in e ∙ sym (lt-leb (p + k + n) l (omega arith)))
+
+pub not-there : (p k n l : ℕ) → l < p + k → false ≡ leb (p + k + n) l
+not-there p k n l h = sym (lt-leb (p + k + n) l (omega arith))
+
+-- its first byte, and the number of the others
+number-more : (s : List ℕ) (a b n : ℕ) → b ≡ suc a → a < length s → numberAt a (suc n) s ≡ getD s a 0 + 256 * numberAt b n s
+unfolding valueOf
+number-more s a b n e h = rw (drop-cons s a 0 h, e)
+
+number-none : (s : List ℕ) (a : ℕ) → numberAt a 0 s ≡ 0
+unfolding valueOf
+number-none s a = refl
+
+pub two-at : (s : List ℕ) (a : ℕ) → a + 2 ≤ length s → numberAt a 2 s ≡ getD s a 0 + 256 * getD s (a + 1) 0
+two-at s a h =
+    omega (
+      arith,
+      number-more s a (a + 1) 1 (omega arith) (omega arith),
+      number-more s (a + 1) (a + 2) 0 (omega arith) (omega arith),
+      number-none s (a + 2),
+    )
+
+pub eight-at : (s : List ℕ) (a : ℕ) → a + 8 ≤ length s → numberAt a 8 s
+    ≡ getD s a 0 + 0x100 * getD s (a + 1) 0 + 0x1_0000 * getD s (a + 2) 0 + 0x100_0000 * getD s (a + 3) 0
+    + 0x1_0000_0000 * getD s (a + 4) 0 + 0x100_0000_0000 * getD s (a + 5) 0 + 0x1_0000_0000_0000 * getD s (a + 6) 0
+    + 0x100_0000_0000_0000 * getD s (a + 7) 0
+eight-at s a h =
+    omega (
+      arith,
+      number-more s a (a + 1) 7 (omega arith) (omega arith),
+      number-more s (a + 1) (a + 2) 6 (omega arith) (omega arith),
+      number-more s (a + 2) (a + 3) 5 (omega arith) (omega arith),
+      number-more s (a + 3) (a + 4) 4 (omega arith) (omega arith),
+      number-more s (a + 4) (a + 5) 3 (omega arith) (omega arith),
+      number-more s (a + 5) (a + 6) 2 (omega arith) (omega arith),
+      number-more s (a + 6) (a + 7) 1 (omega arith) (omega arith),
+      number-more s (a + 7) (a + 8) 0 (omega arith) (omega arith),
+      number-none s (a + 8),
+    )

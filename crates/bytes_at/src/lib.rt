@@ -1,7 +1,8 @@
 // Numbers and parts of an input at its places, for every place: of bytes past the end of the input there are none.
 ghost use mathlib.Core.Path.{_≡_};
-ghost use Prim.Native.Nat.{_+_, _≤_, min};
+ghost use Prim.Native.Nat.{_+_, _≤_, _<_, min};
 ghost use lib.ListN.{length};
+ghost use lib.Dec.{leb};
 ghost use Rattle.format.specs.Digits.{valueOf};
 ghost use Rattle.format.specs.Binary.{numberAt};
 ghost use Rattle.bytes_at.specs.Part.{PartOf};
@@ -59,22 +60,70 @@ pub fn past(s: &[u8], p: usize, k: usize, n: u64) -> usize
     end_of(s, a, n)
 }
 
+// Whether n bytes are there k bytes past a place.
+fn is_there(s: &[u8], p: usize, k: usize, n: usize) -> bool
+    ensures { λ r. ⌜ r ≡ leb (p + k + n) (length (now (s .entry))) ⌝ }
+{
+    if s.len() < p {
+        return false;
+    }
+    let rest = s.len() - p;
+    if rest < k {
+        return false;
+    }
+    n <= rest - k
+}
+
+// The number k bytes past a place of the at most n bytes that are there.
+fn clipped_value(s: &[u8], p: usize, k: usize, n: u64) -> u64
+    requires { ⌜ n ≤ 8 ⌝ }
+    ensures { λ r. ⌜ r ≡ numberAt (p + k) n (now (s .entry)) ⌝ }
+{
+    let a = offset(s, p, k);
+    let e = end_of(s, a, n);
+    value_le(&s[a..e])
+}
+
+fn wide(b: u8) -> u64
+    ensures { λ r. ⌜ (r ≡ b) × (r < 256) ⌝ }
+{
+    b as u64
+}
+
 // The 2-byte number k bytes past a place, low byte first.
 pub fn u16_at(s: &[u8], p: usize, k: usize) -> u16
     ensures { λ r. ⌜ r ≡ numberAt (p + k) 2 (now (s .entry)) ⌝ }
 {
-    let a = offset(s, p, k);
-    let e = end_of(s, a, 2);
-    value_le(&s[a..e]) as u16
+    if is_there(s, p, k, 2) {
+        let a = p + k;
+        return (wide(s[a]) + 256 * wide(s[a + 1])) as u16;
+    }
+    clipped_value(s, p, k, 2) as u16
+}
+
+// The number of the eight bytes at a place, low byte first.
+fn eight_at(s: &[u8], a: usize) -> u64
+    requires { ⌜ a + 8 ≤ length (now s) ⌝ }
+    ensures { λ r. ⌜ r ≡ numberAt a 8 (now (s .entry)) ⌝ }
+{
+    wide(s[a])
+        + 0x100 * wide(s[a + 1])
+        + 0x1_0000 * wide(s[a + 2])
+        + 0x100_0000 * wide(s[a + 3])
+        + 0x1_0000_0000 * wide(s[a + 4])
+        + 0x100_0000_0000 * wide(s[a + 5])
+        + 0x1_0000_0000_0000 * wide(s[a + 6])
+        + 0x100_0000_0000_0000 * wide(s[a + 7])
 }
 
 // The 8-byte number k bytes past a place, low byte first.
 pub fn u64_at(s: &[u8], p: usize, k: usize) -> u64
     ensures { λ r. ⌜ r ≡ numberAt (p + k) 8 (now (s .entry)) ⌝ }
 {
-    let a = offset(s, p, k);
-    let e = end_of(s, a, 8);
-    value_le(&s[a..e])
+    if is_there(s, p, k, 8) {
+        return eight_at(s, p + k);
+    }
+    clipped_value(s, p, k, 8)
 }
 
 // The n bytes k bytes past a place.

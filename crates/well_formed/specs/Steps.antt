@@ -2,7 +2,7 @@
 use mathlib.Core.Path.{_≡_}
 use mathlib.Core.Bool.{Bool, true, false, cond}
 use mathlib.Core.List.{List, [], _∷_}
-use Prim.Native.Nat.{ℕ, _+_, _-_, _/_, _^_, _<_}
+use Prim.Native.Nat.{ℕ, _+_, _-_, _/_, _%_, _^_, _<_}
 use lib.ListN.{length, getD}
 use lib.Dec.{eqb}
 use Rattle.format.specs.Basics.{given}
@@ -54,3 +54,7 @@ Stepped ws at s step.Bad = allows (recordFrom (groupAt ws at)) (fits (pastIn ws 
 abbrev pub Walked : (List ℕ → Bool) → List ℕ → ℕ → Body → Type 0
 Walked good ws at (body.Ends n) = (good (bodyAt ws at) ≡ true) × (n ≡ at + length (bodyAt ws at))
 Walked good ws at body.Bad = good (bodyAt ws at) ≡ false
+
+-- a word that carries three bytes of text, all ASCII
+abbrev pub AsciiWord : ℕ → Type 0
+AsciiWord w = (w / 0x100_0000 ≡ 0xE3) × (w % 256 < 0x80) × (w / 256 % 256 < 0x80) × (w / 65536 % 256 < 0x80)

@@ -11,7 +11,7 @@ ghost use Rattle.format.specs.Words.{isHead, memoryOf, textPart};
 ghost use Rattle.utf8.specs.Utf8.{run};
 ghost use Rattle.format.specs.Calls.{checked};
 ghost use Rattle.object.specs.Bodies.{bodyAt, counted, goodMemory, goodText, goodAddresses, textAt, Text, rankOf};
-ghost use Rattle.well_formed.specs.Steps.{keyIn, Known, At, Stepped, Walked};
+ghost use Rattle.well_formed.specs.Steps.{keyIn, Known, At, Stepped, Walked, AsciiWord};
 use object::Number;
 use object::goes_on;
 use object::kind;
@@ -131,13 +131,44 @@ fn text_step(u: Utf8, w: u32, n: u32) -> Utf8
     second.step((w / 65536 % 256) as u8)
 }
 
+// Whether a word carries three bytes of text, all ASCII.
+fn is_ascii_word(w: u32) -> bool
+    ensures { λ r. ⌜ (r ≡ true → AsciiWord w) ⌝ }
+{
+    if w / 0x100_0000 != 0xE3 {
+        return false;
+    }
+    if 0x80 <= w % 256 {
+        return false;
+    }
+    if 0x80 <= w / 256 % 256 {
+        return false;
+    }
+    w / 65536 % 256 < 0x80
+}
+
+// Past the words of a text that carry three ASCII bytes each: the text from there on is as good.
+fn ascii_end(ws: &[u32], at: usize) -> usize
+    ensures { λ r. ⌜ (r + length (bodyAt (now (ws .entry)) r) ≡ at + length (bodyAt (now (ws .entry)) at))
+        × (goodText (bodyAt (now (ws .entry)) r) ≡ goodText (bodyAt (now (ws .entry)) at)) ⌝ }
+{
+    let mut i = at;
+    while i < ws.len() {
+        if !is_ascii_word(ws[i]) {
+            return i;
+        }
+        i += 1;
+    }
+    i
+}
+
 // The words of a text.
 fn text_end(ws: &[u32], at: usize) -> Body
     ensures { λ r. ⌜ Walked goodText (now (ws .entry)) at r ⌝ }
 {
     let mut u = Utf8::new();
     let mut full = true;
-    let mut i = at;
+    let mut i = ascii_end(ws, at);
     while goes_on(ws, i) {
         if !full {
             return Body::Bad;

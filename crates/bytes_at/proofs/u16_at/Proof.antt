@@ -1,74 +1,46 @@
-use mathlib.Core.Path.{_≡_, refl, sym, ap, subst, _∙_}
-use mathlib.Core.Bool.{Bool, true, false}
-use mathlib.Core.List.{List, [], _∷_, _++_}
-use mathlib.Core.Option.{Option, none, some}
-use Prim.Native.Nat.{ℕ, zero, suc, _+_, _-_, _*_, _/_, _≤_, _<_, min}
-use native.Mathlib.Omega.{arith}
-use lib.ListN.{length, take, drop, getD, set}
-use denote.Ref.{now}
+-- Both bytes are there, or those that are. Assumes nothing.
 use borrow.Author.Needs.{needs}
-use Rattle.format.specs.Digits.{valueOf}
-use Rattle.format.specs.Binary.{numberAt}
-use Rattle.bytes_at.proofs.PlaceLaws.{bytes-clipped, count-below}
+use borrow.Author.Tests.{leb-true}
+use native.Mathlib.Omega.{arith}
+use mathlib.Core.Path.{sym, _∙_}
+use Prim.Native.Nat.{_+_, _≤_}
+use lib.ListN.{length}
+use denote.Ref.{now}
+use Rattle.bytes_at.proofs.PlaceLaws.{two-at, count-below}
 use Rattle.bytes_at.proofs.u16_at.Statement.{statement}
 use Rattle.bytes_at.proofs.u16_at.Tie as tie
-use Rattle.bytes_at.proofs.u16_at.Reads as reads
-use Rattle.bytes_at.proofs.u16_at.Lts as lts
-use Rattle.bytes_at.proofs.end_of.Reads as end-of-reads
-use Rattle.bytes_at.proofs.offset.Reads as offset-reads
-use Rattle.bytes_at.proofs.value_le.Reads as value-le-reads
 
--- src/lib.rt:66:9
-offset-requires : tie.Need-offset-requires
-offset-requires c κs = search needs
+inside : (c : tie.Then1) → c .before .before .before .args .p + c .before .before .before .args .k + 2
+    ≤ length (now (c .before .before .before .args .s))
+inside c = leb-true _ _ (sym (c .before .is-there .ensures) ∙ c .if1 .taken)
 
--- src/lib.rt:67:9
-end-of-requires : tie.Need-end-of-requires
-end-of-requires c κs = search needs
-
--- src/lib.rt:68:14
-sub-value-le : tie.Need-sub-value-le
-sub-value-le c = search needs
-
--- src/lib.rt:68:14
-part-value-le-start : tie.Need-part-value-le-start
-part-value-le-start c = search needs
-
--- src/lib.rt:68:14
-part-value-le-end : tie.Need-part-value-le-end
-part-value-le-end c = search needs
-
--- src/lib.rt:68:5
-value-le-requires : tie.Need-value-le-requires
-value-le-requires c κs = search needs
-
-value : (c : tie.After-value-le) → c .value-le .result ≡ numberAt (c .before .before .before .before .before .args .p + c .before .before .before .before .before .args .k) 2 (now (c .before .before .before .before .before .args .s))
-value c =
-    let o = c .before .before .before in
-    let a = o .before .before .args in
-    c .value-le .ensures
-    ∙ ap (valueOf 8) (bytes-clipped (now (a .s)) (o .offset .result) (c .before .before .end-of .result) (a .p + a .k) 2 (o .offset .ensures) (c .before .before .end-of .ensures))
-
--- src/lib.rt:68:5
-cast-result : tie.Need-cast-result
-cast-result c =
-    let o = c .before .before .before in
-    let a = o .before .before .args in
-    omega (arith, value c, count-below (now (a .s)) (a .p + a .k) (λ j. o .before .shared-slice-known .given j .fits))
-
--- src/lib.rt:63:1
 returns : tie.Need-returns
-returns c = value c
+returns c =
+    let t = c .before .before .before .before in
+    let a = t .before .before .before .args in
+    omega (arith, two-at (now (a .s)) (a .p + a .k) (inside t))
+
+cast-result-2 : tie.Need-cast-result-2
+cast-result-2 c =
+    let q = c .before .before .before in
+    let a = q .before .args in
+    omega (arith, c .clipped-value .ensures, count-below (now (a .s)) (a .p + a .k) (λ j. q .shared-slice-known .given j .fits))
 
 pub u16-at-spec : {M : Type 1} → statement M
 u16-at-spec =
     tie.close
     (tie.spec
-    offset-requires
-    end-of-requires
-    sub-value-le
-    part-value-le-start
-    part-value-le-end
-    value-le-requires
-    cast-result
-    returns)
+    (λ c κs. search needs)
+    (λ c. omega (arith, inside c))
+    (λ c. omega (arith, inside (c .before)))
+    (λ c κs. search needs)
+    (λ c. omega (arith, inside (c .before .before)))
+    (λ c. omega (arith, inside (c .before .before .before)))
+    (λ c κs. search needs)
+    (λ c. omega arith)
+    (λ c. omega arith)
+    (λ c. omega arith)
+    returns
+    (λ c κs. omega arith)
+    cast-result-2
+    (λ c. c .clipped-value .ensures))

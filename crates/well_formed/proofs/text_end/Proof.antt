@@ -28,7 +28,7 @@ abbrev μ-loop : tie.MeasureT-loop
 -- in a turn: the next word
 module _ (c : tie.Then1 Inv-loop μ-loop) where
   abbrev ws : List ℕ
-  ws = now (c .before .before .before .before .before .args .ws)
+  ws = now (c .before .before .before .before .before .before .args .ws)
 
   abbrev i : ℕ
   i = c .before .before .loop .i
@@ -42,14 +42,14 @@ module _ (c : tie.Then1 Inv-loop μ-loop) where
   going : (i < length ws) × (bodyAt ws i ≡ getD ws i 0 ∷ bodyAt ws (i + 1))
   going = goes ws i (sym (c .before .goes-on .ensures) ∙ c .if1 .taken)
 
-  from-here : textOn u full (getD ws i 0 ∷ bodyAt ws (i + 1)) ≡ goodText (bodyAt ws (c .before .before .before .before .before .args .at))
+  from-here : textOn u full (getD ws i 0 ∷ bodyAt ws (i + 1)) ≡ goodText (bodyAt ws (c .before .before .before .before .before .before .args .at))
   from-here = ap (textOn u full) (sym (going .1)) ∙ c .before .before .loop .inv .1
 
 loop-holds : tie.Need-loop-holds Inv-loop μ-loop
 loop-holds c =
-    let s = c .before .before in
-    let xs = bodyAt (now (s .args .ws)) (s .args .at) in
-    (refl, ap (λ (u : Utf8). textOn u true xs) (c .new .ensures) ∙ text-start xs)
+    let n = c .before in
+    let xs = bodyAt (now (n .before .before .args .ws)) (c .ascii-end .result) in
+    (c .ascii-end .ensures .0, ap (λ (u : Utf8). textOn u true xs) (n .new .ensures) ∙ text-start xs ∙ c .ascii-end .ensures .1)
 
 returns : tie.Need-returns Inv-loop μ-loop
 returns c = sym (from-here (c .before)) ∙ text-short _ _ _ _ (not-true _ (c .if2 .taken))
@@ -92,11 +92,11 @@ loop-again c =
 
 -- past the last word
 module _ (c : tie.Else1 Inv-loop μ-loop) where
-  ended : bodyAt (now (c .before .before .before .before .before .args .ws)) (c .before .before .loop .i) ≡ []
+  ended : bodyAt (now (c .before .before .before .before .before .before .args .ws)) (c .before .before .loop .i) ≡ []
   ended = stops _ _ (sym (c .before .goes-on .ensures) ∙ c .if1 .left)
 
-  measured : goodText (bodyAt (now (c .before .before .before .before .before .args .ws))
-      (c .before .before .before .before .before .args .at)) ≡ eqb (c .before .before .loop .u .need) 0
+  measured : goodText (bodyAt (now (c .before .before .before .before .before .before .args .ws))
+      (c .before .before .before .before .before .before .args .at)) ≡ eqb (c .before .before .loop .u .need) 0
   measured = sym (c .before .before .loop .inv .1) ∙ ap (textOn (c .before .before .loop .u) (c .before .before .loop .full)) ended
       ∙ text-end _ _
 
@@ -114,6 +114,7 @@ text-end-spec =
     (tie.spec
     Inv-loop
     μ-loop
+    (λ c κs. search needs)
     (λ c κs. search needs)
     loop-holds
     (λ c κs. search needs)
