@@ -46,6 +46,10 @@ module _ (room n : ℕ) where
       (λ u. let l = leb-false m (room - n) u in let e : leb (n + m) room ≡ false = lt-leb (n + m) room (omega arith) in simp (t, u, e)))
       (λ t. let h = leb-false n room t in let e : leb (n + m) room ≡ false = lt-leb (n + m) room (omega arith) in simp (t, e))
 
+-- n bytes, and m more
+pub less-on : (room n m : ℕ) → n ≤ room → less (room - n) m ≡ less room (n + m)
+less-on room n m h = ap (λ (o : Option ℕ). andThen o λ k. less k m) (less-some room n h) ∙ sym (less-add room n m)
+
 pub less-nothing : (room : ℕ) → some room ≡ lessPart room []
 less-nothing room = let e : room - 0 ≡ room = omega arith in ap some (sym e) ∙ less-some room 0 (omega arith)
 
