@@ -38,14 +38,15 @@ unfolding numeral
 agree =
     agree-more 4 18 _ (agree-more 3 17 _ (agree-more 2 16 _ (agree-more 1 15 _ (agree-more 0 14 16 (λ n ds h. sym (numeral-short 14 n ds h))))))
 
-length-numeral : (k n : ℕ) (ds : List ℕ) → length (numeral k 16 n ds) ≤ suc k + length ds
+pub length-numeral : (k base n : ℕ) (ds : List ℕ) → length (numeral k base n ds) ≤ suc k + length ds
 unfolding numeral
-length-numeral zero n ds = omega arith
-length-numeral (suc k) n ds =
-    by-test (ltb n 16) (λ t. rw t (omega arith)) (λ t. rw t (omega (arith, length-numeral k (n / 16) (lowerDigit (n % 16) ∷ ds))))
+length-numeral zero base n ds = omega arith
+length-numeral (suc k) base n ds =
+    by-test (ltb n base) (λ t. rw t (omega arith))
+    (λ t. rw t (omega (arith, length-numeral k base (n / base) (lowerDigit (n % base) ∷ ds))))
 
 pub hex-short : (n : ℕ) → length (numeral 19 16 n []) ≤ 20
-hex-short n = length-numeral 19 n []
+hex-short n = length-numeral 19 16 n []
 
 pub code-length : (c : ℕ) → length (codeText c) ≡ length (numeral 19 16 c []) + 4
 unfolding codeText ascii
