@@ -2,11 +2,12 @@
 use mathlib.Core.Path.{_≡_, refl, sym, ap, subst, _∙_}
 use mathlib.Core.Bool.{Bool, true, false, _&&_}
 use mathlib.Core.Logic.{_⊎_, inl, inr}
-use mathlib.Core.List.{List, [], _∷_, _++_, flatMap}
+use mathlib.Core.List.{List, [], _∷_, _++_, flatMap, append-assoc}
 use mathlib.Core.Option.{Option, none, some, Option·getD}
 use Prim.Native.Nat.{ℕ, zero, suc, _+_, _-_, _*_, _/_, _%_, _≤_, _<_}
 use native.Mathlib.Omega.{arith}
-use lib.ListN.{length, drop, length-append, drop-of-length-le}
+use lib.ListN.{length, drop, length-append, length-drop, drop-of-length-le}
+use borrow.Rule.Slice.PartAt.{part-to-end}
 use lib.Seq.{drop-drop}
 use lib.Dec.{ltb, leb, eqb}
 use borrow.Author.Tests.{lt-ltb, le-ltb, le-leb, lt-leb, eq-eqb, ne-eqb}
@@ -16,6 +17,12 @@ use Rattle.format.specs.TextWriter.{lowerDigit, numeral, escapeChar, escape}
 use Rattle.format.proofs.ListLaws.{by-test}
 use Rattle.format.proofs.Utf8Laws.{char-reads, scalar-bound}
 use Rattle.writing.specs.Written.{Put}
+use Rattle.writing.proofs.Parts.{State, Emits, rest, has-room}
+use Rattle.text_numerals.proofs.DigitLaws.{right-length, right-full}
+use Rattle.text_numerals.specs.Memory.{knownWord}
+use Rattle.format.specs.Digits.{digitsOf}
+use Rattle.format.specs.TextWriter.{hex4, decimal, memoryText, spaces, toRight, tableDiv, textLine}
+use Rattle.text_escape.specs.Rows.{lineLine}
 use Rattle.utf8.proofs.CharLaws.{front}
 use Rattle.text_escape.specs.Escaped.{letterOf, codeText, escapeNext, escapeFrom}
 
@@ -185,3 +192,38 @@ module _ (c : ℕ) where
 -- a part by another name of its bytes
 pub put-as : {a b : List ℕ} (room : List ℕ) (r : ℕ) (after : List ℕ) → a ≡ b → Put a room r after → Put b room r after
 put-as room r after e p = subst (λ (x : List ℕ). Put x room r after) e p
+
+-- a part that is to come has room in the rest that is lent
+pub part-room :
+    {whole room left : List ℕ} {s : State ℕ} (f : Emits whole room left s) (part left′ : List ℕ) → left ≡ part ++ left′
+    → length part ≤ length (rest s)
+part-room {s} f part left′ e =
+    rw (part-to-end (s .out) (s .at), length-drop) (omega (arith, has-room f, ap length e, length-append part left′))
+
+-- A ROW OF THE LINE TABLE, cell by cell
+pub column-wide : (width : ℕ) (t : List ℕ) → length t ≤ width → width ≡ length (toRight width t)
+column-wide width t h = sym (right-length width t h)
+
+pub column-narrow : (width : ℕ) (t : List ℕ) → width < length t → length t ≡ length (toRight width t)
+column-narrow width t h = ap length (right-full width t (omega arith))
+
+pub memory-length : (o : Option ℕ) → length (memoryText o) ≡ 4
+unfolding ascii hex4 digitsOf
+memory-length none = refl
+memory-length (some v) = refl
+
+-- five cells and a newline
+pub line-parts : (a b c d e : List ℕ) → textLine (a ++ b ++ c ++ d ++ e) ≡ a ++ (b ++ (c ++ (d ++ textLine e)))
+line-parts a b c d e =
+    append-assoc (a ++ b ++ c ++ d) e (0x0A ∷ []) ∙ append-assoc (a ++ b ++ c) d (textLine e) ∙ append-assoc (a ++ b) c (d ++ textLine e)
+    ∙ append-assoc a b (c ++ (d ++ textLine e))
+
+pub line-length : (width number : ℕ) (o : Option ℕ) (cell : List ℕ)
+    → length (lineLine width number o cell) ≡ 11 + length (toRight width (decimal number)) + length cell
+unfolding ascii
+line-length width number o cell =
+    let a = toRight width (decimal number) in
+    let m = memoryText o in
+    omega (
+      arith, ap length (line-parts a tableDiv m tableDiv cell), length-append a (tableDiv ++ (m ++ (tableDiv ++ textLine cell))),
+      length-append m (tableDiv ++ textLine cell), length-append cell (0x0A ∷ []), memory-length o)

@@ -1,7 +1,10 @@
-// `escape_default` of the source, as it lies in text words.
+// `escape_default` of the source, as it lies in text words, and the rows of the line table, whose last cell it is.
 use measuring::Room;
+use text_numerals::count_digits;
 use text_numerals::count_hex;
 use text_numerals::put_hex;
+use text_numerals::put_memory;
+use text_numerals::put_right;
 use utf8::Char;
 use writing::put_bytes;
 use writing::put_u8;
@@ -9,15 +12,20 @@ ghost use mathlib.Core.Path.{_≡_};
 ghost use Prim.Native.Nat.{_+_, _≤_, _<_};
 ghost use lib.ListN.{length, drop, getD};
 ghost use Rattle.format.specs.Utf8.{charAt};
-ghost use Rattle.format.specs.TextWriter.{escapeChar};
+ghost use Rattle.format.specs.TextWriter.{escapeChar, decimal, toRight};
 ghost use Rattle.writing.specs.Written.{Put};
 ghost use Rattle.utf8.specs.Chars.{charOf};
 ghost use Rattle.object.specs.Texts.{textBytes};
 ghost use Rattle.measuring.specs.Room.{roomOf, lessPart};
+ghost use Rattle.text_numerals.specs.Memory.{knownWord};
 ghost use Rattle.text_escape.specs.Escaped.{letterOf, codeText, escapedIn};
+ghost use Rattle.text_escape.specs.Rows.{lineLine};
 
 // What a character is escaped with: \u{
 const UNICODE: [u8; 3] = [0x5C, 0x75, 0x7B];
+
+// 000's TABLE_DIV.
+const TABLE_DIV: [u8; 3] = [0x20, 0x7C, 0x20];
 
 // The letter after the backslash of a character that has one; 0 of others. Letters pass at the first test.
 fn letter(c: u32) -> u8
@@ -177,4 +185,70 @@ pub fn put_escaped(out: &mut [u8], ws: &[u32], at: usize, start: usize, end: usi
         Room::Left(_) => put_chars(out, ws, at, start, end),
         Room::Short => 0,
     }
+}
+
+// How wide a number is in a column.
+fn column(width: usize, number: u64) -> usize
+    ensures { λ r. ⌜ r ≡ length (toRight width (decimal number)) ⌝ }
+{
+    let len = count_digits(number);
+    if width < len {
+        return len;
+    }
+    width
+}
+
+// The room that a row of the line table leaves: a line number, its address if it is known, and the bytes from `start` up to `end` of
+// the source.
+pub fn measure_line_row(
+    room: usize,
+    width: usize,
+    number: u64,
+    known: bool,
+    address: u16,
+    ws: &[u32],
+    at: usize,
+    start: usize,
+    end: usize,
+) -> Room
+    ensures { λ r. ⌜ roomOf r ≡ lessPart room (lineLine width number (knownWord known address) (escapedIn (now (ws .entry)) at start end)) ⌝ }
+{
+    let head = column(width, number);
+    if room < 11 {
+        return Room::Short;
+    }
+    if room - 11 < head {
+        return Room::Short;
+    }
+    measure_escaped(room - 11 - head, ws, at, start, end)
+}
+
+// It, written.
+pub fn put_line_row(
+    out: &mut [u8],
+    width: usize,
+    number: u64,
+    known: bool,
+    address: u16,
+    ws: &[u32],
+    at: usize,
+    start: usize,
+    end: usize,
+) -> usize
+    ensures { λ r. ⌜ Put (lineLine width number (knownWord known address) (escapedIn (now (ws .entry)) at start end)) (now (out .entry)) r (now (out .exit)) ⌝ }
+{
+    let Room::Left(_) =
+        measure_line_row(out.len(), width, number, known, address, ws, at, start, end)
+    else {
+        return 0;
+    };
+    let div = TABLE_DIV;
+    let mut k = 0;
+    k += put_right(&mut out[k..], width, number);
+    k += put_bytes(&mut out[k..], &div);
+    k += put_memory(&mut out[k..], known, address);
+    k += put_bytes(&mut out[k..], &div);
+    k += put_chars(&mut out[k..], ws, at, start, end);
+    k += put_u8(&mut out[k..], 0x0A);
+    k
 }

@@ -4,8 +4,7 @@ use mathlib.Core.Bool.{true}
 use mathlib.Core.List.{List, [], _∷_, _++_}
 use Prim.Native.Nat.{ℕ, _+_, _≤_, _<_}
 use native.Mathlib.Omega.{arith}
-use lib.ListN.{length, getD, length-append, length-drop}
-use borrow.Rule.Slice.PartAt.{part-to-end}
+use lib.ListN.{length, getD}
 use Rattle.format.specs.Basics.{given, givenOr}
 use Rattle.format.specs.ObjectFile.{ObjectFile}
 use Rattle.format.specs.Records.{Record, placed, emptyObject}
@@ -15,7 +14,6 @@ use Rattle.object.specs.Bodies.{bodyAt}
 use Rattle.object.specs.Access.{recordAt}
 use Rattle.object.proofs.Formed.{formed}
 use Rattle.object.proofs.BodyLaws.{body-fits, head-at}
-use Rattle.writing.proofs.Parts.{State, Emits, rest, has-room}
 use Rattle.source_info.proofs.RecordLaws.{Left, Here, start, finish, here, on}
 use Rattle.text_write.specs.Tables.{objectIn}
 
@@ -52,10 +50,3 @@ module _ (F : ObjectFile → List ℕ) (part : List ℕ → ℕ → List ℕ) (t
 
     pub walk-less : (n : ℕ) → n ≡ at + 1 + length (bodyAt ws (at + 1)) → (at < n) × (n ≤ length ws)
     walk-less n e = (omega arith, omega (arith, body-fits ws (at + 1) (omega arith)))
-
--- a part that is to come has room in the rest that is lent
-pub part-room :
-    {whole room left : List ℕ} {s : State ℕ} (f : Emits whole room left s) (part left′ : List ℕ) → left ≡ part ++ left′
-    → length part ≤ length (rest s)
-part-room {s} f part left′ e =
-    rw (part-to-end (s .out) (s .at), length-drop) (omega (arith, has-room f, ap length e, length-append part left′))

@@ -10,8 +10,9 @@ use Rattle.object.specs.Bodies.{bodyAt}
 use Rattle.writing.proofs.Parts.{State, Emits, after, begin, emit, emitted, within, small, same}
 use Rattle.source_info.proofs.RecordLaws.{Left}
 use Rattle.text_write.specs.Tables.{blockTable, blocksText, blockPart}
+use Rattle.text_escape.proofs.EscapeLaws.{part-room}
 use Rattle.text_write.proofs.PartLaws.{blocks-walk}
-use Rattle.text_write.proofs.WalkLaws.{past, walk-start, walk-end, walk-part, walk-on, walk-less, part-room}
+use Rattle.text_write.proofs.WalkLaws.{past, walk-start, walk-end, walk-part, walk-on, walk-less}
 use Rattle.object.proofs.body_end.Reads as body-end-reads
 use Rattle.text_write.proofs.put_block.Reads as put-block-reads
 use Rattle.text_write.proofs.put_blocks.Statement.{statement}
