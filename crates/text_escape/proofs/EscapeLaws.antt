@@ -225,5 +225,10 @@ line-length width number o cell =
     let a = toRight width (decimal number) in
     let m = memoryText o in
     omega (
-      arith, ap length (line-parts a tableDiv m tableDiv cell), length-append a (tableDiv ++ (m ++ (tableDiv ++ textLine cell))),
-      length-append m (tableDiv ++ textLine cell), length-append cell (0x0A ∷ []), memory-length o)
+      arith,
+      ap length (line-parts a tableDiv m tableDiv cell),
+      length-append a (tableDiv ++ (m ++ (tableDiv ++ textLine cell))),
+      length-append m (tableDiv ++ textLine cell),
+      length-append cell (0x0A ∷ []),
+      memory-length o,
+    )

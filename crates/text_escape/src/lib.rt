@@ -237,9 +237,17 @@ pub fn put_line_row(
 ) -> usize
     ensures { λ r. ⌜ Put (lineLine width number (knownWord known address) (escapedIn (now (ws .entry)) at start end)) (now (out .entry)) r (now (out .exit)) ⌝ }
 {
-    let Room::Left(_) =
-        measure_line_row(out.len(), width, number, known, address, ws, at, start, end)
-    else {
+    let Room::Left(_) = measure_line_row(
+        out.len(),
+        width,
+        number,
+        known,
+        address,
+        ws,
+        at,
+        start,
+        end,
+    ) else {
         return 0;
     };
     let div = TABLE_DIV;

@@ -83,8 +83,14 @@ module _ (ws : List ℕ) (at : ℕ) where
         let b = textLine (decimal (length body)) in
         let m : length (memoryLines body) ≡ 5 * length body = length-flatMap (λ w. textLine (memoryText (memoryIn w))) 5 memory-length body in
         omega (
-          arith, ap length block-parts, length-append a (b ++ memoryLines body), length-append b (memoryLines body), m,
-          address-length (addressIn (getD ws at 0)), line-length (decimal (length body)))
+          arith,
+          ap length block-parts,
+          length-append a (b ++ memoryLines body),
+          length-append b (memoryLines body),
+          m,
+          address-length (addressIn (getD ws at 0)),
+          line-length (decimal (length body)),
+        )
 
 -- .LINKER_INFO
 module _ (ws : List ℕ) (at : ℕ) (rs : List Record) where

@@ -70,11 +70,11 @@ loop-less c = let l = c .before .before .before .before .before in let w = walk-
 
 loop-again : tie.Need-loop-again Inv-loop μ-loop
 loop-again c = let l = c .before .before .before .before .before in (
-      new l,
-      walk-on blockTable blockPart blocks-walk (ws l) (at l) (old l) (l .loop-test .taken) (l .before .loop .inv .1) (c .body-end .result) (c .body-end .ensures),
-      part-fits (l .before .loop .left) (blockPart (ws l) (at l)) (new l) (here l)
-          (sym (ap roomOf (c .before .before .rest .given .1)) ∙ c .before .before .before .before .measure-block .ensures) ∙ l .before .loop .inv .2,
-    )
+  new l,
+  walk-on blockTable blockPart blocks-walk (ws l) (at l) (old l) (l .loop-test .taken) (l .before .loop .inv .1) (c .body-end .result) (c .body-end .ensures),
+  part-fits (l .before .loop .left) (blockPart (ws l) (at l)) (new l) (here l)
+      (sym (ap roomOf (c .before .before .rest .given .1)) ∙ c .before .before .before .before .measure-block .ensures) ∙ l .before .loop .inv .2,
+)
 
 returns-2 : tie.Need-returns-2 Inv-loop μ-loop
 returns-2 c = let o = c .before .loop in less-nothing (o .left) ∙ ap (lessPart (o .left)) (sym (walk-end blockTable blockPart blocks-walk (now (c .before .before .before .args .ws)) (o .at) (o .inv .0) (c .loop-test .left) (o .inv .1))) ∙ o .inv .2
