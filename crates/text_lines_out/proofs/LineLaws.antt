@@ -9,21 +9,23 @@ use native.Mathlib.Numerals.{add-one}
 use lib.ListN.{length, take, drop, getD, length-append, length-drop, take-append-drop, drop-of-length-le}
 use lib.Seq.{drop-drop, getD-drop, take-all, drop-cons, take-at, drop-at, length-take-le}
 use lib.Dec.{leb}
-use borrow.Author.Tests.{le-leb, lt-leb, leb-true, leb-false}
+use borrow.Author.Tests.{le-leb, lt-leb, leb-true, leb-false, le-ltb}
 use Rattle.format.specs.Basics.{Outcome, refused, given, givenOr, _>>=_, andThen, isSome, if_then_else_}
 use Rattle.format.specs.Utf8.{charAt, scalarsFrom, isUtf8}
-use Rattle.format.specs.Source.{Span, rawLineSpan, spanBytes}
-use Rattle.format.specs.TextWriter.{sourceCell, escape, textLine, lineRow}
+use Rattle.format.specs.Source.{Span, lineCount, rawLineSpan, spanBytes}
+use Rattle.format.specs.TextWriter.{Row, plainRows, sourceCell, escape, textLine, lineRow}
 use Rattle.format.proofs.ListLaws.{by-test}
 use Rattle.format.proofs.Utf8Laws.{char-one, char-ascii, char-reads}
 use Rattle.source_info.specs.Passing.{span, spanFrom}
 use Rattle.source_info.proofs.LineLaws.{size-is, span-start, span-other, span-stop, span-pass, span-end, span-past}
+use Rattle.object.specs.Access.{addressIn}
 use Rattle.object.specs.Texts.{textByte, bytesFrom, textBytes}
 use Rattle.text_escape.specs.Escaped.{escapeFrom, escapedIn}
 use Rattle.text_escape.specs.Rows.{lineLine}
 use Rattle.text_escape.proofs.EscapeLaws.{escape-is}
-use Rattle.text_lines_out.specs.Lines.{smaller, lineFrom, At, Next, rowsText}
-use Rattle.text_lines_out.specs.Runs.{row, runRows}
+use Rattle.text_lines_out.specs.Merge.{smaller, blockRows}
+use Rattle.text_lines_out.specs.Lines.{lineFrom, At, Next, rowsText}
+use Rattle.text_lines_out.specs.Runs.{row, addressFrom, runRows}
 
 -- UTF-8 UP TO AN ASCII BYTE, and past it
 module _ (b : ℕ) (ys : List ℕ) (low : b < 0x80) where
@@ -261,3 +263,54 @@ module _ (width : ℕ) (s : List ℕ) (first : ℕ) (f : ℕ → Option ℕ) (k 
   pub run-end : count ≤ k → rowsText width s (runRows first f k (count - k)) ≡ []
   unfolding rowsText runRows flatMap
   run-end h = let e : count - k ≡ 0 = omega arith in ap (λ (n : ℕ). rowsText width s (runRows first f k n)) e
+
+-- past the last line nothing more is to find, whatever the number
+raw-beyond : (s : List ℕ) (i : ℕ) → lineCount s ≤ i → rawLineSpan s i ≡ refused 5
+unfolding rawLineSpan
+raw-beyond s i h = rw (le-ltb i (lineCount s) h)
+
+pub at-beyond : (s : List ℕ) (m start : ℕ) → At s (smaller m (lineCount s)) start → At s m start
+at-beyond s m start a =
+    by-test (leb m (lineCount s))
+    (λ t. let l = leb-true m (lineCount s) t in
+    let e : smaller m (lineCount s) ≡ m = omega arith in subst (λ (i : ℕ). At s i start) e a)
+    (λ t. let l = leb-false m (lineCount s) t in
+    record {
+      spans = λ k. a .spans k ∙ raw-beyond s (smaller m (lineCount s) + k) (omega arith) ∙ sym (raw-beyond s (m + k) (omega arith));
+      sound = a .sound;
+      near = a .near;
+    })
+
+-- RUNS AND ROWS
+run-none : (first : ℕ) (ws : List ℕ) (place k n : ℕ) → runRows first (addressFrom false ws place) k n ≡ plainRows (first + k) n
+unfolding runRows plainRows
+run-none first ws place k zero = refl
+run-none first ws place k (suc n) =
+    let e : first + suc k ≡ suc (first + k) = omega arith in
+    ap (λ (r : List Row). row (first + k) none ∷ r) (run-none first ws place (suc k) n ∙ ap (λ (i : ℕ). plainRows i n) e)
+
+pub run-plain : (first : ℕ) (ws : List ℕ) (place n : ℕ) → runRows first (addressFrom false ws place) 0 n ≡ plainRows first n
+run-plain first ws place n = let e : first + 0 ≡ first = omega arith in run-none first ws place 0 n ∙ ap (λ (i : ℕ). plainRows i n) e
+
+run-some :
+    (first : ℕ) (f : ℕ → Option ℕ) (k : ℕ) (xs : List ℕ) → ((j : ℕ) → j < length xs → f (k + j) ≡ some (getD xs j 0))
+    → runRows first f k (length xs) ≡ blockRows (first + k) xs
+unfolding runRows blockRows
+run-some first f k [] h = refl
+run-some first f k (x ∷ xs) h =
+    let e : first + suc k ≡ suc (first + k) = omega arith in
+    let z : k + 0 ≡ k = omega arith in
+    ap (λ (o : Option ℕ). row (first + k) o ∷ runRows first f (suc k) (length xs)) (ap f (sym z) ∙ h 0 (omega arith))
+    ∙ ap (λ (r : List Row). row (first + k) (some x) ∷ r)
+    (run-some first f (suc k) xs (λ j l. let y : suc k + j ≡ k + suc j = omega arith in ap f y ∙ h (suc j) (omega arith))
+    ∙ ap (λ (i : ℕ). blockRows i xs) e)
+
+-- the addresses of a line block from its words
+pub run-block :
+    (first : ℕ) (ws : List ℕ) (place : ℕ) (xs : List ℕ) → ((j : ℕ) → j < length xs → addressIn (getD ws (place + j) 0) ≡ getD xs j 0)
+    → runRows first (addressFrom true ws place) 0 (length xs) ≡ blockRows first xs
+run-block first ws place xs h =
+    let e : first + 0 ≡ first = omega arith in
+    run-some first (addressFrom true ws place) 0 xs
+    (λ j l. let z : 0 + j ≡ j = omega arith in ap (addressFrom true ws place) z ∙ ap some (h j l))
+    ∙ ap (λ (i : ℕ). blockRows i xs) e

@@ -16,7 +16,7 @@ use Rattle.format.specs.Source.{lineCount}
 use Rattle.format.specs.TextWriter.{Row, rowKey, plainRows, addRows, addBlocks, lineRows}
 use Rattle.format.proofs.SortedLaws.{lt-of-compare, eq-of-compare, compare-self, compare-of-lt}
 use Rattle.format.proofs.ListLaws.{by-test}
-use Rattle.text_lines_out.specs.Merge.{blockRows, straight, wrapped, mergeFrom}
+use Rattle.text_lines_out.specs.Merge.{smaller, blockRows, straight, wrapped, mergeFrom, walkFrom}
 
 abbrev row : ℕ → Option ℕ → Row
 row i x = record { number = i; address = x }
@@ -444,3 +444,70 @@ line-rows s ls few a short =
     ∙ wraps 0 (2 ^ 64) w 0 [] M (omega arith) (between-merge lines few 0 ls (omega arith) a) (omega arith) (omega arith)
     ∙ ap (λ (i : ℕ). blockRows 0 w ++ from i M) z
     ∙ ap (λ (r : List Row). blockRows 0 w ++ r) (from-merge (length w) lines 0 ls ∙ ap (λ (i : ℕ). mergeFrom lines i ls) y)
+
+-- BY WHAT A WALK KNOWS
+plain-done : (lines p x : ℕ) → x ≤ lines → plainRows p (x - p) ≡ plainRows (smaller p lines) (x - smaller p lines)
+plain-done lines p x h =
+    by-test (leb p lines)
+    (λ t. let l = leb-true p lines t in
+    let e : p ≡ smaller p lines = omega arith in ap (λ (q : ℕ). plainRows q (x - q)) e)
+    (λ t. let l = leb-false p lines t in
+    plain-none p (x - p) (omega arith) ∙ sym (plain-none (smaller p lines) (x - smaller p lines) (omega arith)))
+
+past-start : (w e f : ℕ) → e ≤ f → w + (e - w) + (f - (w + (e - w))) ≡ w + (f - w)
+past-start w e f h = omega arith
+
+past-skip : (w e f : ℕ) → e ≤ f → w + (e - w) - f ≡ w - f
+past-skip w e f h = omega arith
+
+past-done : (lines w e f : ℕ) → e ≤ f → smaller (w + (f - w)) lines ≡ smaller (w + (e - w)) lines + (smaller f lines - smaller (w + (e - w)) lines)
+past-done lines w e f h =
+    by-test (leb w e)
+    (λ t. let l = leb-true w e t in
+    let a : w + (e - w) ≡ e = omega arith in
+    let b : w + (f - w) ≡ f = omega arith in
+    ap (λ (x : ℕ). smaller x lines) b ∙ rising e f h ∙ sym (ap (λ (x : ℕ). smaller x lines + (smaller f lines - smaller x lines)) a))
+    (λ t. let l = leb-false w e t in
+    let a : w + (e - w) ≡ w = omega arith in
+    largest-of f ∙ sym (ap (λ (x : ℕ). smaller x lines + (smaller f lines - smaller x lines)) a))
+  where
+    rising : (e f : ℕ) → e ≤ f → smaller f lines ≡ smaller e lines + (smaller f lines - smaller e lines)
+    rising e f h = omega arith
+
+    largest-of : (f : ℕ) → smaller (w + (f - w)) lines ≡ smaller w lines + (smaller f lines - smaller w lines)
+    largest-of f =
+        by-test (leb w f)
+        (λ t. let l = leb-true w f t in let b : w + (f - w) ≡ f = omega arith in ap (λ (x : ℕ). smaller x lines) b ∙ rising w f l)
+        (λ t. let l = leb-false w f t in
+        let b : w + (f - w) ≡ w = omega arith in
+        let c : smaller f lines ≤ smaller w lines = omega arith in
+        ap (λ (x : ℕ). smaller x lines) b ∙ (let y : smaller w lines ≡ smaller w lines + (smaller f lines - smaller w lines) = omega arith in y))
+
+walk-is :
+    (lines w e : ℕ) (ls : List LineBlock) → Apart e ls → mergeFrom lines (w + (e - w)) ls ≡ walkFrom lines w (smaller (w + (e - w)) lines) ls
+unfolding mergeFrom walkFrom
+walk-is lines w e [] a = plain-done lines (w + (e - w)) lines (omega arith)
+walk-is lines w e (l ∷ ls) a =
+    let f : ℕ = l .first in
+    let E : ℕ = lineEnd l in
+    let p : ℕ = w + (e - w) in
+    let h : e ≤ f = a .0 in
+    let k : e ≤ E = omega arith in
+    ap₂ (λ (x y : List Row). x ++ y) (plain-done lines p (smaller f lines) (omega arith))
+    (ap₂ (λ (x y : List Row). x ++ y)
+    (ap (λ (i : ℕ). blockRows i (drop (p - f) (straight l))) (past-start w e f h)
+    ∙ ap (λ (i : ℕ). blockRows (w + (f - w)) (drop i (straight l))) (past-skip w e f h))
+    (ap (λ (i : ℕ). mergeFrom lines i ls) (past-start w e E k) ∙ walk-is lines w E ls (a .2)
+    ∙ ap (λ (d : ℕ). walkFrom lines w d ls) (past-done lines w e E k)))
+
+-- THE ROWS OF THE LINE TABLE, as a walk gives them
+pub line-walk :
+    (s : List ℕ) (ls : List LineBlock) → lineCount s ≤ 2 ^ 64 → Apart 0 ls → length (wrapped ls) ≤ 2 ^ 64
+    → lineRows s ls ≡ blockRows 0 (wrapped ls) ++ walkFrom (lineCount s) (length (wrapped ls)) (smaller (length (wrapped ls)) (lineCount s)) ls
+line-walk s ls few a short =
+    let w : ℕ = length (wrapped ls) in
+    let e : w + (0 - w) ≡ w = omega arith in
+    line-rows s ls few a short
+    ∙ ap (λ (r : List Row). blockRows 0 (wrapped ls) ++ r)
+    (ap (λ (i : ℕ). mergeFrom (lineCount s) i ls) (sym e) ∙ walk-is (lineCount s) w 0 ls a
+    ∙ ap (λ (i : ℕ). walkFrom (lineCount s) w (smaller i (lineCount s)) ls) e)

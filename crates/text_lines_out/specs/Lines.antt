@@ -9,11 +9,8 @@ use Rattle.format.specs.Basics.{Outcome, refused, if_then_else_}
 use Rattle.format.specs.Utf8.{isUtf8}
 use Rattle.format.specs.Source.{Span, rawLineSpan}
 use Rattle.format.specs.TextWriter.{Row, textLine, lineRow, sourceCell}
+use Rattle.text_lines_out.specs.Merge.{smaller}
 use Rattle.source_info.specs.Passing.{span, spanFrom}
-
--- the smaller of two
-abbrev pub smaller : ℕ → ℕ → ℕ
-smaller a b = a - (a - b)
 
 -- the lines from one on that starts at a byte; past the source there are none
 unfoldable pub lineFrom : List ℕ → ℕ → ℕ → Outcome Span

@@ -20,9 +20,21 @@ straight l = take (2 ^ 64 - l .first) (l .addresses)
 unfoldable pub wrapped : List LineBlock → List ℕ  -- of the line blocks, one after the other: only the last can have any
 wrapped ls = flatMap (λ l. drop (2 ^ 64 - l .first) (l .addresses)) ls
 
+-- the smaller of two
+abbrev pub smaller : ℕ → ℕ → ℕ
+smaller a b = a - (a - b)
+
 -- the rows from line p on of a source of so many lines: up to a line block those of the source, then the block's, and so on
 unfoldable pub mergeFrom : ℕ → ℕ → List LineBlock → List Row
 mergeFrom lines p [] = plainRows p (lines - p)
 mergeFrom lines p (l ∷ ls) =
     plainRows p (l .first - (l .first - lines) - p)
     ++ (blockRows (p + (l .first - p)) (drop (p - l .first) (straight l)) ++ mergeFrom lines (p + (lineEnd l - p)) ls)
+
+-- the same, by what a walk knows: how many of the source's lines are done, and how many rows came first that wrapped
+unfoldable pub walkFrom : ℕ → ℕ → ℕ → List LineBlock → List Row
+walkFrom lines wraps done [] = plainRows done (lines - done)
+walkFrom lines wraps done (l ∷ ls) =
+    plainRows done (smaller (l .first) lines - done)
+    ++ (blockRows (wraps + (l .first - wraps)) (drop (wraps - l .first) (straight l))
+    ++ walkFrom lines wraps (done + (smaller (lineEnd l) lines - done)) ls)

@@ -13,7 +13,8 @@ ghost use Rattle.object.specs.Texts.{textBytes};
 ghost use Rattle.object.specs.Access.{addressIn};
 ghost use Rattle.text_numerals.specs.Memory.{knownWord};
 ghost use Rattle.measuring.specs.Room.{lessPart};
-ghost use Rattle.text_lines_out.specs.Lines.{smaller, At, Next, rowsText};
+ghost use Rattle.text_lines_out.specs.Lines.{At, Next, rowsText};
+ghost use Rattle.text_lines_out.specs.Merge.{smaller};
 ghost use Rattle.text_lines_out.specs.Runs.{row, Measured, addressFrom, runRows};
 
 // Where the line after the one that starts at byte `start` of a source of `n` bytes starts; past the last line, one byte past the
