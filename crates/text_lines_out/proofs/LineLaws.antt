@@ -1,29 +1,33 @@
 -- A source line by line. Assumes nothing.
 use mathlib.Core.Path.{_≡_, refl, sym, ap, ap₂, subst, _∙_}
 use mathlib.Core.Bool.{Bool, true, false}
-use mathlib.Core.List.{List, [], _∷_, _++_, flatMap, append-nil, append-assoc}
+use mathlib.Core.List.{List, [], _∷_, _++_, map, flatMap, append-nil, append-assoc}
 use mathlib.Core.Option.{Option, none, some}
-use Prim.Native.Nat.{ℕ, zero, suc, _+_, _-_, _≤_, _<_}
+use Prim.Native.Nat.{ℕ, zero, suc, _+_, _-_, _^_, _≤_, _<_}
 use native.Mathlib.Omega.{arith}
 use native.Mathlib.Numerals.{add-one}
-use lib.ListN.{length, take, drop, getD, length-append, length-drop, take-append-drop, drop-of-length-le}
+use lib.ListN.{length, take, drop, getD, length-append, length-map, length-drop, take-append-drop, drop-of-length-le}
 use lib.Seq.{drop-drop, getD-drop, take-all, drop-cons, take-at, drop-at, length-take-le}
 use lib.Dec.{leb}
 use borrow.Author.Tests.{le-leb, lt-leb, leb-true, leb-false, le-ltb}
 use Rattle.format.specs.Basics.{Outcome, refused, given, givenOr, _>>=_, andThen, isSome, if_then_else_}
 use Rattle.format.specs.Utf8.{charAt, scalarsFrom, isUtf8}
+use Rattle.format.specs.ObjectFile.{LineBlock}
 use Rattle.format.specs.Source.{Span, lineCount, rawLineSpan, spanBytes}
 use Rattle.format.specs.TextWriter.{Row, plainRows, sourceCell, escape, textLine, lineRow}
 use Rattle.format.proofs.ListLaws.{by-test}
 use Rattle.format.proofs.Utf8Laws.{char-one, char-ascii, char-reads}
 use Rattle.source_info.specs.Passing.{span, spanFrom}
 use Rattle.source_info.proofs.LineLaws.{size-is, span-start, span-other, span-stop, span-pass, span-end, span-past}
-use Rattle.object.specs.Access.{addressIn}
+use Rattle.object.specs.Access.{addressIn, lineBlockAt}
+use Rattle.object.specs.Bodies.{bodyAt}
+use Rattle.object.proofs.BodyLaws.{body-fits, body-out}
+use Rattle.object.proofs.ByteLaws.{body-word}
 use Rattle.object.specs.Texts.{textByte, bytesFrom, textBytes}
 use Rattle.text_escape.specs.Escaped.{escapeFrom, escapedIn}
 use Rattle.text_escape.specs.Rows.{lineLine}
 use Rattle.text_escape.proofs.EscapeLaws.{escape-is}
-use Rattle.text_lines_out.specs.Merge.{smaller, blockRows}
+use Rattle.text_lines_out.specs.Merge.{smaller, blockRows, straight}
 use Rattle.text_lines_out.specs.Lines.{lineFrom, At, Next, rowsText}
 use Rattle.text_lines_out.specs.Runs.{row, addressFrom, runRows}
 
@@ -314,3 +318,97 @@ run-block first ws place xs h =
     run-some first (addressFrom true ws place) 0 xs
     (λ j l. let z : 0 + j ≡ j = omega arith in ap (addressFrom true ws place) z ∙ ap some (h j l))
     ∙ ap (λ (i : ℕ). blockRows i xs) e
+
+-- of numbers
+less-smaller : (k d : ℕ) → k - smaller d k ≡ k - d
+less-smaller k d = omega arith
+
+smaller-below : (d k j : ℕ) → j < k - d → smaller d k ≡ d
+smaller-below d k j h = omega arith
+
+sum-below : (d k j : ℕ) → j < k - d → d + j < k
+sum-below d k j h = omega arith
+
+regroup : (a d j : ℕ) → a + d + j ≡ a + (d + j)
+regroup a d j = omega arith
+
+smaller-left : (a b : ℕ) → smaller a b ≤ a
+smaller-left a b = omega arith
+
+pub smaller-right : (a b : ℕ) → smaller a b ≤ b
+smaller-right a b = omega arith
+
+under : (i : ℕ) {a b : ℕ} → i < a → a ≤ b → i < b
+under i h k = omega arith
+
+-- THE ADDRESSES OF A LINE BLOCK that are left, by their words
+take-at-place : (n : ℕ) (xs : List ℕ) (j : ℕ) → j < n → getD (take n xs) j 0 ≡ getD xs j 0
+take-at-place zero xs j h = absurd (omega arith)
+take-at-place (suc n) [] j h = refl
+take-at-place (suc n) (x ∷ xs) zero h = refl
+take-at-place (suc n) (x ∷ xs) (suc j) h = take-at-place n xs j (omega arith)
+
+map-at-place : (xs : List ℕ) (j : ℕ) → j < length xs → getD (map addressIn xs) j 0 ≡ addressIn (getD xs j 0)
+map-at-place [] j h = absurd (omega arith)
+map-at-place (x ∷ xs) zero h = refl
+map-at-place (x ∷ xs) (suc j) h = map-at-place xs j (omega arith)
+
+module _ (ws : List ℕ) (at wraps : ℕ) where
+  abbrev block : LineBlock
+  block = lineBlockAt ws at
+
+  abbrev body : List ℕ
+  body = bodyAt ws (at + 1 + 3)
+
+  abbrev unwrapped : List ℕ
+  unwrapped = straight block
+
+  abbrev these : List ℕ
+  these = drop (wraps - block .first) unwrapped
+
+  kept-length : length unwrapped ≡ smaller (length body) (2 ^ 64 - block .first)
+  kept-length =
+      let n : ℕ = 2 ^ 64 - block .first in
+      let m = length-map body addressIn in
+      by-test (leb n (length body))
+      (λ t. let h = leb-true n (length body) t in length-take-le n (block .addresses) (omega arith) ∙ omega arith)
+      (λ t. let h = leb-false n (length body) t in ap length (take-all n (block .addresses) (omega arith)) ∙ m ∙ omega arith)
+
+  -- the words of a block lie in the object
+  pub place-fits :
+      (d k skip : ℕ) → k ≡ smaller (length body) (2 ^ 64 - block .first) → skip ≡ smaller d k → at < length ws → at + 1 + 3 + skip ≤ length ws + 4
+  place-fits d k skip e q h =
+      let u : skip ≤ k = subst (λ (x : ℕ). x ≤ k) (sym q) (smaller-right d k) in
+      let v : k ≤ length body = subst (λ (x : ℕ). x ≤ length body) (sym e) (smaller-left (length body) (2 ^ 64 - block .first)) in
+      by-test (leb (at + 1 + 3) (length ws))
+      (λ t. let w = leb-true (at + 1 + 3) (length ws) t in omega (arith, body-fits ws (at + 1 + 3) w))
+      (λ t. let w = leb-false (at + 1 + 3) (length ws) t in
+      let z : length body ≡ 0 = ap length (body-out ws (at + 1 + 3) (let y : length ws ≤ at + 1 + 3 = omega arith in y)) in omega arith)
+
+  module _ (skip k : ℕ) (e : k ≡ smaller (length body) (2 ^ 64 - block .first)) (q : skip ≡ smaller (wraps - block .first) k) where
+    abbrev d : ℕ
+    d = wraps - block .first
+
+    left-over : length these ≡ k - d
+    left-over = length-drop d unwrapped ∙ ap (λ (x : ℕ). x - d) (kept-length ∙ sym e)
+
+    pub block-size : k - skip ≡ length these
+    block-size = ap (λ (x : ℕ). k - x) q ∙ less-smaller k d ∙ sym left-over
+
+    here-is : (j : ℕ) → j < length these → addressIn (getD ws (at + 1 + 3 + skip + j) 0) ≡ getD these j 0
+    here-is j h =
+        let g : j < k - d = subst (λ (n : ℕ). j < n) left-over h in
+        let i : ℕ = d + j in
+        let z : skip ≡ d = q ∙ smaller-below d k j g in
+        let y : at + 1 + 3 + skip + j ≡ at + 1 + 3 + i = ap (λ (x : ℕ). at + 1 + 3 + x + j) z ∙ regroup (at + 1 + 3) d j in
+        let u : i < k = sum-below d k j g in
+        let b : i < length body = under i (subst (λ (n : ℕ). i < n) e u) (smaller-left (length body) (2 ^ 64 - block .first)) in
+        let c : i < 2 ^ 64 - block .first = under i (subst (λ (n : ℕ). i < n) e u) (smaller-right (length body) (2 ^ 64 - block .first)) in
+        ap (λ (x : ℕ). addressIn (getD ws x 0)) y ∙ ap addressIn (sym (body-word ws (at + 1 + 3) i b)) ∙ sym (map-at-place body i b)
+        ∙ sym (take-at-place (2 ^ 64 - block .first) (block .addresses) i c) ∙ sym (getD-drop d unwrapped j 0)
+
+    pub block-run : (first : ℕ) → first ≡ wraps + (block .first - wraps)
+        → runRows first (addressFrom true ws (at + 1 + 3 + skip)) 0 (k - skip) ≡ blockRows (wraps + (block .first - wraps)) these
+    block-run first f =
+        ap (runRows first (addressFrom true ws (at + 1 + 3 + skip)) 0) block-size ∙ run-block first ws (at + 1 + 3 + skip) these here-is
+        ∙ ap (λ (i : ℕ). blockRows i these) f

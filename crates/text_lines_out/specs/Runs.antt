@@ -1,15 +1,18 @@
 -- What the code's answers on rows say. Assumes nothing.
 use mathlib.Core.Path.{_≡_}
-use mathlib.Core.Bool.{Bool}
+use mathlib.Core.Bool.{Bool, true}
 use mathlib.Core.List.{List, [], _∷_}
 use mathlib.Core.Option.{Option, none, some}
-use Prim.Native.Nat.{ℕ, zero, suc, _+_}
-use lib.ListN.{getD}
+use Prim.Native.Nat.{ℕ, zero, suc, _+_, _-_}
+use lib.ListN.{length, drop, getD}
+use Rattle.format.specs.ObjectFile.{lineEnd}
 use Rattle.format.specs.TextWriter.{Row}
-use Rattle.object.specs.Access.{addressIn}
+use Rattle.object.specs.Access.{addressIn, lineBlockAt}
 use Rattle.text_numerals.specs.Memory.{knownWord}
 use Rattle.measuring.specs.Room.{lessPart}
+use Rattle.text_lines_out.specs.Merge.{smaller, blockRows, straight}
 use Rattle.text_lines_out.specs.Lines.{At, rowsText}
+use Rattle.text_lines_out.specs.declared.Plan.{Plan}
 use Rattle.text_lines_out.specs.declared.Rows.{Rows}
 use Rattle.text_lines_out.specs.declared.Rows.the-variants as answer
 
@@ -29,3 +32,13 @@ addressFrom known ws place k = knownWord known (addressIn (getD ws (place + k) 0
 unfoldable pub runRows : ℕ → (ℕ → Option ℕ) → ℕ → ℕ → List Row
 runRows first address k zero = []
 runRows first address k (suc n) = row (first + k) (address k) ∷ runRows first address (suc k) n
+
+-- the rows of the line block at a place of the object, after rows that wrapped and those of the lines that are done
+pub record Planned (ws : List ℕ) (at lines wraps done : ℕ) (r : Plan) : Type 0 where
+  pub gap : r .gap ≡ smaller (lineBlockAt ws at .first) lines - done
+  pub first : r .first ≡ wraps + (lineBlockAt ws at .first - wraps)
+  pub size : r .count ≡ length (drop (wraps - lineBlockAt ws at .first) (straight (lineBlockAt ws at)))
+  pub rows :
+      runRows (r .first) (addressFrom true ws (r .place)) 0 (r .count)
+      ≡ blockRows (wraps + (lineBlockAt ws at .first - wraps)) (drop (wraps - lineBlockAt ws at .first) (straight (lineBlockAt ws at)))
+  pub past : r .done ≡ done + (smaller (lineEnd (lineBlockAt ws at)) lines - done)

@@ -1,12 +1,14 @@
 // The line table of the text form: rows in the order of their numbers, found in one walk along the line blocks and one along the source.
 use measuring::Room;
+use object::body_len;
+use object::number_at;
 use object::text_byte;
 use text_escape::measure_line_row;
 use text_escape::put_line_row;
 use units::Line;
 ghost use mathlib.Core.Path.{_≡_};
 ghost use mathlib.Core.List.{[], _∷_};
-ghost use Prim.Native.Nat.{_+_, _*_, _^_, _≤_, _<_};
+ghost use Prim.Native.Nat.{_+_, _-_, _*_, _^_, _≤_, _<_};
 ghost use lib.ListN.{length, getD};
 ghost use Rattle.writing.specs.Written.{Put};
 ghost use Rattle.object.specs.Texts.{textBytes};
@@ -15,7 +17,7 @@ ghost use Rattle.text_numerals.specs.Memory.{knownWord};
 ghost use Rattle.measuring.specs.Room.{lessPart};
 ghost use Rattle.text_lines_out.specs.Lines.{At, Next, rowsText};
 ghost use Rattle.text_lines_out.specs.Merge.{smaller};
-ghost use Rattle.text_lines_out.specs.Runs.{row, Measured, addressFrom, runRows};
+ghost use Rattle.text_lines_out.specs.Runs.{row, Measured, addressFrom, runRows, Planned};
 
 // Where the line after the one that starts at byte `start` of a source of `n` bytes starts; past the last line, one byte past the
 // source.
@@ -177,4 +179,89 @@ fn put_run(
         k += 1;
     }
     Written { len, start: next }
+}
+
+// The larger of two numbers.
+fn larger(a: u64, b: u64) -> u64
+    ensures { λ r. ⌜ r ≡ a + (b - a) ⌝ }
+{
+    if a < b {
+        return b;
+    }
+    a
+}
+
+// How much the first number is larger.
+fn minus(a: u64, b: u64) -> u64
+    ensures { λ r. ⌜ r ≡ a - b ⌝ }
+{
+    if a < b {
+        return 0;
+    }
+    a - b
+}
+
+// The smaller of two line numbers.
+fn smaller_line(a: u64, b: u64) -> u64
+    ensures { λ r. ⌜ r ≡ smaller a b ⌝ }
+{
+    if a < b {
+        return a;
+    }
+    b
+}
+
+// How many of the lines of a block don't wrap.
+fn straight_count(first: u64, count: usize) -> usize
+    ensures { λ r. ⌜ r ≡ smaller count (2 ^ 64 - first) ⌝ }
+{
+    let last = 0xFFFF_FFFF_FFFF_FFFF - first;
+    if count as u64 <= last {
+        return count;
+    }
+    last as usize + 1
+}
+
+// How many of the source's lines are done past a block.
+fn lines_done(first: u64, count: usize, lines: u64) -> u64
+    ensures { λ r. ⌜ r ≡ smaller (first + count) lines ⌝ }
+{
+    if lines <= first {
+        return lines;
+    }
+    if lines - first <= count as u64 {
+        return lines;
+    }
+    first + count as u64
+}
+
+// The rows of a line block: so many of the source before it; then its own, from a line on, with the addresses from a place on. And how
+// many of the source's lines are done then.
+struct Plan {
+    gap: usize,
+    first: u64,
+    count: usize,
+    place: usize,
+    done: u64,
+}
+
+// The rows of the line block at a place of the object, after those that wrapped and those of the lines that are done.
+fn plan_block(ws: &[u32], at: usize, lines: u64, wraps: u64, done: u64) -> Plan
+    requires { ⌜ (at < length (now ws)) × (lines ≤ 3 * length (now ws) + 1) ⌝ }
+    ensures { λ r. ⌜ Planned (now (ws .entry)) at lines wraps done r ⌝ }
+{
+    let body = at + 1;
+    let words = body + 3;
+    let first = number_at(ws, body);
+    let count = body_len(ws, words);
+    let gap = minus(smaller_line(first, lines), done) as usize;
+    let kept = straight_count(first, count);
+    let skip = smaller(minus(wraps, first) as usize, kept);
+    Plan {
+        gap,
+        first: larger(wraps, first),
+        count: kept - skip,
+        place: words + skip,
+        done: larger(done, lines_done(first, count, lines)),
+    }
 }
