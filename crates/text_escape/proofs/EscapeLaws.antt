@@ -43,7 +43,8 @@ agree-more k m b f n ds h =
 agree : Agree 5 19 (16 * (16 * (16 * (16 * (16 * 16)))))
 unfolding numeral
 agree =
-    agree-more 4 18 _ (agree-more 3 17 _ (agree-more 2 16 _ (agree-more 1 15 _ (agree-more 0 14 16 (λ n ds h. sym (numeral-short 14 n ds h))))))
+    agree-more 4 18 _ (agree-more 3 17 _ (agree-more 2 16 _
+    (agree-more 1 15 _ (agree-more 0 14 16 (λ n ds h. sym (numeral-short 14 n ds h))))))
 
 pub length-numeral : (k base n : ℕ) (ds : List ℕ) → length (numeral k base n ds) ≤ suc k + length ds
 unfolding numeral

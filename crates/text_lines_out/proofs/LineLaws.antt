@@ -84,13 +84,15 @@ split-drop xs ys b k e =
     ap (drop (k + 1)) (sym (append-assoc xs (b ∷ []) ys)) ∙ drop-at (xs ++ b ∷ []) ys (k + 1) (sym n)
 
 utf8-split :
-    (t : List ℕ) (k : ℕ) → k < length t → getD t k 0 ≡ 10 → isUtf8 t ≡ true → (isUtf8 (take (k + 1) t) ≡ true) × (isUtf8 (drop (k + 1) t) ≡ true)
+    (t : List ℕ) (k : ℕ) → k < length t → getD t k 0 ≡ 10 → isUtf8 t ≡ true → (isUtf8 (take (k + 1) t) ≡ true) ×
+    (isUtf8 (drop (k + 1) t) ≡ true)
 unfolding isUtf8
 utf8-split t k h e u =
     let xs = take k t in
     let ys = drop (suc k) t in
     let n : length xs ≡ k = length-take-le k t (omega arith) in
-    let q : t ≡ xs ++ 10 ∷ ys = sym (take-append-drop k t) ∙ ap (λ (r : List ℕ). xs ++ r) (drop-cons t k 0 h ∙ ap (λ (b : ℕ). b ∷ ys) e) in
+    let q : t ≡ xs ++ 10 ∷ ys = sym (take-append-drop k t)
+    ∙ ap (λ (r : List ℕ). xs ++ r) (drop-cons t k 0 h ∙ ap (λ (b : ℕ). b ∷ ys) e) in
     let r = parts 10 ys (omega arith) xs 0 (omega arith) (ap isUtf8 (sym q) ∙ u) in
     (ap isUtf8 (ap (take (k + 1)) q ∙ split-take xs ys 10 k n) ∙ r .0, ap isUtf8 (ap (drop (k + 1)) q ∙ split-drop xs ys 10 k n) ∙ r .1)
 
@@ -127,7 +129,8 @@ module _ (s : List ℕ) (start i : ℕ) (p : Passing s start i) where
       let there : j < length t = omega (arith, length-drop start s) in
       let newline : getD t j 0 ≡ 10 = getD-drop start s j 0 ∙ ap (λ (k : ℕ). getD s k 0) w ∙ e in
       let size : smaller (i + 1) (length s) - start ≡ j + 1 = omega arith in
-      let rest : drop (j + 1) t ≡ drop (i + 1) s = drop-drop (j + 1) start s ∙ ap (λ (k : ℕ). drop k s) (let z : start + (j + 1) ≡ i + 1 = omega arith in z) in
+      let rest : drop (j + 1) t ≡ drop (i + 1) s = drop-drop (j + 1) start s
+      ∙ ap (λ (k : ℕ). drop k s) (let z : start + (j + 1) ≡ i + 1 = omega arith in z) in
       record {
         near = omega arith;
         on = λ z. omega arith;
@@ -208,7 +211,8 @@ cell-is s m start next a n =
     (λ t. let h = leb-true start (length s) t in
     escape-is (take (e - start) (drop start s)) (n .whole (a .sound) .0) ∙ ap cell (n .here h ∙ raw))
     (λ t. let h = leb-false start (length s) t in
-    ap (λ (r : List ℕ). escapeFrom 0 (take (e - start) r)) (drop-of-length-le s (let q : length s ≤ start = omega arith in q)) ∙ escape-none (e - start) ∙ none-escaped
+    ap (λ (r : List ℕ). escapeFrom 0 (take (e - start) r)) (drop-of-length-le s (let q : length s ≤ start = omega arith in q))
+    ∙ escape-none (e - start) ∙ none-escaped
     ∙ ap cell (sym (from-outside s start 0 h) ∙ raw))
 
 -- A ROW by the bytes of its line in words
@@ -248,7 +252,8 @@ row-is ws at n width m start next end a h k e =
     (λ t. let g = leb-false start (length s) t in
     let short : length (textBytes ws at end) ≤ start = omega (arith, size-is ws at end) in
     ap (escapeFrom 0) (drop-of-length-le (textBytes ws at end) short)
-    ∙ sym (ap (λ (r : List ℕ). escapeFrom 0 (take (smaller next (length s) - start) r)) (drop-of-length-le s (let y : length s ≤ start = omega arith in y)) ∙ escape-none (smaller next (length s) - start))
+    ∙ sym (ap (λ (r : List ℕ). escapeFrom 0 (take (smaller next (length s) - start) r)) (drop-of-length-le s
+    (let y : length s ≤ start = omega arith in y)) ∙ escape-none (smaller next (length s) - start))
     ∙ cell-is s m start next h k) in
     ap (lineLine width m a) cell ∙ sym (append-nil (lineLine width m a (sourceCell s m)))
 
@@ -376,7 +381,8 @@ module _ (ws : List ℕ) (at wraps : ℕ) where
 
   -- the words of a block lie in the object
   pub place-fits :
-      (d k skip : ℕ) → k ≡ smaller (length body) (2 ^ 64 - block .first) → skip ≡ smaller d k → at < length ws → at + 1 + 3 + skip ≤ length ws + 4
+      (d k skip : ℕ) → k ≡ smaller (length body)
+      (2 ^ 64 - block .first) → skip ≡ smaller d k → at < length ws → at + 1 + 3 + skip ≤ length ws + 4
   place-fits d k skip e q h =
       let u : skip ≤ k = subst (λ (x : ℕ). x ≤ k) (sym q) (smaller-right d k) in
       let v : k ≤ length body = subst (λ (x : ℕ). x ≤ length body) (sym e) (smaller-left (length body) (2 ^ 64 - block .first)) in
@@ -403,7 +409,8 @@ module _ (ws : List ℕ) (at wraps : ℕ) where
         let y : at + 1 + 3 + skip + j ≡ at + 1 + 3 + i = ap (λ (x : ℕ). at + 1 + 3 + x + j) z ∙ regroup (at + 1 + 3) d j in
         let u : i < k = sum-below d k j g in
         let b : i < length body = under i (subst (λ (n : ℕ). i < n) e u) (smaller-left (length body) (2 ^ 64 - block .first)) in
-        let c : i < 2 ^ 64 - block .first = under i (subst (λ (n : ℕ). i < n) e u) (smaller-right (length body) (2 ^ 64 - block .first)) in
+        let c : i < 2 ^ 64 - block .first = under i (subst (λ (n : ℕ). i < n) e u)
+        (smaller-right (length body) (2 ^ 64 - block .first)) in
         ap (λ (x : ℕ). addressIn (getD ws x 0)) y ∙ ap addressIn (sym (body-word ws (at + 1 + 3) i b)) ∙ sym (map-at-place body i b)
         ∙ sym (take-at-place (2 ^ 64 - block .first) (block .addresses) i c) ∙ sym (getD-drop d unwrapped j 0)
 

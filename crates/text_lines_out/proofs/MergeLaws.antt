@@ -41,7 +41,9 @@ between-append p q t (x ∷ xs) ys h k = (h .0, between-append (suc (x .number))
 between-plain : (p n : ℕ) → Between p (p + n) (plainRows p n)
 unfolding plainRows
 between-plain p zero = omega arith
-between-plain p (suc n) = let e : suc p + n ≡ p + suc n = omega arith in (omega arith, subst (λ (q : ℕ). Between (suc p) q (plainRows (suc p) n)) e (between-plain (suc p) n))
+between-plain p (suc n) =
+    let e : suc p + n ≡ p + suc n = omega arith in
+    (omega arith, subst (λ (q : ℕ). Between (suc p) q (plainRows (suc p) n)) e (between-plain (suc p) n))
 
 between-block : (i : ℕ) (xs : List ℕ) → Between i (i + length xs) (blockRows i xs)
 unfolding blockRows
@@ -82,7 +84,8 @@ module _ (i : ℕ) (x : Option ℕ) where
   put-past : (p : ℕ) (done rs : List Row) → Between p i done → put (done ++ rs) ≡ done ++ put rs
   put-past p [] rs h = refl
   put-past p (r ∷ done) rs h =
-      put-below r (done ++ rs) (between-bound (suc (r .number)) i done (h .1)) ∙ ap (λ (q : List Row). r ∷ q) (put-past (suc (r .number)) done rs (h .1))
+      put-below r (done ++ rs) (between-bound (suc (r .number)) i done (h .1))
+      ∙ ap (λ (q : List Row). r ∷ q) (put-past (suc (r .number)) done rs (h .1))
 
   put-plain : (n : ℕ) → put (plainRows i n) ≡ row i x ∷ plainRows (suc i) (n - 1)
   unfolding plainRows upsert
@@ -125,11 +128,15 @@ add-append i (x ∷ xs) ys rs =
 -- the source's rows up to a line, and from there on
 plain-add : (p a b : ℕ) → plainRows p (a + b) ≡ plainRows p a ++ plainRows (p + a) b
 unfolding plainRows
-plain-add p zero b = let e : p ≡ p + 0 = omega arith in let f : 0 + b ≡ b = omega arith in ap (plainRows p) f ∙ ap (λ (j : ℕ). plainRows j b) e
+plain-add p zero b =
+    let e : p ≡ p + 0 = omega arith in
+    let f : 0 + b ≡ b = omega arith in
+    ap (plainRows p) f ∙ ap (λ (j : ℕ). plainRows j b) e
 plain-add p (suc a) b =
     let f : suc a + b ≡ suc (a + b) = omega arith in
     let e : suc p + a ≡ p + suc a = omega arith in
-    ap (plainRows p) f ∙ ap (λ (q : List Row). row p none ∷ q) (plain-add (suc p) a b ∙ ap (λ (j : ℕ). plainRows (suc p) a ++ plainRows j b) e)
+    ap (plainRows p) f
+    ∙ ap (λ (q : List Row). row p none ∷ q) (plain-add (suc p) a b ∙ ap (λ (j : ℕ). plainRows (suc p) a ++ plainRows j b) e)
 
 plain-none : (p n : ℕ) → n ≡ 0 → plainRows p n ≡ []
 unfolding plainRows
@@ -167,7 +174,8 @@ merge-step lines p l ls h =
     let e : p + (l .first - p) ≡ l .first = omega arith in
     let z : p - l .first ≡ 0 = omega arith in
     let n : p + (lineEnd l - p) ≡ lineEnd l = omega arith in
-    ap (λ (i : ℕ). gap lines p (l .first) ++ (blockRows i (drop (p - l .first) (straight l)) ++ mergeFrom lines (p + (lineEnd l - p)) ls)) e
+    ap (λ (i : ℕ). gap lines p (l .first) ++ (blockRows i (drop (p - l .first) (straight l)) ++ mergeFrom lines
+    (p + (lineEnd l - p)) ls)) e
     ∙ ap (λ (k : ℕ). gap lines p (l .first) ++ (blockRows (l .first) (drop k (straight l)) ++ mergeFrom lines (p + (lineEnd l - p)) ls)) z
     ∙ ap (λ (k : ℕ). gap lines p (l .first) ++ (blockRows (l .first) (straight l) ++ mergeFrom lines k ls)) n
 
@@ -195,7 +203,8 @@ merged lines few q p done (l ∷ ls) h s =
     let w : drop (2 ^ 64 - f) xs ≡ [] = drop-of-length-le xs (let z : length xs ≤ 2 ^ 64 - f = omega arith in z) in
     ap (addBlocks ls)
     (add-rows lines f xs q D b k ∙ sym (append-assoc D (blockRows f xs) (plainRows (lineEnd l) (lines - lineEnd l))))
-    ∙ merged lines few q (lineEnd l) (D ++ blockRows f xs) ls (between-append q f (lineEnd l) D (blockRows f xs) b (between-block f xs)) (s .2)
+    ∙ merged lines few q (lineEnd l) (D ++ blockRows f xs) ls
+    (between-append q f (lineEnd l) D (blockRows f xs) b (between-block f xs)) (s .2)
     ∙ ap (λ (r : List ℕ). addRows (2 ^ 64) (r ++ wrapped ls) (D ++ blockRows f xs ++ mergeFrom lines (lineEnd l) ls)) (sym w)
     ∙ ap (addRows (2 ^ 64) (wrapped (l ∷ ls)))
     (append-assoc D (blockRows f xs) (mergeFrom lines (lineEnd l) ls)
@@ -204,7 +213,8 @@ merged lines few q p done (l ∷ ls) h s =
     ∙ ap (λ (r : List Row). done ++ r) (sym (merge-step lines p l ls (s .0)))))
     (λ t. let k = leb-false (f + length xs) (2 ^ 64) t in last ls (s .2) b k)
   where
-    last : (ls : List LineBlock) → Apart (lineEnd l) ls → Between q (l .first) (done ++ gap lines p (l .first)) → 2 ^ 64 < l .first + length (l .addresses)
+    last : (ls : List LineBlock) → Apart (lineEnd l) ls → Between q (l .first) (done ++ gap lines p (l .first))
+        → 2 ^ 64 < l .first + length (l .addresses)
         → addBlocks ls (addRows (l .first) (l .addresses) (done ++ gap lines p (l .first) ++ plainRows (l .first) (lines - l .first)))
         ≡ addRows (2 ^ 64) (wrapped (l ∷ ls)) (done ++ mergeFrom lines p (l ∷ ls))
     last (m ∷ ms) a b k = let u = a .0 in let v = a .1 in absurd (omega arith)
@@ -218,7 +228,8 @@ merged lines few q p done (l ∷ ls) h s =
         let n : length c ≡ 2 ^ 64 - f = length-take-le (2 ^ 64 - f) xs (omega arith) in
         let below = s .1 in
         let top : f + length c ≡ 2 ^ 64 = omega arith in
-        let none-left : plainRows (f + length c) (lines - (f + length c)) ≡ [] = plain-none (f + length c) (lines - (f + length c)) (omega arith) in
+        let none-left : plainRows (f + length c) (lines - (f + length c)) ≡ [] = plain-none (f + length c) (lines - (f + length c))
+        (omega arith) in
         let none-past : plainRows (lineEnd l) (lines - lineEnd l) ≡ [] = plain-none (lineEnd l) (lines - lineEnd l) (omega arith) in
         let R = D ++ plainRows f (lines - f) in
         ap (λ (ys : List ℕ). addRows f ys R) (sym (take-append-drop (2 ^ 64 - f) xs))
@@ -267,7 +278,8 @@ module _ (m : ℕ) where
   from-append (r ∷ xs) ys =
       by-test (leb m (r .number))
       (λ t. let h = leb-true m (r .number) t in
-      from-kept r (xs ++ ys) h ∙ ap (λ (q : List Row). r ∷ q) (from-append xs ys) ∙ ap (λ (q : List Row). q ++ from m ys) (sym (from-kept r xs h)))
+      from-kept r (xs ++ ys) h ∙ ap (λ (q : List Row). r ∷ q) (from-append xs ys)
+      ∙ ap (λ (q : List Row). q ++ from m ys) (sym (from-kept r xs h)))
       (λ t. let h = leb-false m (r .number) t in
       from-left r (xs ++ ys) h ∙ from-append xs ys ∙ ap (λ (q : List Row). q ++ from m ys) (sym (from-left r xs h)))
 
@@ -344,7 +356,9 @@ from-from a b (r ∷ rs) h =
     by-test (leb a (r .number))
     (λ t. ap (from b) (from-kept a r rs (leb-true a (r .number) t))
     ∙ by-test (leb b (r .number))
-    (λ u. let k = leb-true b (r .number) u in from-kept b r (from a rs) k ∙ ap (λ (q : List Row). r ∷ q) (from-from a b rs h) ∙ sym (from-kept b r rs k))
+    (λ u. let k =
+    leb-true b (r .number) u in
+    from-kept b r (from a rs) k ∙ ap (λ (q : List Row). r ∷ q) (from-from a b rs h) ∙ sym (from-kept b r rs k))
     (λ u. let k = leb-false b (r .number) u in from-left b r (from a rs) k ∙ from-from a b rs h ∙ sym (from-left b r rs k)))
     (λ t. let k = leb-false a (r .number) t in
     ap (from b) (from-left a r rs k) ∙ from-from a b rs h ∙ sym (from-left b r rs (omega arith)))
@@ -368,7 +382,8 @@ put-first j x t (r ∷ rs) b =
     let g = b .0 in
     by-test (leb (suc j) (r .number))
     (λ u. let k = leb-true (suc j) (r .number) u in
-    put-above j x r rs (omega arith) ∙ ap (λ (q : List Row). row j x ∷ q) (sym (from-all (suc j) (suc j) t (r ∷ rs) (omega arith) (k, b .1))))
+    put-above j x r rs (omega arith)
+    ∙ ap (λ (q : List Row). row j x ∷ q) (sym (from-all (suc j) (suc j) t (r ∷ rs) (omega arith) (k, b .1))))
     (λ u. let k = leb-false (suc j) (r .number) u in
     let e : r .number ≡ j = omega arith in
     put-same j x r rs e
@@ -391,17 +406,21 @@ wraps j t (x ∷ xs) p low rs a b h k =
     let one : Between j (suc j) (r ∷ []) = (omega arith, omega arith) in
     ap (λ (i : ℕ). addRows (suc (2 ^ 64 + j)) xs (upsert rowKey (row i (some x)) (low ++ rs))) m
     ∙ ap (addRows (suc (2 ^ 64 + j)) xs)
-    (put-past j (some x) p low rs a ∙ ap (λ (q : List Row). low ++ q) (put-first j (some x) t rs b) ∙ sym (append-assoc low (r ∷ []) next))
+    (put-past j (some x) p low rs a ∙ ap (λ (q : List Row). low ++ q) (put-first j (some x) t rs b) ∙ sym (append-assoc low
+    (r ∷ []) next))
     ∙ ap (λ (i : ℕ). addRows i xs (low ++ r ∷ [] ++ next)) n
-    ∙ wraps (suc j) t xs p (low ++ r ∷ []) next (between-append p j (suc j) low (r ∷ []) a one) (from-between (suc j) j t rs b (omega arith)) (omega arith) k
+    ∙ wraps (suc j) t xs p (low ++ r ∷ []) next (between-append p j (suc j) low (r ∷ []) a one)
+    (from-between (suc j) j t rs b (omega arith)) (omega arith) k
     ∙ append-assoc low (r ∷ []) (blockRows (suc j) xs ++ from (suc j + length xs) next)
     ∙ ap (λ (q : List Row). low ++ (r ∷ (blockRows (suc j) xs ++ q)))
     (from-from (suc j) (suc j + length xs) rs (omega arith) ∙ ap (λ (i : ℕ). from i rs) e)
 
 -- the walk's rows rise, all below the largest 64-bit value and it
-between-merge : (lines : ℕ) → lines ≤ 2 ^ 64 → (p : ℕ) (ls : List LineBlock) → p ≤ 2 ^ 64 → Apart p ls → Between p (2 ^ 64) (mergeFrom lines p ls)
+between-merge : (lines : ℕ) → lines ≤ 2 ^ 64 → (p : ℕ) (ls : List LineBlock) → p ≤ 2 ^ 64 → Apart p ls
+    → Between p (2 ^ 64) (mergeFrom lines p ls)
 unfolding mergeFrom
-between-merge lines h p [] k a = between-up p (p + (lines - p)) (2 ^ 64) (plainRows p (lines - p)) (omega arith) (between-plain p (lines - p))
+between-merge lines h p [] k a =
+    between-up p (p + (lines - p)) (2 ^ 64) (plainRows p (lines - p)) (omega arith) (between-plain p (lines - p))
 between-merge lines h p (l ∷ ls) k a =
     let f : ℕ = l .first in
     let c = straight l in
@@ -416,7 +435,8 @@ between-merge lines h p (l ∷ ls) k a =
     (subst (λ (q : ℕ). Between f q (blockRows f c)) e (between-block f c)) (between-merge lines h (lineEnd l) ls g (a .2)))
     (λ t. let g = leb-false (lineEnd l) (2 ^ 64) t in last ls (a .2) g)))
   where
-    last : (ls : List LineBlock) → Apart (lineEnd l) ls → 2 ^ 64 < lineEnd l → Between (l .first) (2 ^ 64) (blockRows (l .first) (straight l) ++ mergeFrom lines (lineEnd l) ls)
+    last : (ls : List LineBlock) → Apart (lineEnd l) ls → 2 ^ 64 < lineEnd l
+        → Between (l .first) (2 ^ 64) (blockRows (l .first) (straight l) ++ mergeFrom lines (lineEnd l) ls)
     last (m ∷ ms) b g = let u = b .0 in let v = b .1 in absurd (omega arith)
     last [] b g =
         let f : ℕ = l .first in
@@ -425,7 +445,8 @@ between-merge lines h p (l ∷ ls) k a =
         let n : length c ≡ 2 ^ 64 - f = length-take-le (2 ^ 64 - f) (l .addresses) (omega arith) in
         let e : f + length c ≡ 2 ^ 64 = omega arith in
         subst (λ (r : List Row). Between f (2 ^ 64) (blockRows f c ++ r)) (sym (plain-none (lineEnd l) (lines - lineEnd l) (omega arith)))
-        (between-append f (2 ^ 64) (2 ^ 64) (blockRows f c) [] (subst (λ (q : ℕ). Between f q (blockRows f c)) e (between-block f c)) (omega arith))
+        (between-append f (2 ^ 64) (2 ^ 64) (blockRows f c) [] (subst (λ (q : ℕ). Between f q (blockRows f c)) e (between-block f c))
+        (omega arith))
 
 -- THE ROWS OF THE LINE TABLE: those that wrapped, and from there on those of the walk
 pub line-rows :
@@ -460,7 +481,8 @@ past-start w e f h = omega arith
 past-skip : (w e f : ℕ) → e ≤ f → w + (e - w) - f ≡ w - f
 past-skip w e f h = omega arith
 
-past-done : (lines w e f : ℕ) → e ≤ f → smaller (w + (f - w)) lines ≡ smaller (w + (e - w)) lines + (smaller f lines - smaller (w + (e - w)) lines)
+past-done : (lines w e f : ℕ) → e ≤ f
+    → smaller (w + (f - w)) lines ≡ smaller (w + (e - w)) lines + (smaller f lines - smaller (w + (e - w)) lines)
 past-done lines w e f h =
     by-test (leb w e)
     (λ t. let l = leb-true w e t in
@@ -481,10 +503,12 @@ past-done lines w e f h =
         (λ t. let l = leb-false w f t in
         let b : w + (f - w) ≡ w = omega arith in
         let c : smaller f lines ≤ smaller w lines = omega arith in
-        ap (λ (x : ℕ). smaller x lines) b ∙ (let y : smaller w lines ≡ smaller w lines + (smaller f lines - smaller w lines) = omega arith in y))
+        ap (λ (x : ℕ). smaller x lines) b
+        ∙ (let y : smaller w lines ≡ smaller w lines + (smaller f lines - smaller w lines) = omega arith in y))
 
 walk-is :
-    (lines w e : ℕ) (ls : List LineBlock) → Apart e ls → mergeFrom lines (w + (e - w)) ls ≡ walkFrom lines w (smaller (w + (e - w)) lines) ls
+    (lines w e : ℕ) (ls : List LineBlock) → Apart e ls → mergeFrom lines (w + (e - w)) ls ≡ walkFrom lines w
+    (smaller (w + (e - w)) lines) ls
 unfolding mergeFrom walkFrom
 walk-is lines w e [] a = plain-done lines (w + (e - w)) lines (omega arith)
 walk-is lines w e (l ∷ ls) a =

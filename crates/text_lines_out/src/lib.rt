@@ -137,9 +137,17 @@ fn measure_run(
     while k < count {
         let line = Line(first).wrapping_add(k as u64);
         let address = line_address(ws, place, k);
-        let Rows::Left(rest, after) =
-            measure_row(left, ws, at, n, width, line.0, known, address, next)
-        else {
+        let Rows::Left(rest, after) = measure_row(
+            left,
+            ws,
+            at,
+            n,
+            width,
+            line.0,
+            known,
+            address,
+            next,
+        ) else {
             return Rows::Short;
         };
         left = rest;
@@ -173,7 +181,17 @@ fn put_run(
     while k < count {
         let line = Line(first).wrapping_add(k as u64);
         let address = line_address(ws, place, k);
-        let row = put_row(&mut out[len..], ws, at, n, width, line.0, known, address, next);
+        let row = put_row(
+            &mut out[len..],
+            ws,
+            at,
+            n,
+            width,
+            line.0,
+            known,
+            address,
+            next,
+        );
         len += row.len;
         next = row.start;
         k += 1;

@@ -53,7 +53,8 @@ linker-length address name =
 
 -- CHARACTERS of what is left
 module _ (ws : List ℕ) (at i n : ℕ) where
-  pub count-here : i < n → begins (textByte ws at i) + characters (bytesFrom ws at (i + 1) (n - (i + 1))) ≡ characters (bytesFrom ws at i (n - i))
+  pub count-here : i < n
+      → begins (textByte ws at i) + characters (bytesFrom ws at (i + 1) (n - (i + 1))) ≡ characters (bytesFrom ws at i (n - i))
   count-here h =
       let t = bytesFrom ws at (i + 1) (n - (i + 1)) in
       count-on (textByte ws at i ∷ t) 0 (omega arith) ∙ ap characters (sym (bytes-here ws at i n h))
@@ -63,4 +64,5 @@ module _ (ws : List ℕ) (at i n : ℕ) where
   count-done h = ap characters (bytes-end ws at i n h)
 
 pub left-length : (width : ℕ) (t : List ℕ) → length (toLeft width t) ≡ length t + (width - characters t)
-left-length width t = length-append t (spaces (width - characters t)) ∙ ap (λ (n : ℕ). length t + n) (spaces-length (width - characters t))
+left-length width t =
+    length-append t (spaces (width - characters t)) ∙ ap (λ (n : ℕ). length t + n) (spaces-length (width - characters t))

@@ -139,7 +139,8 @@ pub fn put_left(out: &mut [u8], ws: &[u32], at: usize, n: usize, width: usize) -
     if out.len() < n {
         return 0;
     }
-    let fill = missing(width, count_characters(ws, at, n));
+    let count = count_characters(ws, at, n);
+    let fill = missing(width, count);
     if out.len() - n < fill {
         return 0;
     }

@@ -81,7 +81,8 @@ module _ (ws : List ℕ) (at : ℕ) where
     block-size =
         let a = textLine (hex4 (addressIn (getD ws at 0))) in
         let b = textLine (decimal (length body)) in
-        let m : length (memoryLines body) ≡ 5 * length body = length-flatMap (λ w. textLine (memoryText (memoryIn w))) 5 memory-length body in
+        let m : length (memoryLines body) ≡ 5 * length body = length-flatMap
+        (λ w. textLine (memoryText (memoryIn w))) 5 memory-length body in
         omega (
           arith,
           ap length block-parts,
@@ -97,14 +98,16 @@ module _ (ws : List ℕ) (at : ℕ) (rs : List Record) where
   abbrev kind : ℕ
   kind = kindAt ws at
 
-  relocation-more : isHead (getD ws at 0) ≡ true → relocationRows (placed (recordAt ws at ∷ rs)) ≡ relocationPart ws at ++ relocationRows (placed rs)
+  relocation-more : isHead (getD ws at 0) ≡ true
+      → relocationRows (placed (recordAt ws at ∷ rs)) ≡ relocationPart ws at ++ relocationRows (placed rs)
   unfolding relocationRows relocationPart recordAt placed flatMap
   relocation-more h =
       by-test (eqb kind 0) (λ t. let e = eqb-true kind 0 t in simp (t, ne-eqb kind 5 (λ z. omega arith)))
       (λ t. by-test (eqb kind 2) (λ t2. let e = eqb-true kind 2 t2 in simp (t, t2, ne-eqb kind 5 (λ z. omega arith)))
       (λ t2. by-test (eqb kind 3) (λ t3. let e = eqb-true kind 3 t3 in simp (t, t2, t3, ne-eqb kind 5 (λ z. omega arith)))
       (λ t3. by-test (eqb kind 4) (λ t4. let e = eqb-true kind 4 t4 in simp (t, t2, t3, t4, ne-eqb kind 5 (λ z. omega arith)))
-      (λ t4. let five = head-kind (getD ws at 0) h (eqb-false kind 0 t) (eqb-false kind 2 t2) (eqb-false kind 3 t3) (eqb-false kind 4 t4) in
+      (λ t4. let five =
+      head-kind (getD ws at 0) h (eqb-false kind 0 t) (eqb-false kind 2 t2) (eqb-false kind 3 t3) (eqb-false kind 4 t4) in
       simp (t, t2, t3, t4, eq-eqb kind 5 five)))))
 
 pub relocations-walk : Table relocationRows relocationPart
@@ -117,7 +120,8 @@ module _ (ws : List ℕ) (at : ℕ) where
   relocation-other n = rw (ne-eqb (kindAt ws at) 5 n)
 
   pub relocation-row :
-      (end n : ℕ) → kindAt ws at ≡ 5 → Text (bodyAt ws (at + 1)) → end ≡ at + 1 + length (bodyAt ws (at + 1)) → n ≡ textLen ws (at + 1) end
+      (end n : ℕ) → kindAt ws at ≡ 5 → Text (bodyAt ws (at + 1)) → end ≡ at + 1 + length (bodyAt ws (at + 1)) → n ≡ textLen ws
+      (at + 1) end
       → linkerLine (addressIn (getD ws at 0)) (textBytes ws (at + 1) n) ≡ relocationPart ws at
   unfolding relocationPart
   relocation-row end n e t q m =
@@ -127,7 +131,8 @@ module _ (ws : List ℕ) (at : ℕ) where
       ∙ sym (ap (λ (b : Bool). if b then textLine (linkerRow (relocationAt ws at)) else []) (eq-eqb (kindAt ws at) 5 e))
 
 -- the name of a relocation is a text
-pub relocation-name : {A : Type 0} (ws : List ℕ) (F : ObjectFile → A) (at : ℕ) (v : A) → at < length ws → Left ws at F v → kindAt ws at ≡ 5
+pub relocation-name : {A : Type 0} (ws : List ℕ) (F : ObjectFile → A) (at : ℕ) (v : A) → at < length ws → Left ws at F v
+    → kindAt ws at ≡ 5
     → Text (bodyAt ws (at + 1))
 relocation-name ws F at v h l e = relocation-is ws at (recordAt ws at) (here ws F at v h l .head) e .1
 

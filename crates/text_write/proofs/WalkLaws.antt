@@ -21,7 +21,8 @@ use Rattle.text_write.specs.Tables.{objectIn}
 pub record Table (F : ObjectFile → List ℕ) (part : List ℕ → ℕ → List ℕ) : Type 0 where
   pub none : F emptyObject ≡ []
   pub more :
-      (ws : List ℕ) (at : ℕ) (rs : List Record) → isHead (getD ws at 0) ≡ true → F (placed (recordAt ws at ∷ rs)) ≡ part ws at ++ F (placed rs)
+      (ws : List ℕ) (at : ℕ) (rs : List Record) → isHead (getD ws at 0) ≡ true → F (placed (recordAt ws at ∷ rs)) ≡ part ws at ++ F
+      (placed rs)
 
 module _ (F : ObjectFile → List ℕ) (part : List ℕ → ℕ → List ℕ) (t : Table F part) (ws : List ℕ) where
   pub walk-start : checked ws ≡ 0 → Left ws 0 F (F (objectIn ws))

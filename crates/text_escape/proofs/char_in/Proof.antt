@@ -30,8 +30,10 @@ returns : tie.Need-returns
 returns c = let a = c .before .before .before .args in
     let t = textBytes (now (a .ws)) (a .at) (a .end) in
     let h : a .i < length t = omega (arith, size-is (now (a .ws)) (a .at) (a .end), c .before .before .before .pre) in
-    let e : c .before .text-byte .result ≡ getD t (a .i) 0 = c .before .text-byte .ensures ∙ byte-is (now (a .ws)) (a .at) (a .end) (a .i) (c .before .before .before .pre) in
-    char-from t (a .i) h (ap (λ (b : ℕ). charAt (b ∷ drop (a .i + 1) t)) (sym e) ∙ char-one (c .before .text-byte .result) (drop (a .i + 1) t) (c .if1 .taken))
+    let e : c .before .text-byte .result ≡ getD t (a .i) 0 = c .before .text-byte .ensures
+    ∙ byte-is (now (a .ws)) (a .at) (a .end) (a .i) (c .before .before .before .pre) in
+    char-from t (a .i) h (ap (λ (b : ℕ). charAt (b ∷ drop (a .i + 1) t)) (sym e) ∙ char-one (c .before .text-byte .result) (drop
+    (a .i + 1) t) (c .if1 .taken))
 
 byte-after-requires : tie.Need-byte-after-requires
 byte-after-requires c κs = search needs

@@ -25,7 +25,11 @@ add-result : tie.Need-add-result
 add-result c = record { fits = omega (arith, c .count-hex .ensures, hex-short (c .before .before .before .before .args .c)) }
 
 returns-2 : tie.Need-returns-2
-returns-2 c = let a = c .before .before .before .before .args .c in let e = by-code a (sym (c .before .before .before .letter .ensures) ∙ c .before .before .if1 .left) (c .before .before .before .before .pre) (inl (c .before .if2 .taken)) in omega (arith, c .count-hex .ensures, code-length a, ap length e)
+returns-2 c =
+    let a = c .before .before .before .before .args .c in
+    let e = by-code a (sym (c .before .before .before .letter .ensures) ∙ c .before .before .if1 .left)
+    (c .before .before .before .before .pre) (inl (c .before .if2 .taken)) in
+    omega (arith, c .count-hex .ensures, code-length a, ap length e)
 
 count-hex-requires-2 : tie.Need-count-hex-requires-2
 count-hex-requires-2 c κs = search needs
@@ -34,10 +38,17 @@ add-result-2 : tie.Need-add-result-2
 add-result-2 c = record { fits = omega (arith, c .count-hex2 .ensures, hex-short (c .before .before .before .before .before .args .c)) }
 
 returns-3 : tie.Need-returns-3
-returns-3 c = let a = c .before .before .before .before .before .args .c in let e = by-code a (sym (c .before .before .before .before .letter .ensures) ∙ c .before .before .before .if1 .left) (c .before .before .before .before .before .pre) (inr (c .before .if3 .taken)) in omega (arith, c .count-hex2 .ensures, code-length a, ap length e)
+returns-3 c =
+    let a = c .before .before .before .before .before .args .c in
+    let e = by-code a (sym (c .before .before .before .before .letter .ensures) ∙ c .before .before .before .if1 .left)
+    (c .before .before .before .before .before .pre) (inr (c .before .if3 .taken)) in
+    omega (arith, c .count-hex2 .ensures, code-length a, ap length e)
 
 returns-4 : tie.Need-returns-4
-returns-4 c = let a = c .before .before .before .before .args .c in sym (ap length (plain a (sym (c .before .before .before .letter .ensures) ∙ c .before .before .if1 .left) (c .before .if2 .left) (c .if3 .left)))
+returns-4 c =
+    let a = c .before .before .before .before .args .c in
+    sym (ap length (plain a (sym (c .before .before .before .letter .ensures) ∙ c .before .before .if1 .left) (c .before .if2 .left)
+    (c .if3 .left)))
 
 pub escaped-len-spec : {M : Type 1} → statement M
 escaped-len-spec =

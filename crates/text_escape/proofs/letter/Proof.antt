@@ -8,14 +8,18 @@ use Rattle.text_escape.proofs.letter.Statement.{statement}
 use Rattle.text_escape.proofs.letter.Tie as tie
 
 returns : tie.Need-returns
-returns c = letter-none _ (λ z. omega (arith, c .if1 .taken)) (λ z. omega (arith, c .if1 .taken)) (λ z. omega (arith, c .if1 .taken)) (λ z. omega (arith, c .if1 .taken)) (λ z. omega (arith, c .if1 .taken)) (λ z. omega (arith, c .if1 .taken))
+returns c =
+    letter-none _ (λ z. omega (arith, c .if1 .taken)) (λ z. omega (arith, c .if1 .taken)) (λ z. omega (arith, c .if1 .taken))
+    (λ z. omega (arith, c .if1 .taken)) (λ z. omega (arith, c .if1 .taken)) (λ z. omega (arith, c .if1 .taken))
 
 returns-2 : tie.Need-returns-2
 unfolding letterOf
 returns-2 c = sym (ap letterOf (c .if2 .taken))
 
 returns-3 : tie.Need-returns-3
-returns-3 c = letter-none _ (λ z. omega (arith, c .if3 .taken)) (λ z. omega (arith, c .if3 .taken)) (λ z. omega (arith, c .if3 .taken)) (λ z. omega (arith, c .if3 .taken)) (λ z. omega (arith, c .if3 .taken)) (c .before .if2 .left)
+returns-3 c =
+    letter-none _ (λ z. omega (arith, c .if3 .taken)) (λ z. omega (arith, c .if3 .taken)) (λ z. omega (arith, c .if3 .taken))
+    (λ z. omega (arith, c .if3 .taken)) (λ z. omega (arith, c .if3 .taken)) (c .before .if2 .left)
 
 returns-4 : tie.Need-returns-4
 unfolding letterOf
@@ -38,7 +42,9 @@ unfolding letterOf
 returns-8 c = sym (ap letterOf (c .if8 .taken))
 
 returns-9 : tie.Need-returns-9
-returns-9 c = letter-none _ (c .if8 .left) (c .before .if7 .left) (c .before .before .if6 .left) (c .before .before .before .before .if4 .left) (c .before .before .before .if5 .left) (c .before .before .before .before .before .before .if2 .left)
+returns-9 c =
+    letter-none _ (c .if8 .left) (c .before .if7 .left) (c .before .before .if6 .left) (c .before .before .before .before .if4 .left)
+    (c .before .before .before .if5 .left) (c .before .before .before .before .before .before .if2 .left)
 
 pub letter-spec : {M : Type 1} → statement M
 letter-spec =

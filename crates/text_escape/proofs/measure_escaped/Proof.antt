@@ -87,7 +87,9 @@ enum-told : tie.Need-enum-told Inv-loop μ-loop
 enum-told c = search needs
 
 returns : tie.Need-returns Inv-loop μ-loop
-returns c = let l = c .before .before .before .before in less-nothing (l .loop .left) ∙ ap (lessPart (l .loop .left)) (sym (nothing c)) ∙ l .loop .inv
+returns c =
+    let l = c .before .before .before .before in
+    less-nothing (l .loop .left) ∙ ap (lessPart (l .loop .left)) (sym (nothing c)) ∙ l .loop .inv
 
 escaped-len-requires : tie.Need-escaped-len-requires Inv-loop μ-loop
 escaped-len-requires c κs = char-bound (t (l c)) (i (l c)) (inside (l c)) (v c) (n c) (char c)
@@ -118,7 +120,8 @@ returns-3 c = let o = c .before .loop in
     let a = c .before .before .before .args in
     less-nothing (o .left)
     ∙ ap (lessPart (o .left))
-    (sym (escaped-end (textBytes (now (a .ws)) (a .at) (a .end)) (o .i) (omega (arith, size-is (now (a .ws)) (a .at) (a .end), c .loop-test .left))))
+    (sym (escaped-end (textBytes (now (a .ws)) (a .at) (a .end)) (o .i)
+    (omega (arith, size-is (now (a .ws)) (a .at) (a .end), c .loop-test .left))))
     ∙ o .inv
 
 pub measure-escaped-spec : {M : Type 1} → statement M

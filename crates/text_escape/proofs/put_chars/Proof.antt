@@ -22,7 +22,8 @@ use Rattle.text_escape.proofs.put_chars.Statement.{statement}
 use Rattle.text_escape.proofs.put_chars.Tie as tie
 
 abbrev Inv-loop : tie.InvT-loop
-Inv-loop out₀ ws at start end n₀ i₀ out n i = Emits (escapedIn ws at start end) out₀ (escapedIn ws at i end) (record { at = n; out = out })
+Inv-loop out₀ ws at start end n₀ i₀ out n i =
+    Emits (escapedIn ws at start end) out₀ (escapedIn ws at i end) (record { at = n; out = out })
 
 abbrev μ-loop : tie.MeasureT-loop
 μ-loop out₀ ws at start end n₀ i₀ out n i = end - i
@@ -77,7 +78,8 @@ emits :
     (c : tie.After-put-escaped-char Inv-loop μ-loop)
     → Emits (escapedIn (now (a (l (c .before .before)) .args .ws)) (a (l (c .before .before)) .args .at) (a (l (c .before .before)) .args .start) (a (l (c .before .before)) .args .end))
     (now (a (l (c .before .before)) .args .out)) (left (c .before .before))
-    (after (record { at = l (c .before .before) .before .loop .n; out = l (c .before .before) .before .loop .out }) (c .put-escaped-char .result)
+    (after (record { at = l (c .before .before) .before .loop .n; out = l (c .before .before) .before .loop .out })
+    (c .put-escaped-char .result)
     (c .put-escaped-char .last .0))
 emits c =
     let k = c .before .before in emit (l k .before .loop .inv) (escapeChar (v k)) (left k) (next k) (c .put-escaped-char .ensures)
@@ -133,7 +135,8 @@ same-length-2 c = same (c .before .loop .inv)
 returns-2 : tie.Need-returns-2 Inv-loop μ-loop
 returns-2 c = let a = c .before .before .before .before .args in
     emitted (c .before .loop .inv)
-    (escaped-end (textBytes (now (a .ws)) (a .at) (a .end)) (c .before .loop .i) (omega (arith, size-is (now (a .ws)) (a .at) (a .end), c .loop-test .left)))
+    (escaped-end (textBytes (now (a .ws)) (a .at) (a .end)) (c .before .loop .i) (omega
+    (arith, size-is (now (a .ws)) (a .at) (a .end), c .loop-test .left)))
 
 pub put-chars-spec : {M : Type 1} → statement M
 put-chars-spec =

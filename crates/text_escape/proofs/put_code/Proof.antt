@@ -58,7 +58,9 @@ state2 c = after (state1 (c .before .before .before .before)) (c .put-hex .resul
 
 emits2 : (c : tie.After-put-hex) → Emits (whole (start2 c)) (room (start2 c)) (left2 (start2 c)) (state2 c)
 unfolding codeText ascii
-emits2 c = let t = start2 c in emit (emits1 (c .before .before .before .before)) (numeral 19 16 (t .args .c) []) (left2 t) refl (c .put-hex .ensures)
+emits2 c =
+    let t = start2 c in
+    emit (emits1 (c .before .before .before .before)) (numeral 19 16 (t .args .c) []) (left2 t) refl (c .put-hex .ensures)
 
 abbrev left3 : tie.Start → List ℕ
 left3 t = []
@@ -71,7 +73,9 @@ state3 c = after (state2 (c .before .before .before .before)) (c .put-u8 .result
 
 emits3 : (c : tie.After-put-u8) → Emits (whole (start3 c)) (room (start3 c)) (left3 (start3 c)) (state3 c)
 unfolding codeText ascii
-emits3 c = let t = start3 c in emit (emits2 (c .before .before .before .before)) (ascii "}") (left3 t) (sym (append-nil _)) (c .put-u8 .ensures)
+emits3 c =
+    let t = start3 c in
+    emit (emits2 (c .before .before .before .before)) (ascii "}") (left3 t) (sym (append-nil _)) (c .put-u8 .ensures)
 
 count-hex-requires : tie.Need-count-hex-requires
 count-hex-requires c κs = search needs
@@ -80,7 +84,9 @@ add-if1 : tie.Need-add-if1
 add-if1 c = record { fits = omega (arith, c .count-hex .ensures, hex-short (c .before .before .args .c)) }
 
 returns : tie.Need-returns
-returns c = let a = c .before .before .before .args .c in too-short (codeText a) _ _ (code-length a) (omega (arith, c .if1 .taken, c .before .count-hex .ensures))
+returns c =
+    let a = c .before .before .before .args .c in
+    too-short (codeText a) _ _ (code-length a) (omega (arith, c .if1 .taken, c .before .count-hex .ensures))
 
 sub-put-bytes : tie.Need-sub-put-bytes
 sub-put-bytes c = search needs

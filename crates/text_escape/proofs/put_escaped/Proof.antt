@@ -20,7 +20,12 @@ enum-told : tie.Need-enum-told
 enum-told c = search needs
 
 put-chars-requires : tie.Need-put-chars-requires
-put-chars-requires c κs = let m = c .before .before .before in fits (length (now (m .before .before .before .args .out))) (length (escapedIn (now (m .before .before .before .args .ws)) (m .before .before .before .args .at) (m .before .before .before .args .start) (m .before .before .before .args .end))) (sym (ap roomOf (c .before .enum-told .given .1)) ∙ m .measure-escaped .ensures) .0
+put-chars-requires c κs =
+    let m = c .before .before .before in
+    fits (length (now (m .before .before .before .args .out)))
+    (length (escapedIn (now (m .before .before .before .args .ws)) (m .before .before .before .args .at)
+    (m .before .before .before .args .start) (m .before .before .before .args .end))) (sym (ap roomOf
+    (c .before .enum-told .given .1)) ∙ m .measure-escaped .ensures) .0
 
 enum-told-2 : tie.Need-enum-told-2
 enum-told-2 c = search needs
@@ -32,7 +37,10 @@ returns : tie.Need-returns
 returns c = search needs
 
 returns-2 : tie.Need-returns-2
-returns-2 c = let m = c .before .before in too-short _ _ _ refl (short (length (now (m .before .before .before .args .out))) _ (sym (ap roomOf (c .enum-told2 .given .1)) ∙ m .measure-escaped .ensures))
+returns-2 c =
+    let m = c .before .before in
+    too-short _ _ _ refl (short (length (now (m .before .before .before .args .out))) _ (sym
+    (ap roomOf (c .enum-told2 .given .1)) ∙ m .measure-escaped .ensures))
 
 pub put-escaped-spec : {M : Type 1} → statement M
 put-escaped-spec =

@@ -29,7 +29,9 @@ abbrev room : tie.Start → List ℕ
 room t = now (t .args .out)
 
 abbrev whole : tie.Start → List ℕ
-whole t = lineLine (t .args .width) (t .args .number) (knownWord (t .args .known) (t .args .address)) (escapedIn (now (t .args .ws)) (t .args .at) (t .args .start) (t .args .end))
+whole t =
+    lineLine (t .args .width) (t .args .number) (knownWord (t .args .known) (t .args .address))
+    (escapedIn (now (t .args .ws)) (t .args .at) (t .args .start) (t .args .end))
 
 abbrev state0 : tie.Start → State ℕ
 state0 t = record { at = 0; out = room t }
@@ -42,10 +44,13 @@ bound c = omega arith
 
 emits0 : (c : tie.After-enum-told) → Emits (whole (start0 c)) (room (start0 c)) (whole (start0 c)) (state0 (start0 c))
 emits0 c = let a = start0 c .args in
-    begin _ _ (fits (length (room (start0 c))) (length (whole (start0 c))) (sym (ap roomOf (c .enum-told .given .1)) ∙ c .before .before .measure-line-row .ensures) .0)
+    begin _ _ (fits (length (room (start0 c))) (length (whole (start0 c))) (sym
+    (ap roomOf (c .enum-told .given .1)) ∙ c .before .before .measure-line-row .ensures) .0)
 
 abbrev left1 : tie.Start → List ℕ
-left1 t = tableDiv ++ (memoryText (knownWord (t .args .known) (t .args .address)) ++ (tableDiv ++ textLine (escapedIn (now (t .args .ws)) (t .args .at) (t .args .start) (t .args .end))))
+left1 t =
+    tableDiv ++ (memoryText (knownWord (t .args .known) (t .args .address)) ++ (tableDiv ++ textLine
+    (escapedIn (now (t .args .ws)) (t .args .at) (t .args .start) (t .args .end))))
 
 abbrev start1 : tie.After-put-right → tie.Start
 start1 c = start0 (c .before .before)
@@ -55,10 +60,17 @@ state1 c = after (state0 (start1 c)) (c .put-right .result) (c .put-right .last 
 
 emits1 : (c : tie.After-put-right) → Emits (whole (start1 c)) (room (start1 c)) (left1 (start1 c)) (state1 c)
 unfolding ascii
-emits1 c = let t = start1 c in emit (emits0 (c .before .before)) (toRight (t .args .width) (decimal (t .args .number))) (left1 t) (line-parts (toRight (t .args .width) (decimal (t .args .number))) tableDiv (memoryText (knownWord (t .args .known) (t .args .address))) tableDiv (escapedIn (now (t .args .ws)) (t .args .at) (t .args .start) (t .args .end))) (c .put-right .ensures)
+emits1 c =
+    let t = start1 c in
+    emit (emits0 (c .before .before)) (toRight (t .args .width) (decimal (t .args .number))) (left1 t)
+    (line-parts (toRight (t .args .width) (decimal (t .args .number))) tableDiv (memoryText
+    (knownWord (t .args .known) (t .args .address))) tableDiv (escapedIn (now (t .args .ws)) (t .args .at) (t .args .start)
+    (t .args .end))) (c .put-right .ensures)
 
 abbrev left2 : tie.Start → List ℕ
-left2 t = memoryText (knownWord (t .args .known) (t .args .address)) ++ (tableDiv ++ textLine (escapedIn (now (t .args .ws)) (t .args .at) (t .args .start) (t .args .end)))
+left2 t =
+    memoryText (knownWord (t .args .known) (t .args .address)) ++
+    (tableDiv ++ textLine (escapedIn (now (t .args .ws)) (t .args .at) (t .args .start) (t .args .end)))
 
 abbrev start2 : tie.After-put-bytes → tie.Start
 start2 c = start1 (c .before .before .before .before .before)
@@ -81,7 +93,10 @@ state3 c = after (state2 (c .before .before .before .before)) (c .put-memory .re
 
 emits3 : (c : tie.After-put-memory) → Emits (whole (start3 c)) (room (start3 c)) (left3 (start3 c)) (state3 c)
 unfolding ascii
-emits3 c = let t = start3 c in emit (emits2 (c .before .before .before .before)) (memoryText (knownWord (t .args .known) (t .args .address))) (left3 t) refl (c .put-memory .ensures)
+emits3 c =
+    let t = start3 c in
+    emit (emits2 (c .before .before .before .before)) (memoryText (knownWord (t .args .known) (t .args .address))) (left3 t) refl
+    (c .put-memory .ensures)
 
 abbrev left4 : tie.Start → List ℕ
 left4 t = textLine (escapedIn (now (t .args .ws)) (t .args .at) (t .args .start) (t .args .end))
@@ -94,7 +109,9 @@ state4 c = after (state3 (c .before .before .before .before .before)) (c .put-by
 
 emits4 : (c : tie.After-put-bytes2) → Emits (whole (start4 c)) (room (start4 c)) (left4 (start4 c)) (state4 c)
 unfolding ascii
-emits4 c = let t = start4 c in emit (emits3 (c .before .before .before .before .before)) (tableDiv) (left4 t) refl (c .put-bytes2 .ensures)
+emits4 c =
+    let t = start4 c in
+    emit (emits3 (c .before .before .before .before .before)) (tableDiv) (left4 t) refl (c .put-bytes2 .ensures)
 
 abbrev left5 : tie.Start → List ℕ
 left5 t = 0x0A ∷ []
@@ -107,7 +124,10 @@ state5 c = after (state4 (c .before .before .before .before)) (c .put-chars .res
 
 emits5 : (c : tie.After-put-chars) → Emits (whole (start5 c)) (room (start5 c)) (left5 (start5 c)) (state5 c)
 unfolding ascii
-emits5 c = let t = start5 c in emit (emits4 (c .before .before .before .before)) (escapedIn (now (t .args .ws)) (t .args .at) (t .args .start) (t .args .end)) (left5 t) refl (c .put-chars .ensures)
+emits5 c =
+    let t = start5 c in
+    emit (emits4 (c .before .before .before .before)) (escapedIn (now (t .args .ws)) (t .args .at) (t .args .start) (t .args .end))
+    (left5 t) refl (c .put-chars .ensures)
 
 abbrev left6 : tie.Start → List ℕ
 left6 t = []
@@ -120,7 +140,9 @@ state6 c = after (state5 (c .before .before .before .before)) (c .put-u8 .result
 
 emits6 : (c : tie.After-put-u8) → Emits (whole (start6 c)) (room (start6 c)) (left6 (start6 c)) (state6 c)
 unfolding ascii
-emits6 c = let t = start6 c in emit (emits5 (c .before .before .before .before)) (0x0A ∷ []) (left6 t) (sym (append-nil _)) (c .put-u8 .ensures)
+emits6 c =
+    let t = start6 c in
+    emit (emits5 (c .before .before .before .before)) (0x0A ∷ []) (left6 t) (sym (append-nil _)) (c .put-u8 .ensures)
 
 measure-line-row-requires : tie.Need-measure-line-row-requires
 measure-line-row-requires c κs = search needs
@@ -132,7 +154,10 @@ enum-told-2 : tie.Need-enum-told-2
 enum-told-2 c = search needs
 
 returns : tie.Need-returns
-returns c = let m = c .before .before in too-short _ _ _ refl (short (length (now (m .before .before .before .args .out))) _ (sym (ap roomOf (c .enum-told2 .given .1)) ∙ m .measure-line-row .ensures))
+returns c =
+    let m = c .before .before in
+    too-short _ _ _ refl (short (length (now (m .before .before .before .args .out))) _ (sym
+    (ap roomOf (c .enum-told2 .given .1)) ∙ m .measure-line-row .ensures))
 
 sub-put-right : tie.Need-sub-put-right
 sub-put-right c = search needs
@@ -210,10 +235,15 @@ part-put-chars-end : tie.Need-part-put-chars-end
 part-put-chars-end c = search needs
 
 put-chars-requires : tie.Need-put-chars-requires
-put-chars-requires c κs = let k = c .before .before .before in let t = start4 k in part-room (emits4 k) (escapedIn (now (t .args .ws)) (t .args .at) (t .args .start) (t .args .end)) (0x0A ∷ []) refl
+put-chars-requires c κs =
+    let k = c .before .before .before in
+    let t = start4 k in
+    part-room (emits4 k) (escapedIn (now (t .args .ws)) (t .args .at) (t .args .start) (t .args .end)) (0x0A ∷ []) refl
 
 add-k-5 : tie.Need-add-k-5
-add-k-5 c = small (emits5 (c .before .before)) (bound (c .before .before .before .before .before .before .before .before .before .before .before .before .before .before .before .before .before .before .before .before .before .before))
+add-k-5 c =
+    small (emits5 (c .before .before))
+    (bound (c .before .before .before .before .before .before .before .before .before .before .before .before .before .before .before .before .before .before .before .before .before .before))
 
 sub-put-u8 : tie.Need-sub-put-u8
 sub-put-u8 c = within (emits5 (c .before .before))
@@ -228,7 +258,9 @@ put-u8-requires : tie.Need-put-u8-requires
 put-u8-requires c κs = search needs
 
 add-k-6 : tie.Need-add-k-6
-add-k-6 c = small (emits6 (c .before .before)) (bound (c .before .before .before .before .before .before .before .before .before .before .before .before .before .before .before .before .before .before .before .before .before .before .before .before .before .before))
+add-k-6 c =
+    small (emits6 (c .before .before))
+    (bound (c .before .before .before .before .before .before .before .before .before .before .before .before .before .before .before .before .before .before .before .before .before .before .before .before .before .before))
 
 same-length : tie.Need-same-length
 same-length c = same (emits6 (c .before .before))

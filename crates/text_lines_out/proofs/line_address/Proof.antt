@@ -9,13 +9,19 @@ use Rattle.text_lines_out.proofs.line_address.Statement.{statement}
 use Rattle.text_lines_out.proofs.line_address.Tie as tie
 
 returns : tie.Need-returns
-returns c = let a = c .before .args in let h : length (now (a .ws)) ≤ a .place + a .k = omega (arith, c .if1 .taken) in sym (ap addressIn (List·getD-eq-default (now (a .ws)) 0 h))
+returns c =
+    let a = c .before .args in
+    let h : length (now (a .ws)) ≤ a .place + a .k = omega (arith, c .if1 .taken) in
+    sym (ap addressIn (List·getD-eq-default (now (a .ws)) 0 h))
 
 sub-if2 : tie.Need-sub-if2
 sub-if2 c = search needs
 
 returns-2 : tie.Need-returns-2
-returns-2 c = let a = c .before .before .args in let h : length (now (a .ws)) ≤ a .place + a .k = omega (arith, c .if2 .taken, c .before .if1 .left) in sym (ap addressIn (List·getD-eq-default (now (a .ws)) 0 h))
+returns-2 c =
+    let a = c .before .before .args in
+    let h : length (now (a .ws)) ≤ a .place + a .k = omega (arith, c .if2 .taken, c .before .if1 .left) in
+    sym (ap addressIn (List·getD-eq-default (now (a .ws)) 0 h))
 
 add-result : tie.Need-add-result
 add-result c = search needs

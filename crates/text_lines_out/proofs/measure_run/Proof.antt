@@ -23,7 +23,10 @@ use Rattle.text_lines_out.proofs.measure_run.Statement.{statement}
 use Rattle.text_lines_out.proofs.measure_run.Tie as tie
 
 abbrev Inv-loop : tie.InvT-loop
-Inv-loop room ws at n width first count known place start left₀ next₀ k₀ left next k = (k ≤ count) × (lessPart left (rowsText width (textBytes ws at n) (runRows first (addressFrom known ws place) k (count - k))) ≡ lessPart room (rowsText width (textBytes ws at n) (runRows first (addressFrom known ws place) 0 count))) × At (textBytes ws at n) (first + k) next
+Inv-loop room ws at n width first count known place start left₀ next₀ k₀ left next k =
+    (k ≤ count) × (lessPart left (rowsText width (textBytes ws at n)
+    (runRows first (addressFrom known ws place) k (count - k))) ≡ lessPart room (rowsText width (textBytes ws at n)
+    (runRows first (addressFrom known ws place) 0 count))) × At (textBytes ws at n) (first + k) next
 
 abbrev μ-loop : tie.MeasureT-loop
 μ-loop room ws at n width first count known place start left₀ next₀ k₀ left next k = count - k
@@ -64,7 +67,8 @@ module _ (c : tie.After-line-address Inv-loop μ-loop) where
   next =
       run-next (b .args .width) text (b .args .first) f k (b .args .count) (l .loop-test .taken)
       ∙ ap (λ (i : ℕ). rowsText (b .args .width) text (row i (f k) ∷ []) ++ left) (sym number)
-      ∙ ap (λ (v : ℕ). rowsText (b .args .width) text (row m (knownWord (b .args .known) v) ∷ []) ++ left) (sym (c .line-address .ensures))
+      ∙ ap (λ (v : ℕ). rowsText (b .args .width) text (row m (knownWord (b .args .known) v) ∷ []) ++ left)
+      (sym (c .line-address .ensures))
 
   here : At text m (l .before .loop .next)
   here = subst (λ (i : ℕ). At text i (l .before .loop .next)) (sym number) (l .before .loop .inv .2)
@@ -99,7 +103,13 @@ enum-told : tie.Need-enum-told Inv-loop μ-loop
 enum-told c = search needs
 
 returns : tie.Need-returns Inv-loop μ-loop
-returns c = let r = c .before .before .before in part-short (l r .before .loop .left) (part r) (left r) (next r) (subst (Measured (l r .before .loop .left) (text r) (b r .args .width) (row (m r) (knownWord (b r .args .known) (r .line-address .result)) ∷ []) (m r + 1)) (c .enum-told .given .1) (c .before .before .measure-row .ensures)) ∙ l r .before .loop .inv .1
+returns c =
+    let r = c .before .before .before in
+    part-short (l r .before .loop .left) (part r) (left r) (next r)
+    (subst (Measured (l r .before .loop .left) (text r) (b r .args .width)
+    (row (m r) (knownWord (b r .args .known) (r .line-address .result)) ∷ [])
+    (m r + 1)) (c .enum-told .given .1) (c .before .before .measure-row .ensures))
+    ∙ l r .before .loop .inv .1
 
 add-k : tie.Need-add-k Inv-loop μ-loop
 add-k c = omega (arith, l (c .before .before .before .before) .loop-test .taken)
@@ -109,7 +119,9 @@ loop-less c = omega (arith, l (c .before .before .before .before) .loop-test .ta
 
 loop-again : tie.Need-loop-again Inv-loop μ-loop
 loop-again c = let r = c .before .before .before .before in
-    let told = subst (Measured (l r .before .loop .left) (text r) (b r .args .width) (row (m r) (knownWord (b r .args .known) (r .line-address .result)) ∷ []) (m r + 1)) (c .before .rest .given .1) (c .before .before .before .measure-row .ensures) in (
+    let told = subst (Measured (l r .before .loop .left) (text r) (b r .args .width) (row (m r)
+    (knownWord (b r .args .known) (r .line-address .result)) ∷ []) (m r + 1)) (c .before .rest .given .1)
+    (c .before .before .before .measure-row .ensures) in (
       omega (arith, l r .loop-test .taken),
       part-fits (l r .before .loop .left) (part r) (left r) (next r) (told .0) ∙ l r .before .loop .inv .1,
       subst (λ (i : ℕ). At (text r) i (c .before .rest .given .0 .1 .0)) (on r) (told .1),
@@ -121,7 +133,8 @@ returns-2 c = let o = c .before .loop in
     let text = textBytes (now (a .ws)) (a .at) (a .n) in
     let f = addressFrom (a .known) (now (a .ws)) (a .place) in
     let e : a .first + o .k ≡ a .first + a .count = omega (arith, o .inv .0, c .loop-test .left) in (
-      less-nothing (o .left) ∙ ap (lessPart (o .left)) (sym (run-end (a .width) text (a .first) f (o .k) (a .count) (c .loop-test .left))) ∙ o .inv .1,
+      less-nothing (o .left) ∙ ap (lessPart (o .left)) (sym (run-end (a .width) text (a .first) f (o .k) (a .count) (c .loop-test .left)))
+          ∙ o .inv .1,
       subst (λ (i : ℕ). At text i (o .next)) e (o .inv .2),
     )
 

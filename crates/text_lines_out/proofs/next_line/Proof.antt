@@ -47,7 +47,9 @@ add-result : tie.Need-add-result Inv-loop μ-loop
 add-result c = omega (arith, c .before .before .loop-test .taken)
 
 returns : tie.Need-returns Inv-loop μ-loop
-returns c = let k = c .before in next-newline (text k) (s k .args .start) (i k) (k .before .before .loop .inv) (there k) (sym (byte k) ∙ c .if1 .taken)
+returns c =
+    let k = c .before in
+    next-newline (text k) (s k .args .start) (i k) (k .before .before .loop .inv) (there k) (sym (byte k) ∙ c .if1 .taken)
 
 add-i : tie.Need-add-i Inv-loop μ-loop
 add-i c = omega (arith, c .before .before .loop-test .taken)
@@ -56,7 +58,9 @@ loop-less : tie.Need-loop-less Inv-loop μ-loop
 loop-less c = omega (arith, c .before .before .loop-test .taken)
 
 loop-again : tie.Need-loop-again Inv-loop μ-loop
-loop-again c = let k = c .before in pass-on (text k) (s k .args .start) (i k) (k .before .before .loop .inv) (there k) (λ z. c .if1 .left (byte k ∙ z))
+loop-again c =
+    let k = c .before in
+    pass-on (text k) (s k .args .start) (i k) (k .before .before .loop .inv) (there k) (λ z. c .if1 .left (byte k ∙ z))
 
 add-result-2 : tie.Need-add-result-2 Inv-loop μ-loop
 add-result-2 c = let h = c .before .before .before .pre in search needs
@@ -65,7 +69,8 @@ returns-2 : tie.Need-returns-2 Inv-loop μ-loop
 returns-2 c = let a = c .before .before .before .args in
     let z = size-is (now (a .ws)) (a .at) (a .n) in
     subst (λ (k : ℕ). Next (textBytes (now (a .ws)) (a .at) (a .n)) (a .start) (k + 1)) z
-    (next-end (textBytes (now (a .ws)) (a .at) (a .n)) (a .start) (c .before .loop .i) (c .before .loop .inv) (omega (arith, z, c .loop-test .left)))
+    (next-end (textBytes (now (a .ws)) (a .at) (a .n)) (a .start) (c .before .loop .i) (c .before .loop .inv) (omega
+    (arith, z, c .loop-test .left)))
 
 pub next-line-spec : {M : Type 1} → statement M
 next-line-spec =

@@ -42,7 +42,8 @@ module _ (c : tie.After-smaller) where
   kept : k ≡ smaller (length (bodyAt ws (a .args .at + 1 + 3))) (2 ^ 64 - l .first)
   kept =
       c .before .before .straight-count .ensures
-      ∙ ap (λ (x : ℕ). smaller x (2 ^ 64 - c .before .before .before .before .before .before .number-at .result)) (c .before .before .before .before .before .body-len .ensures)
+      ∙ ap (λ (x : ℕ). smaller x (2 ^ 64 - c .before .before .before .before .before .before .number-at .result))
+      (c .before .before .before .before .before .body-len .ensures)
       ∙ ap (λ (x : ℕ). smaller (length (bodyAt ws (a .args .at + 1 + 3))) (2 ^ 64 - x)) first-is
 
   skips : c .smaller .result ≡ smaller (a .args .wraps - l .first) k
@@ -82,7 +83,11 @@ sub-t15 : tie.Need-sub-t15
 sub-t15 c = let s = c .before in let h = smaller-right (a s .args .wraps - l s .first) (k s) in omega (arith, skips s, h)
 
 add-t16 : tie.Need-add-t16
-add-t16 c = let s = c .before in let h = place-fits (ws s) (a s .args .at) (a s .args .wraps) (a s .args .wraps - l s .first) (k s) (s .smaller .result) (kept s) (skips s) (a s .pre .0) in search needs
+add-t16 c =
+    let s = c .before in
+    let h = place-fits (ws s) (a s .args .at) (a s .args .wraps) (a s .args .wraps - l s .first) (k s) (s .smaller .result) (kept s)
+    (skips s) (a s .pre .0) in
+    search needs
 
 lines-done-requires : tie.Need-lines-done-requires
 lines-done-requires c κs = search needs
@@ -96,7 +101,8 @@ returns c = let s = c .before .before .before in
     let at = a s .args .at in
     record {
       gap = s .before .before .before .minus .ensures
-          ∙ ap (λ (x : ℕ). x - a s .args .done) (s .before .before .before .before .smaller-line .ensures ∙ ap (λ (x : ℕ). smaller x (a s .args .lines)) f);
+          ∙ ap (λ (x : ℕ). x - a s .args .done)
+          (s .before .before .before .before .smaller-line .ensures ∙ ap (λ (x : ℕ). smaller x (a s .args .lines)) f);
       first = c .before .before .larger .ensures ∙ ap (λ (x : ℕ). a s .args .wraps + (x - a s .args .wraps)) f;
       size = block-size (ws s) at (a s .args .wraps) (s .smaller .result) (k s) (kept s) (skips s);
       rows = block-run (ws s) at (a s .args .wraps) (s .smaller .result) (k s) (kept s) (skips s) (c .before .before .larger .result)

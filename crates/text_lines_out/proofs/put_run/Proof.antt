@@ -22,7 +22,10 @@ use Rattle.text_lines_out.proofs.put_run.Statement.{statement}
 use Rattle.text_lines_out.proofs.put_run.Tie as tie
 
 abbrev Inv-loop : tie.InvT-loop
-Inv-loop out₀ ws at n width first count known place start len₀ next₀ k₀ out len next k = (k ≤ count) × Emits (rowsText width (textBytes ws at n) (runRows first (addressFrom known ws place) 0 count)) out₀ (rowsText width (textBytes ws at n) (runRows first (addressFrom known ws place) k (count - k))) (record { at = len; out = out }) × At (textBytes ws at n) (first + k) next
+Inv-loop out₀ ws at n width first count known place start len₀ next₀ k₀ out len next k =
+    (k ≤ count) × Emits (rowsText width (textBytes ws at n) (runRows first (addressFrom known ws place) 0 count)) out₀
+    (rowsText width (textBytes ws at n) (runRows first (addressFrom known ws place) k (count - k)))
+    (record { at = len; out = out }) × At (textBytes ws at n) (first + k) next
 
 abbrev μ-loop : tie.MeasureT-loop
 μ-loop out₀ ws at n width first count known place start len₀ next₀ k₀ out len next k = count - k
@@ -63,7 +66,8 @@ module _ (c : tie.After-line-address Inv-loop μ-loop) where
   next =
       run-next (b .args .width) text (b .args .first) f k (b .args .count) (l .loop-test .taken)
       ∙ ap (λ (i : ℕ). rowsText (b .args .width) text (row i (f k) ∷ []) ++ left) (sym number)
-      ∙ ap (λ (v : ℕ). rowsText (b .args .width) text (row m (knownWord (b .args .known) v) ∷ []) ++ left) (sym (c .line-address .ensures))
+      ∙ ap (λ (v : ℕ). rowsText (b .args .width) text (row m (knownWord (b .args .known) v) ∷ []) ++ left)
+      (sym (c .line-address .ensures))
 
   here : At text m (l .before .loop .next)
   here = subst (λ (i : ℕ). At text i (l .before .loop .next)) (sym number) (l .before .loop .inv .2)
@@ -75,7 +79,8 @@ emits :
     (c : tie.After-put-row Inv-loop μ-loop)
     → Emits (rowsText (b (c .before .before) .args .width) (text (c .before .before)) (runRows (b (c .before .before) .args .first) (f (c .before .before)) 0 (b (c .before .before) .args .count)))
     (now (b (c .before .before) .args .out)) (left (c .before .before))
-    (after (record { at = l (c .before .before) .before .loop .len; out = l (c .before .before) .before .loop .out }) (c .put-row .result .len) (c .put-row .last .0))
+    (after (record { at = l (c .before .before) .before .loop .len; out = l (c .before .before) .before .loop .out })
+    (c .put-row .result .len) (c .put-row .last .0))
 emits c = let r = c .before .before in emit (l r .before .loop .inv .1) (part r) (left r) (next r) (c .put-row .ensures .0)
 
 loop-holds : tie.Need-loop-holds Inv-loop μ-loop
@@ -85,7 +90,8 @@ loop-holds c = let a = c .before .before .args in
     let e : a .count - 0 ≡ a .count = omega arith in
     let z : a .first ≡ a .first + 0 = omega arith in (
       omega arith,
-      subst (λ (n : ℕ). Emits (rowsText (a .width) text (runRows (a .first) f 0 (a .count))) (now (a .out)) (rowsText (a .width) text (runRows (a .first) f 0 n)) (record { at = 0; out = now (a .out) })) (sym e) (begin _ _ (c .before .before .pre .3)),
+      subst (λ (n : ℕ). Emits (rowsText (a .width) text (runRows (a .first) f 0 (a .count))) (now (a .out)) (rowsText (a .width) text
+          (runRows (a .first) f 0 n)) (record { at = 0; out = now (a .out) })) (sym e) (begin _ _ (c .before .before .pre .3)),
       subst (λ (i : ℕ). At text i (a .start)) z (c .before .before .pre .2),
     )
 

@@ -14,7 +14,8 @@ use Rattle.text_rows_out.proofs.count_characters.Statement.{statement}
 use Rattle.text_rows_out.proofs.count_characters.Tie as tie
 
 abbrev Inv-loop : tie.InvT-loop
-Inv-loop ws at n count₀ i₀ count i = (i ≤ n) × (count ≤ i) × (count + characters (bytesFrom ws at i (n - i)) ≡ characters (textBytes ws at n))
+Inv-loop ws at n count₀ i₀ count i =
+    (i ≤ n) × (count ≤ i) × (count + characters (bytesFrom ws at i (n - i)) ≡ characters (textBytes ws at n))
 
 abbrev μ-loop : tie.MeasureT-loop
 μ-loop ws at n count₀ i₀ count i = n - i
@@ -42,14 +43,17 @@ loop-less c = omega arith
 loop-again : tie.Need-loop-again Inv-loop μ-loop
 loop-again c = let a = c .before .before .before .before .before .args in
     let loop = c .before .before .before .loop in
-    let e : c .begins .result ≡ begins (textByte (now (a .ws)) (a .at) (loop .i)) = c .begins .ensures .0 ∙ ap begins (c .before .text-byte .ensures) in (
+    let e : c .begins .result ≡ begins (textByte (now (a .ws)) (a .at) (loop .i)) = c .begins .ensures .0
+    ∙ ap begins (c .before .text-byte .ensures) in (
       omega arith,
       omega (arith, c .begins .ensures .1),
       omega (arith, e, count-here (now (a .ws)) (a .at) (loop .i) (a .n) (c .before .before .loop-test .taken)),
     )
 
 returns : tie.Need-returns Inv-loop μ-loop
-returns c = let a = c .before .before .before .args in omega (arith, count-done (now (a .ws)) (a .at) (c .before .loop .i) (a .n) (c .loop-test .left))
+returns c =
+    let a = c .before .before .before .args in
+    omega (arith, count-done (now (a .ws)) (a .at) (c .before .loop .i) (a .n) (c .loop-test .left))
 
 pub count-characters-spec : {M : Type 1} → statement M
 count-characters-spec =

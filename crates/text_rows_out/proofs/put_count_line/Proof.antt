@@ -54,13 +54,17 @@ abbrev state2 : tie.After-put-u8 → State ℕ
 state2 c = after (state1 (c .before .before .before .before)) (c .put-u8 .result) (c .put-u8 .last .0)
 
 emits2 : (c : tie.After-put-u8) → Emits (whole (start2 c)) (room (start2 c)) (left2 (start2 c)) (state2 c)
-emits2 c = let t = start2 c in emit (emits1 (c .before .before .before .before)) (0x0A ∷ []) (left2 t) (sym (append-nil _)) (c .put-u8 .ensures)
+emits2 c =
+    let t = start2 c in
+    emit (emits1 (c .before .before .before .before)) (0x0A ∷ []) (left2 t) (sym (append-nil _)) (c .put-u8 .ensures)
 
 count-digits-requires : tie.Need-count-digits-requires
 count-digits-requires c κs = search needs
 
 returns : tie.Need-returns
-returns c = too-short _ _ _ (line-length (decimal (c .before .before .before .args .count))) (omega (arith, c .if1 .taken, c .before .count-digits .ensures))
+returns c =
+    too-short _ _ _ (line-length (decimal (c .before .before .before .args .count)))
+    (omega (arith, c .if1 .taken, c .before .count-digits .ensures))
 
 sub-put-decimal : tie.Need-sub-put-decimal
 sub-put-decimal c = search needs

@@ -37,8 +37,17 @@ emits0 : (c : tie.Else2) → Emits (whole (start0 c)) (room (start0 c)) (whole (
 emits0 c = let n = c .before in
     let a = n .before .before .before .before .before .args in
     let s = textBytes (now (a .ws)) (a .at) (a .n) in
-    let e : n .missing .result ≡ a .width - characters s = n .missing .ensures ∙ ap (λ (k : ℕ). a .width - k) (n .before .count-characters .ensures) in
-    begin _ _ (omega (arith, left-length (a .width) s, bytes-length (now (a .ws)) (a .at) 0 (a .n), e, c .if2 .left, n .before .before .if1 .left))
+    let e : n .missing .result ≡ a .width - characters s = n .missing .ensures
+    ∙ ap (λ (k : ℕ). a .width - k) (n .before .count-characters .ensures) in
+    begin _ _ (omega (
+      arith,
+      left-length (a .width) s,
+      bytes-length (now (a .ws)) (a .at) 0
+          (a .n),
+      e,
+      c .if2 .left,
+      n .before .before .if1 .left,
+    ))
 
 abbrev left1 : tie.Start → List ℕ
 left1 t = spaces (t .args .width - characters (textBytes (now (t .args .ws)) (t .args .at) (t .args .n)))
@@ -50,7 +59,9 @@ abbrev state1 : tie.After-put-text → State ℕ
 state1 c = after (state0 (start1 c)) (c .put-text .result) (c .put-text .last .0)
 
 emits1 : (c : tie.After-put-text) → Emits (whole (start1 c)) (room (start1 c)) (left1 (start1 c)) (state1 c)
-emits1 c = let t = start1 c in emit (emits0 (c .before .before)) (textBytes (now (t .args .ws)) (t .args .at) (t .args .n)) (left1 t) refl (c .put-text .ensures)
+emits1 c =
+    let t = start1 c in
+    emit (emits0 (c .before .before)) (textBytes (now (t .args .ws)) (t .args .at) (t .args .n)) (left1 t) refl (c .put-text .ensures)
 
 abbrev left2 : tie.Start → List ℕ
 left2 t = []
@@ -62,12 +73,19 @@ abbrev state2 : tie.After-put-spaces → State ℕ
 state2 c = after (state1 (c .before .before .before .before)) (c .put-spaces .result) (c .put-spaces .last .0)
 
 emits2 : (c : tie.After-put-spaces) → Emits (whole (start2 c)) (room (start2 c)) (left2 (start2 c)) (state2 c)
-emits2 c = let t = start2 c in emit (emits1 (c .before .before .before .before)) (spaces (t .args .width - characters (textBytes (now (t .args .ws)) (t .args .at) (t .args .n)))) (left2 t) (sym (append-nil _)) (let n = c .before .before .before .before .before .before .before in
+emits2 c =
+    let t = start2 c in
+    emit (emits1 (c .before .before .before .before))
+    (spaces (t .args .width - characters (textBytes (now (t .args .ws)) (t .args .at) (t .args .n)))) (left2 t) (sym (append-nil _))
+    (let n = c .before .before .before .before .before .before .before in
     subst (λ (k : ℕ). Put (spaces k) (rest (state1 (c .before .before .before .before))) (c .put-spaces .result) (c .put-spaces .last .0))
     (n .missing .ensures ∙ ap (λ (k : ℕ). t .args .width - k) (n .before .count-characters .ensures)) (c .put-spaces .ensures))
 
 returns : tie.Need-returns
-returns c = let a = c .before .before .before .args in too-short _ _ _ (left-length (a .width) (textBytes (now (a .ws)) (a .at) (a .n))) (omega (arith, c .if1 .taken, bytes-length (now (a .ws)) (a .at) 0 (a .n)))
+returns c =
+    let a = c .before .before .before .args in
+    too-short _ _ _ (left-length (a .width) (textBytes (now (a .ws)) (a .at) (a .n)))
+    (omega (arith, c .if1 .taken, bytes-length (now (a .ws)) (a .at) 0 (a .n)))
 
 count-characters-requires : tie.Need-count-characters-requires
 count-characters-requires c κs = search needs
@@ -82,7 +100,10 @@ returns-2 : tie.Need-returns-2
 returns-2 c = let n = c .before in
     let a = n .before .before .before .before .before .args in
     let s = textBytes (now (a .ws)) (a .at) (a .n) in
-    let e : n .missing .result ≡ a .width - characters s = n .missing .ensures ∙ ap (λ (k : ℕ). a .width - k) (n .before .count-characters .ensures) in too-short _ _ _ (left-length (a .width) s) (omega (arith, bytes-length (now (a .ws)) (a .at) 0 (a .n), e, c .if2 .taken, n .before .before .if1 .left))
+    let e : n .missing .result ≡ a .width - characters s = n .missing .ensures
+    ∙ ap (λ (k : ℕ). a .width - k) (n .before .count-characters .ensures) in
+    too-short _ _ _ (left-length (a .width) s)
+    (omega (arith, bytes-length (now (a .ws)) (a .at) 0 (a .n), e, c .if2 .taken, n .before .before .if1 .left))
 
 sub-put-text : tie.Need-sub-put-text
 sub-put-text c = search needs

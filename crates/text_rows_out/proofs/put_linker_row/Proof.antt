@@ -36,7 +36,14 @@ start0 c = c .before .before .before .before
 
 emits0 : (c : tie.Else2) → Emits (whole (start0 c)) (room (start0 c)) (whole (start0 c)) (state0 (start0 c))
 emits0 c = let t = start0 c in
-    begin _ _ (omega (arith, linker-length (t .args .address) (textBytes (now (t .args .ws)) (t .args .at) (t .args .n)), bytes-length (now (t .args .ws)) (t .args .at) 0 (t .args .n), c .before .if1 .left, c .if2 .left))
+    begin _ _ (omega (
+      arith,
+      linker-length (t .args .address) (textBytes (now (t .args .ws)) (t .args .at) (t .args .n)),
+      bytes-length
+          (now (t .args .ws)) (t .args .at) 0 (t .args .n),
+      c .before .if1 .left,
+      c .if2 .left,
+    ))
 
 abbrev left1 : tie.Start → List ℕ
 left1 t = tableDiv ++ textLine (textBytes (now (t .args .ws)) (t .args .at) (t .args .n))
@@ -49,7 +56,10 @@ state1 c = after (state0 (start1 c)) (c .put-hex4 .result) (c .put-hex4 .last .0
 
 emits1 : (c : tie.After-put-hex4) → Emits (whole (start1 c)) (room (start1 c)) (left1 (start1 c)) (state1 c)
 unfolding ascii
-emits1 c = let t = start1 c in emit (emits0 (c .before .before)) (hex4 (t .args .address)) (left1 t) (row-parts (hex4 (t .args .address)) tableDiv (textBytes (now (t .args .ws)) (t .args .at) (t .args .n))) (c .put-hex4 .ensures)
+emits1 c =
+    let t = start1 c in
+    emit (emits0 (c .before .before)) (hex4 (t .args .address)) (left1 t)
+    (row-parts (hex4 (t .args .address)) tableDiv (textBytes (now (t .args .ws)) (t .args .at) (t .args .n))) (c .put-hex4 .ensures)
 
 abbrev left2 : tie.Start → List ℕ
 left2 t = textLine (textBytes (now (t .args .ws)) (t .args .at) (t .args .n))
@@ -75,7 +85,10 @@ state3 c = after (state2 (c .before .before .before .before)) (c .put-text .resu
 
 emits3 : (c : tie.After-put-text) → Emits (whole (start3 c)) (room (start3 c)) (left3 (start3 c)) (state3 c)
 unfolding ascii
-emits3 c = let t = start3 c in emit (emits2 (c .before .before .before .before)) (textBytes (now (t .args .ws)) (t .args .at) (t .args .n)) (left3 t) refl (c .put-text .ensures)
+emits3 c =
+    let t = start3 c in
+    emit (emits2 (c .before .before .before .before)) (textBytes (now (t .args .ws)) (t .args .at) (t .args .n)) (left3 t) refl
+    (c .put-text .ensures)
 
 abbrev left4 : tie.Start → List ℕ
 left4 t = []
@@ -88,16 +101,23 @@ state4 c = after (state3 (c .before .before .before .before)) (c .put-u8 .result
 
 emits4 : (c : tie.After-put-u8) → Emits (whole (start4 c)) (room (start4 c)) (left4 (start4 c)) (state4 c)
 unfolding ascii
-emits4 c = let t = start4 c in emit (emits3 (c .before .before .before .before)) (0x0A ∷ []) (left4 t) (sym (append-nil _)) (c .put-u8 .ensures)
+emits4 c =
+    let t = start4 c in
+    emit (emits3 (c .before .before .before .before)) (0x0A ∷ []) (left4 t) (sym (append-nil _)) (c .put-u8 .ensures)
 
 returns : tie.Need-returns
-returns c = let a = c .before .before .before .args in too-short _ _ _ (linker-length (a .address) (textBytes (now (a .ws)) (a .at) (a .n))) (omega (arith, c .if1 .taken))
+returns c =
+    let a = c .before .before .before .args in
+    too-short _ _ _ (linker-length (a .address) (textBytes (now (a .ws)) (a .at) (a .n))) (omega (arith, c .if1 .taken))
 
 sub-if2 : tie.Need-sub-if2
 sub-if2 c = search needs
 
 returns-2 : tie.Need-returns-2
-returns-2 c = let a = c .before .before .before .before .args in too-short _ _ _ (linker-length (a .address) (textBytes (now (a .ws)) (a .at) (a .n))) (omega (arith, c .if2 .taken, c .before .if1 .left, bytes-length (now (a .ws)) (a .at) 0 (a .n)))
+returns-2 c =
+    let a = c .before .before .before .before .args in
+    too-short _ _ _ (linker-length (a .address) (textBytes (now (a .ws)) (a .at) (a .n)))
+    (omega (arith, c .if2 .taken, c .before .if1 .left, bytes-length (now (a .ws)) (a .at) 0 (a .n)))
 
 sub-put-hex4 : tie.Need-sub-put-hex4
 sub-put-hex4 c = search needs

@@ -42,7 +42,11 @@ abbrev state1 : tie.After-put-memory → State ℕ
 state1 c = after (state0 (start1 c)) (c .put-memory .result) (c .put-memory .last .0)
 
 emits1 : (c : tie.After-put-memory) → Emits (whole (start1 c)) (room (start1 c)) (left1 (start1 c)) (state1 c)
-emits1 c = let t = start1 c in emit (emits0 (c .before .before)) (memoryText (memoryIn (t .args .w))) (left1 t) refl (subst (λ (p : List ℕ). Put p (rest (state0 t)) (c .put-memory .result) (c .put-memory .last .0)) (memory-known (t .args .w) _ refl) (c .put-memory .ensures))
+emits1 c =
+    let t = start1 c in
+    emit (emits0 (c .before .before)) (memoryText (memoryIn (t .args .w))) (left1 t) refl
+    (subst (λ (p : List ℕ). Put p (rest (state0 t)) (c .put-memory .result) (c .put-memory .last .0)) (memory-known
+    (t .args .w) _ refl) (c .put-memory .ensures))
 
 abbrev left2 : tie.Start → List ℕ
 left2 t = []
@@ -54,7 +58,9 @@ abbrev state2 : tie.After-put-u8 → State ℕ
 state2 c = after (state1 (c .before .before .before .before)) (c .put-u8 .result) (c .put-u8 .last .0)
 
 emits2 : (c : tie.After-put-u8) → Emits (whole (start2 c)) (room (start2 c)) (left2 (start2 c)) (state2 c)
-emits2 c = let t = start2 c in emit (emits1 (c .before .before .before .before)) (0x0A ∷ []) (left2 t) (sym (append-nil _)) (c .put-u8 .ensures)
+emits2 c =
+    let t = start2 c in
+    emit (emits1 (c .before .before .before .before)) (0x0A ∷ []) (left2 t) (sym (append-nil _)) (c .put-u8 .ensures)
 
 returns : tie.Need-returns
 returns c = too-short _ _ _ (memory-length (c .before .before .args .w)) (c .if1 .taken)

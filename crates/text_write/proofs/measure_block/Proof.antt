@@ -23,12 +23,14 @@ use Rattle.text_write.proofs.measure_block.Tie as tie
 abbrev first : tie.After-count-digits → tie.Start
 first c = c .before .before .before .before .before .before
 
-size : (c : tie.After-count-digits) → length (blockPart (now (first c .args .ws)) (first c .args .at)) ≡ c .count-digits .result + 6 + 5 * c .before .body-len .result
+size : (c : tie.After-count-digits) → length
+    (blockPart (now (first c .args .ws)) (first c .args .at)) ≡ c .count-digits .result + 6 + 5 * c .before .body-len .result
 size c =
     let a = first c .args in
     let e : kindAt (now (a .ws)) (a .at) ≡ 0 = sym (c .before .before .before .kind .ensures) ∙ c .before .before .if1 .left in
     let n : c .before .body-len .result ≡ length (bodyAt (now (a .ws)) (a .at + 1)) = c .before .body-len .ensures in
-    let d : c .count-digits .result ≡ length (decimal (length (bodyAt (now (a .ws)) (a .at + 1)))) = c .count-digits .ensures ∙ ap (λ (k : ℕ). length (decimal k)) n in
+    let d : c .count-digits .result ≡ length (decimal (length (bodyAt (now (a .ws)) (a .at + 1)))) = c .count-digits .ensures
+    ∙ ap (λ (k : ℕ). length (decimal k)) n in
     omega (arith, block-size (now (a .ws)) (a .at) e, n, d)
 
 mul-kind : tie.Need-mul-kind
@@ -41,7 +43,11 @@ kind-requires : tie.Need-kind-requires
 kind-requires c κs = search needs
 
 returns : tie.Need-returns
-returns c = let s = c .before .before .before .before in less-nothing (s .args .room) ∙ ap (lessPart (s .args .room)) (sym (block-other (now (s .args .ws)) (s .args .at) (λ z. c .if1 .taken (c .before .kind .ensures ∙ z))))
+returns c =
+    let s = c .before .before .before .before in
+    less-nothing (s .args .room)
+    ∙ ap (lessPart (s .args .room))
+    (sym (block-other (now (s .args .ws)) (s .args .at) (λ z. c .if1 .taken (c .before .kind .ensures ∙ z))))
 
 add-body-len : tie.Need-add-body-len
 add-body-len c = search needs
@@ -71,7 +77,8 @@ returns-4 : tie.Need-returns-4
 returns-4 c = let d = c .before .before in
     let room = first d .args .room in
     let total = length (blockPart (now (first d .args .ws)) (first d .args .at)) in
-    let e : room - (d .count-digits .result + 6) - 5 * d .before .body-len .result ≡ room - total = omega (arith, size d, c .before .if2 .left, c .if3 .left) in
+    let e : room - (d .count-digits .result + 6) - 5 * d .before .body-len .result ≡ room - total = omega
+    (arith, size d, c .before .if2 .left, c .if3 .left) in
     ap some e ∙ less-some room total (omega (arith, size d, c .before .if2 .left, c .if3 .left))
 
 pub measure-block-spec : {M : Type 1} → statement M

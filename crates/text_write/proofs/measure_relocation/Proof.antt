@@ -32,7 +32,11 @@ kind-requires : tie.Need-kind-requires
 kind-requires c κs = search needs
 
 returns : tie.Need-returns
-returns c = let s = c .before .before .before .before in less-nothing (s .args .room) ∙ ap (lessPart (s .args .room)) (sym (relocation-other (now (s .args .ws)) (s .args .at) (λ z. c .if1 .taken (c .before .kind .ensures ∙ z))))
+returns c =
+    let s = c .before .before .before .before in
+    less-nothing (s .args .room)
+    ∙ ap (lessPart (s .args .room))
+    (sym (relocation-other (now (s .args .ws)) (s .args .at) (λ z. c .if1 .taken (c .before .kind .ensures ∙ z))))
 
 add-body : tie.Need-add-body
 add-body c = search needs
@@ -54,7 +58,9 @@ returns-2 c = let k = c .before .before .before .before in
     let s = k .before .before .before in
     let e : kindAt (now (s .args .ws)) (s .args .at) ≡ 5 = sym (k .kind .ensures) ∙ c .before .before .before .if1 .left in
     c .measure-linker-row .ensures
-    ∙ ap (lessPart (s .args .room)) (relocation-row (now (s .args .ws)) (s .args .at) (c .before .before .body-end .result) (c .before .text-len .result) e (s .pre .1 e) (c .before .before .body-end .ensures) (c .before .text-len .ensures))
+    ∙ ap (lessPart (s .args .room))
+    (relocation-row (now (s .args .ws)) (s .args .at) (c .before .before .body-end .result) (c .before .text-len .result) e
+    (s .pre .1 e) (c .before .before .body-end .ensures) (c .before .text-len .ensures))
 
 pub measure-relocation-spec : {M : Type 1} → statement M
 measure-relocation-spec =

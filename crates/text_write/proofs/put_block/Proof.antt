@@ -41,7 +41,9 @@ emits0 : (c : tie.After-body-len) → Emits (whole (start0 c)) (room (start0 c))
 emits0 c = begin _ _ (start0 c .pre .1)
 
 abbrev left1 : tie.Start → List ℕ
-left1 t = textLine (decimal (length (bodyAt (now (t .args .ws)) (t .args .at + 1)))) ++ memoryLines (bodyAt (now (t .args .ws)) (t .args .at + 1))
+left1 t =
+    textLine (decimal (length (bodyAt (now (t .args .ws)) (t .args .at + 1)))) ++ memoryLines
+    (bodyAt (now (t .args .ws)) (t .args .at + 1))
 
 abbrev start1 : tie.After-put-address-line → tie.Start
 start1 c = start0 (c .before .before)
@@ -50,7 +52,10 @@ abbrev state1 : tie.After-put-address-line → State ℕ
 state1 c = after (state0 (start1 c)) (c .put-address-line .result) (c .put-address-line .last .0)
 
 emits1 : (c : tie.After-put-address-line) → Emits (whole (start1 c)) (room (start1 c)) (left1 (start1 c)) (state1 c)
-emits1 c = let t = start1 c in emit (emits0 (c .before .before)) (textLine (hex4 (addressIn (getD (now (t .args .ws)) (t .args .at) 0)))) (left1 t) (block-parts (now (t .args .ws)) (t .args .at) (kind-is (c .before .before))) (c .put-address-line .ensures)
+emits1 c =
+    let t = start1 c in
+    emit (emits0 (c .before .before)) (textLine (hex4 (addressIn (getD (now (t .args .ws)) (t .args .at) 0)))) (left1 t)
+    (block-parts (now (t .args .ws)) (t .args .at) (kind-is (c .before .before))) (c .put-address-line .ensures)
 
 abbrev left2 : tie.Start → List ℕ
 left2 t = memoryLines (bodyAt (now (t .args .ws)) (t .args .at + 1))
@@ -62,7 +67,12 @@ abbrev state2 : tie.After-put-count-line → State ℕ
 state2 c = after (state1 (c .before .before .before .before)) (c .put-count-line .result) (c .put-count-line .last .0)
 
 emits2 : (c : tie.After-put-count-line) → Emits (whole (start2 c)) (room (start2 c)) (left2 (start2 c)) (state2 c)
-emits2 c = let t = start2 c in emit (emits1 (c .before .before .before .before)) (textLine (decimal (length (bodyAt (now (t .args .ws)) (t .args .at + 1))))) (left2 t) refl (subst (λ (k : ℕ). Put (textLine (decimal k)) (rest (state1 (c .before .before .before .before))) (c .put-count-line .result) (c .put-count-line .last .0)) (c .before .before .before .before .before .before .body-len .ensures) (c .put-count-line .ensures))
+emits2 c =
+    let t = start2 c in
+    emit (emits1 (c .before .before .before .before)) (textLine (decimal (length (bodyAt (now (t .args .ws)) (t .args .at + 1)))))
+    (left2 t) refl (subst (λ (k : ℕ). Put (textLine (decimal k)) (rest (state1 (c .before .before .before .before)))
+    (c .put-count-line .result)
+    (c .put-count-line .last .0)) (c .before .before .before .before .before .before .body-len .ensures) (c .put-count-line .ensures))
 
 abbrev left3 : tie.Start → List ℕ
 left3 t = []
@@ -74,7 +84,10 @@ abbrev state3 : tie.After-put-memory-lines → State ℕ
 state3 c = after (state2 (c .before .before .before .before)) (c .put-memory-lines .result) (c .put-memory-lines .last .0)
 
 emits3 : (c : tie.After-put-memory-lines) → Emits (whole (start3 c)) (room (start3 c)) (left3 (start3 c)) (state3 c)
-emits3 c = let t = start3 c in emit (emits2 (c .before .before .before .before)) (memoryLines (bodyAt (now (t .args .ws)) (t .args .at + 1))) (left3 t) (sym (append-nil _)) (c .put-memory-lines .ensures)
+emits3 c =
+    let t = start3 c in
+    emit (emits2 (c .before .before .before .before)) (memoryLines (bodyAt (now (t .args .ws)) (t .args .at + 1))) (left3 t)
+    (sym (append-nil _)) (c .put-memory-lines .ensures)
 
 mul-w : tie.Need-mul-w
 mul-w c = search needs
@@ -86,7 +99,9 @@ kind-requires : tie.Need-kind-requires
 kind-requires c κs = search needs
 
 returns : tie.Need-returns
-returns c = let s = c .before .before .before .before .before in nothing-put _ (block-other (now (s .args .ws)) (s .args .at) (λ z. c .if1 .taken (c .before .kind .ensures ∙ z)))
+returns c =
+    let s = c .before .before .before .before .before in
+    nothing-put _ (block-other (now (s .args .ws)) (s .args .at) (λ z. c .if1 .taken (c .before .kind .ensures ∙ z)))
 
 add-body : tie.Need-add-body
 add-body c = search needs

@@ -47,11 +47,17 @@ module _ (c : tie.In-loop Inv-loop μ-loop) where
 emits :
     (c : tie.After-put-block Inv-loop μ-loop)
     → Emits (blocksText (ws (c .before .before))) (now (s (c .before .before) .args .out)) (new (c .before .before))
-    (after (record { at = c .before .before .before .loop .n; out = c .before .before .before .loop .out }) (c .put-block .result) (c .put-block .last .0))
+    (after (record { at = c .before .before .before .loop .n; out = c .before .before .before .loop .out }) (c .put-block .result)
+    (c .put-block .last .0))
 emits c = let l = c .before .before in emit (l .before .loop .inv .2) (blockPart (ws l) (at l)) (new l) (here l) (c .put-block .ensures)
 
 loop-holds : tie.Need-loop-holds Inv-loop μ-loop
-loop-holds c = (_, walk-start blockTable blockPart blocks-walk (now (c .before .before .args .ws)) (c .before .before .pre .0), begin _ _ (c .before .before .pre .1))
+loop-holds c = (
+  _,
+  walk-start blockTable blockPart blocks-walk (now (c .before .before .args .ws)) (c .before .before .pre .0),
+  begin _ _
+      (c .before .before .pre .1),
+)
 
 sub-put-block : tie.Need-sub-put-block Inv-loop μ-loop
 sub-put-block c = within (c .before .loop .inv .2)
@@ -63,7 +69,9 @@ part-put-block-end : tie.Need-part-put-block-end Inv-loop μ-loop
 part-put-block-end c = search needs
 
 put-block-requires : tie.Need-put-block-requires Inv-loop μ-loop
-put-block-requires c κs = let l = c .before in (l .loop-test .taken, part-room (l .before .loop .inv .2) (blockPart (ws l) (at l)) (new l) (here l))
+put-block-requires c κs =
+    let l = c .before in
+    (l .loop-test .taken, part-room (l .before .loop .inv .2) (blockPart (ws l) (at l)) (new l) (here l))
 
 add-n : tie.Need-add-n Inv-loop μ-loop
 add-n c = small (emits (c .before .before)) (omega arith)
@@ -75,12 +83,17 @@ body-end-requires : tie.Need-body-end-requires Inv-loop μ-loop
 body-end-requires c κs = search needs
 
 loop-less : tie.Need-loop-less Inv-loop μ-loop
-loop-less c = let l = c .before .before .before .before .before in let w = walk-less blockTable blockPart blocks-walk (ws l) (at l) (old l) (l .loop-test .taken) (l .before .loop .inv .1) (c .body-end .result) (c .body-end .ensures) in omega (arith, w .0, w .1)
+loop-less c =
+    let l = c .before .before .before .before .before in
+    let w = walk-less blockTable blockPart blocks-walk (ws l) (at l) (old l) (l .loop-test .taken) (l .before .loop .inv .1)
+    (c .body-end .result) (c .body-end .ensures) in
+    omega (arith, w .0, w .1)
 
 loop-again : tie.Need-loop-again Inv-loop μ-loop
 loop-again c = let l = c .before .before .before .before .before in (
   new l,
-  walk-on blockTable blockPart blocks-walk (ws l) (at l) (old l) (l .loop-test .taken) (l .before .loop .inv .1) (c .body-end .result) (c .body-end .ensures),
+  walk-on blockTable blockPart blocks-walk (ws l) (at l) (old l) (l .loop-test .taken) (l .before .loop .inv .1) (c .body-end .result)
+      (c .body-end .ensures),
   emits (c .before .before .before),
 )
 
@@ -88,7 +101,10 @@ same-length : tie.Need-same-length Inv-loop μ-loop
 same-length c = same (c .before .loop .inv .2)
 
 returns : tie.Need-returns Inv-loop μ-loop
-returns c = let o = c .before .loop in emitted (o .inv .2) (walk-end blockTable blockPart blocks-walk (now (c .before .before .before .before .args .ws)) (o .at) (o .inv .0) (c .loop-test .left) (o .inv .1))
+returns c =
+    let o = c .before .loop in
+    emitted (o .inv .2) (walk-end blockTable blockPart blocks-walk (now (c .before .before .before .before .args .ws)) (o .at)
+    (o .inv .0) (c .loop-test .left) (o .inv .1))
 
 pub put-blocks-spec : {M : Type 1} → statement M
 put-blocks-spec =

@@ -89,7 +89,9 @@ same-length : tie.Need-same-length Inv-loop μ-loop
 same-length c = same (c .before .before .loop .inv)
 
 returns : tie.Need-returns Inv-loop μ-loop
-returns c = let g = stops _ _ (sym (c .before .goes-on .ensures) ∙ c .if1 .left) in emitted (c .before .before .loop .inv) (ap memoryLines g ∙ memory-none)
+returns c =
+    let g = stops _ _ (sym (c .before .goes-on .ensures) ∙ c .if1 .left) in
+    emitted (c .before .before .loop .inv) (ap memoryLines g ∙ memory-none)
 
 pub put-memory-lines-spec : {M : Type 1} → statement M
 put-memory-lines-spec =

@@ -33,7 +33,9 @@ kind-requires : tie.Need-kind-requires
 kind-requires c κs = search needs
 
 returns : tie.Need-returns
-returns c = let s = c .before .before .before .before .before in nothing-put _ (relocation-other (now (s .args .ws)) (s .args .at) (λ z. c .if1 .taken (c .before .kind .ensures ∙ z)))
+returns c =
+    let s = c .before .before .before .before .before in
+    nothing-put _ (relocation-other (now (s .args .ws)) (s .args .at) (λ z. c .if1 .taken (c .before .kind .ensures ∙ z)))
 
 add-body : tie.Need-add-body
 add-body c = search needs
@@ -58,7 +60,8 @@ returns-2 c = let t = c .before .before .before .before in
     let k = t .before .before .before in
     let s = k .before .before .before .before in
     let e : kindAt (now (s .args .ws)) (s .args .at) ≡ 5 = sym (k .kind .ensures) ∙ t .before .before .if1 .left in
-    put-as _ _ _ (relocation-row (now (s .args .ws)) (s .args .at) (t .before .body-end .result) (t .text-len .result) e (s .pre .1 e) (t .before .body-end .ensures) (t .text-len .ensures))
+    put-as _ _ _ (relocation-row (now (s .args .ws)) (s .args .at) (t .before .body-end .result) (t .text-len .result) e (s .pre .1 e)
+    (t .before .body-end .ensures) (t .text-len .ensures))
     (c .before .before .put-linker-row .ensures)
 
 pub put-relocation-spec : {M : Type 1} → statement M
