@@ -10,11 +10,11 @@ use lib.ListN.{length, take, drop, getD, length-append, length-map, length-drop,
 use lib.Seq.{drop-drop, getD-drop, take-all, drop-cons, take-at, drop-at, length-take-le}
 use lib.Dec.{leb}
 use borrow.Author.Tests.{le-leb, lt-leb, leb-true, leb-false, le-ltb}
-use Rattle.format.specs.Basics.{Outcome, refused, given, givenOr, _>>=_, andThen, isSome, if_then_else_}
-use Rattle.format.specs.Utf8.{charAt, scalarsFrom, isUtf8}
+use Rattle.format.specs.Basics.{Outcome, refused, given, givenOr, _>>=_, andThen, isSome, if_then_else_, ascii}
+use Rattle.format.specs.Utf8.{charAt, scalarsFrom, isUtf8, characters}
 use Rattle.format.specs.ObjectFile.{LineBlock}
 use Rattle.format.specs.Source.{Span, lineCount, rawLineSpan, spanBytes}
-use Rattle.format.specs.TextWriter.{Row, plainRows, sourceCell, escape, textLine, lineRow}
+use Rattle.format.specs.TextWriter.{Row, plainRows, sourceCell, escape, textLine, lineRow, lineHeader, spaces, toLeft, tableDiv}
 use Rattle.format.proofs.ListLaws.{by-test}
 use Rattle.format.proofs.Utf8Laws.{char-one, char-ascii, char-reads}
 use Rattle.source_info.specs.Passing.{span, spanFrom}
@@ -26,7 +26,8 @@ use Rattle.object.proofs.ByteLaws.{body-word}
 use Rattle.object.specs.Texts.{textByte, bytesFrom, textBytes}
 use Rattle.text_escape.specs.Escaped.{escapeFrom, escapedIn}
 use Rattle.text_escape.specs.Rows.{lineLine}
-use Rattle.text_escape.proofs.EscapeLaws.{escape-is}
+use Rattle.text_escape.proofs.EscapeLaws.{escape-is, line-parts}
+use Rattle.text_numerals.proofs.DigitLaws.{spaces-length}
 use Rattle.text_lines_out.specs.Merge.{smaller, blockRows, straight}
 use Rattle.text_lines_out.specs.Lines.{lineFrom, At, Next, rowsText}
 use Rattle.text_lines_out.specs.Runs.{row, addressFrom, runRows}
@@ -419,3 +420,18 @@ module _ (ws : List ℕ) (at wraps : ℕ) where
     block-run first f =
         ap (runRows first (addressFrom true ws (at + 1 + 3 + skip)) 0) block-size ∙ run-block first ws (at + 1 + 3 + skip) these here-is
         ∙ ap (λ (i : ℕ). blockRows i these) f
+
+-- THE HEADER
+abbrev pub afterName : List ℕ
+afterName = ascii " | ADDR | SOURCE" ++ 0x0A ∷ []
+
+pub header-parts : (width : ℕ) → textLine (lineHeader width) ≡ ascii "LINE" ++ (spaces (width - 4) ++ afterName)
+unfolding ascii characters
+header-parts width =
+    line-parts (toLeft width (ascii "LINE")) tableDiv (ascii "ADDR") tableDiv (ascii "SOURCE")
+    ∙ append-assoc (ascii "LINE") (spaces (width - 4)) afterName
+
+pub header-length : (width : ℕ) → length (textLine (lineHeader width)) ≡ 21 + (width - 4)
+unfolding ascii
+header-length width =
+    omega (arith, ap length (header-parts width), length-append (spaces (width - 4)) afterName, spaces-length (width - 4))

@@ -5,11 +5,14 @@ use object::number_at;
 use object::text_byte;
 use text_escape::measure_line_row;
 use text_escape::put_line_row;
+use text_numerals::put_spaces;
 use units::Line;
+use writing::put_bytes;
 ghost use mathlib.Core.Path.{_≡_};
 ghost use mathlib.Core.List.{[], _∷_};
 ghost use Prim.Native.Nat.{_+_, _-_, _*_, _^_, _≤_, _<_};
 ghost use lib.ListN.{length, getD};
+ghost use Rattle.format.specs.TextWriter.{textLine, lineHeader};
 ghost use Rattle.writing.specs.Written.{Put};
 ghost use Rattle.object.specs.Texts.{textBytes};
 ghost use Rattle.object.specs.Access.{addressIn};
@@ -282,4 +285,30 @@ fn plan_block(ws: &[u32], at: usize, lines: u64, wraps: u64, done: u64) -> Plan
         place: words + skip,
         done: larger(done, lines_done(first, count, lines)),
     }
+}
+
+// What stands in the header's first column, and what follows it.
+const LINE: [u8; 4] = [0x4C, 0x49, 0x4E, 0x45];
+const ADDR_SOURCE: [u8; 17] = [
+    0x20, 0x7C, 0x20, 0x41, 0x44, 0x44, 0x52, 0x20, 0x7C, 0x20, 0x53, 0x4F, 0x55, 0x52, 0x43, 0x45, 0x0A,
+];
+
+// The header of the line table, for a column of this width.
+pub fn put_line_header(out: &mut [u8], width: usize) -> usize
+    ensures { λ r. ⌜ Put (textLine (lineHeader width)) (now (out .entry)) r (now (out .exit)) ⌝ }
+{
+    let fill = minus(width as u64, 4) as usize;
+    if out.len() < 21 {
+        return 0;
+    }
+    if out.len() - 21 < fill {
+        return 0;
+    }
+    let name = LINE;
+    let rest = ADDR_SOURCE;
+    let mut k = 0;
+    k += put_bytes(&mut out[k..], &name);
+    k += put_spaces(&mut out[k..], fill);
+    k += put_bytes(&mut out[k..], &rest);
+    k
 }
