@@ -9,13 +9,13 @@ use lib.ListN.{length, take, drop, length-append, length-take, length-drop, take
 use lib.Seq.{take-all, drop-drop, length-take-le}
 use lib.Dec.{leb, ltb}
 use borrow.Author.Tests.{le-leb, lt-leb, leb-true, leb-false, ltb-true, ltb-false}
-use Rattle.format.specs.Basics.{if_then_else_, keep}
+use Rattle.format.specs.Basics.{if_then_else_, keep, chain, All}
 use Rattle.format.specs.Sorted.{order, byOrdering, thenBy, upsert}
-use Rattle.format.specs.ObjectFile.{LineBlock, lineEnd}
+use Rattle.format.specs.ObjectFile.{LineBlock, lineEnd, apart}
 use Rattle.format.specs.Source.{lineCount}
 use Rattle.format.specs.TextWriter.{Row, rowKey, plainRows, addRows, addBlocks, lineRows}
 use Rattle.format.proofs.SortedLaws.{lt-of-compare, eq-of-compare, compare-self, compare-of-lt}
-use Rattle.format.proofs.ListLaws.{by-test}
+use Rattle.format.proofs.ListLaws.{by-test, both}
 use Rattle.text_lines_out.specs.Merge.{smaller, blockRows, straight, wrapped, mergeFrom, walkFrom}
 
 abbrev row : ℕ → Option ℕ → Row
@@ -535,3 +535,17 @@ line-walk s ls few a short =
     ∙ ap (λ (r : List Row). blockRows 0 (wrapped ls) ++ r)
     (ap (λ (i : ℕ). mergeFrom (lineCount s) i ls) (sym e) ∙ walk-is (lineCount s) w 0 ls a
     ∙ ap (λ (i : ℕ). walkFrom (lineCount s) w (smaller i (lineCount s)) ls) e)
+
+-- LINE BLOCKS OF AN OBJECT are apart where it is consistent and their first lines are 64-bit numbers
+pub apart-is : (ls : List LineBlock) → apart ls ≡ true → All (λ l. l .first < 2 ^ 64) ls → Apart 0 ls
+unfolding apart chain
+apart-is [] e a = tt
+apart-is (l ∷ ls) e a = go 0 l ls (omega arith) e a
+  where
+    go : (p : ℕ) (l : LineBlock) (ls : List LineBlock) → p ≤ l .first → chain (λ l m. leb (lineEnd l) (m .first)) (l ∷ ls) ≡ true
+        → All (λ l. l .first < 2 ^ 64) (l ∷ ls) → Apart p (l ∷ ls)
+    go p l [] h e a = (h, a .0, tt)
+    go p l (m ∷ ls) h e a =
+        unfold chain in
+        let b = both (leb (lineEnd l) (m .first)) (chain (λ l m. leb (lineEnd l) (m .first)) (m ∷ ls)) e in
+        (h, a .0, go (lineEnd l) m ls (leb-true (lineEnd l) (m .first) (b .0)) (b .1) (a .1))
