@@ -211,7 +211,8 @@ pub fn measure_line_row(
     start: usize,
     end: usize,
 ) -> Room
-    ensures { λ r. ⌜ roomOf r ≡ lessPart room (lineLine width number (knownWord known address) (escapedIn (now (ws .entry)) at start end)) ⌝ }
+    ensures { λ r. ⌜ roomOf r
+        ≡ lessPart room (lineLine width number (knownWord known address) (escapedIn (now (ws .entry)) at start end)) ⌝ }
 {
     let head = column(width, number);
     if room < 11 {
@@ -235,7 +236,8 @@ pub fn put_line_row(
     start: usize,
     end: usize,
 ) -> usize
-    ensures { λ r. ⌜ Put (lineLine width number (knownWord known address) (escapedIn (now (ws .entry)) at start end)) (now (out .entry)) r (now (out .exit)) ⌝ }
+    ensures { λ r. ⌜ Put (lineLine width number (knownWord known address) (escapedIn (now (ws .entry)) at start end))
+        (now (out .entry)) r (now (out .exit)) ⌝ }
 {
     let Room::Left(_) = measure_line_row(
         out.len(),

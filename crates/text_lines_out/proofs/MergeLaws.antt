@@ -527,7 +527,8 @@ walk-is lines w e (l ∷ ls) a =
 -- THE ROWS OF THE LINE TABLE, as a walk gives them
 pub line-walk :
     (s : List ℕ) (ls : List LineBlock) → lineCount s ≤ 2 ^ 64 → Apart 0 ls → length (wrapped ls) ≤ 2 ^ 64
-    → lineRows s ls ≡ blockRows 0 (wrapped ls) ++ walkFrom (lineCount s) (length (wrapped ls)) (smaller (length (wrapped ls)) (lineCount s)) ls
+    → lineRows s ls
+    ≡ blockRows 0 (wrapped ls) ++ walkFrom (lineCount s) (length (wrapped ls)) (smaller (length (wrapped ls)) (lineCount s)) ls
 line-walk s ls few a short =
     let w : ℕ = length (wrapped ls) in
     let e : w + (0 - w) ≡ w = omega arith in

@@ -96,7 +96,9 @@ fn put_row(
     start: usize,
 ) -> Written
     requires { ⌜ (n ≤ 3 * length (now ws)) × At (textBytes (now ws) at n) number start ⌝ }
-    ensures { λ r. ⌜ Put (rowsText width (textBytes (now (ws .entry)) at n) (row number (knownWord known address) ∷ [])) (now (out .entry)) (r .len) (now (out .exit)) × At (textBytes (now (ws .entry)) at n) (number + 1) (r .start) ⌝ }
+    ensures { λ r. ⌜ Put (rowsText width (textBytes (now (ws .entry)) at n) (row number (knownWord known address) ∷ []))
+        (now (out .entry)) (r .len) (now (out .exit))
+        × At (textBytes (now (ws .entry)) at n) (number + 1) (r .start) ⌝ }
 {
     let next = next_line(ws, at, n, start);
     let end = smaller(next, n);
@@ -132,7 +134,8 @@ fn measure_run(
     start: usize,
 ) -> Rows
     requires { ⌜ (n ≤ 3 * length (now ws)) × (first + count ≤ 2 ^ 64) × At (textBytes (now ws) at n) first start ⌝ }
-    ensures { λ r. ⌜ Measured room (textBytes (now (ws .entry)) at n) width (runRows first (addressFrom known (now (ws .entry)) place) 0 count) (first + count) r ⌝ }
+    ensures { λ r. ⌜ Measured room (textBytes (now (ws .entry)) at n) width
+        (runRows first (addressFrom known (now (ws .entry)) place) 0 count) (first + count) r ⌝ }
 {
     let mut left = room;
     let mut next = start;
@@ -174,8 +177,10 @@ fn put_run(
     start: usize,
 ) -> Written
     requires { ⌜ (n ≤ 3 * length (now ws)) × (first + count ≤ 2 ^ 64) × At (textBytes (now ws) at n) first start
-        × (length (rowsText width (textBytes (now ws) at n) (runRows first (addressFrom known (now ws) place) 0 count)) ≤ length (now out)) ⌝ }
-    ensures { λ r. ⌜ Put (rowsText width (textBytes (now (ws .entry)) at n) (runRows first (addressFrom known (now (ws .entry)) place) 0 count)) (now (out .entry)) (r .len) (now (out .exit))
+        × (length (rowsText width (textBytes (now ws) at n) (runRows first (addressFrom known (now ws) place) 0 count))
+        ≤ length (now out)) ⌝ }
+    ensures { λ r. ⌜ Put (rowsText width (textBytes (now (ws .entry)) at n)
+        (runRows first (addressFrom known (now (ws .entry)) place) 0 count)) (now (out .entry)) (r .len) (now (out .exit))
         × At (textBytes (now (ws .entry)) at n) (first + count) (r .start) ⌝ }
 {
     let mut len = 0;
@@ -289,8 +294,25 @@ fn plan_block(ws: &[u32], at: usize, lines: u64, wraps: u64, done: u64) -> Plan
 
 // What stands in the header's first column, and what follows it.
 const LINE: [u8; 4] = [0x4C, 0x49, 0x4E, 0x45];
+
 const ADDR_SOURCE: [u8; 17] = [
-    0x20, 0x7C, 0x20, 0x41, 0x44, 0x44, 0x52, 0x20, 0x7C, 0x20, 0x53, 0x4F, 0x55, 0x52, 0x43, 0x45, 0x0A,
+    0x20,
+    0x7C,
+    0x20,
+    0x41,
+    0x44,
+    0x44,
+    0x52,
+    0x20,
+    0x7C,
+    0x20,
+    0x53,
+    0x4F,
+    0x55,
+    0x52,
+    0x43,
+    0x45,
+    0x0A,
 ];
 
 // The header of the line table, for a column of this width.

@@ -76,7 +76,8 @@ nothing c =
 
 emits :
     (c : tie.After-put-escaped-char Inv-loop μ-loop)
-    → Emits (escapedIn (now (a (l (c .before .before)) .args .ws)) (a (l (c .before .before)) .args .at) (a (l (c .before .before)) .args .start) (a (l (c .before .before)) .args .end))
+    → Emits (escapedIn (now (a (l (c .before .before)) .args .ws)) (a (l (c .before .before)) .args .at)
+    (a (l (c .before .before)) .args .start) (a (l (c .before .before)) .args .end))
     (now (a (l (c .before .before)) .args .out)) (left (c .before .before))
     (after (record { at = l (c .before .before) .before .loop .n; out = l (c .before .before) .before .loop .out })
     (c .put-escaped-char .result)

@@ -32,8 +32,14 @@ start0 c = c .before .before .before .before
 
 emits0 : (c : tie.Else2) → Emits (whole (start0 c)) (room (start0 c)) (whole (start0 c)) (state0 (start0 c))
 emits0 c =
-    begin _ _ (omega (arith, header-length
-    (start0 c .args .width), c .before .before .minus .ensures, c .before .if1 .left, c .if2 .left))
+    begin _ _ (omega (
+      arith,
+      header-length
+          (start0 c .args .width),
+      c .before .before .minus .ensures,
+      c .before .if1 .left,
+      c .if2 .left,
+    ))
 
 abbrev left1 : tie.Start → List ℕ
 left1 t = spaces (t .args .width - 4) ++ afterName

@@ -77,7 +77,8 @@ module _ (c : tie.After-line-address Inv-loop μ-loop) where
 
 emits :
     (c : tie.After-put-row Inv-loop μ-loop)
-    → Emits (rowsText (b (c .before .before) .args .width) (text (c .before .before)) (runRows (b (c .before .before) .args .first) (f (c .before .before)) 0 (b (c .before .before) .args .count)))
+    → Emits (rowsText (b (c .before .before) .args .width) (text (c .before .before))
+    (runRows (b (c .before .before) .args .first) (f (c .before .before)) 0 (b (c .before .before) .args .count)))
     (now (b (c .before .before) .args .out)) (left (c .before .before))
     (after (record { at = l (c .before .before) .before .loop .len; out = l (c .before .before) .before .loop .out })
     (c .put-row .result .len) (c .put-row .last .0))

@@ -43,7 +43,8 @@ module _ (c : tie.Then1 Inv-loop μ-loop) where
 
 emits :
     (c : tie.After-put-memory-line Inv-loop μ-loop)
-    → Emits (memoryLines (bodyAt (ws (c .before .before .before)) (s (c .before .before .before) .args .at))) (now (s (c .before .before .before) .args .out))
+    → Emits (memoryLines (bodyAt (ws (c .before .before .before)) (s (c .before .before .before) .args .at)))
+    (now (s (c .before .before .before) .args .out))
     (memoryLines (bodyAt (ws (c .before .before .before)) (i (c .before .before .before) + 1)))
     (after (record { at = c .before .before .before .before .before .loop .n; out = c .before .before .before .before .before .loop .out })
     (c .put-memory-line .result) (c .put-memory-line .last .0))
