@@ -2,7 +2,7 @@
 use mathlib.Core.Path.{_≡_, refl, sym, ap, _∙_}
 use mathlib.Core.List.{List, [], _∷_}
 use mathlib.Core.Option.{some}
-use Prim.Native.Nat.{ℕ, zero, suc, _+_, _/_, _%_, _^_, _≤_, _<_, max, compare, Ordering, Ordering·lt, Ordering·eq, Ordering·gt}
+use Prim.Native.Nat.{ℕ, zero, suc, _+_, _-_, _/_, _%_, _^_, _≤_, _<_, max, compare, Ordering, Ordering·lt, Ordering·eq, Ordering·gt}
 use native.Mathlib.Omega.{arith}
 use lib.ListN.{length}
 use lib.Dec.{ltb}
@@ -37,7 +37,7 @@ decimal-rises n m h = digits-rise 19 n m [] [] h refl
 
 -- A ROW SET IN, by a measure of its number
 module _ (g : ℕ → ℕ) (least : ℕ) where
-  abbrev wide : List Row → ℕ
+  abbrev pub wide : List Row → ℕ
   wide rows = widest (λ (r : Row). g (r .number)) least rows
 
   swap-max : (a b c : ℕ) → max b (max a c) ≡ max a (max b c)
@@ -59,3 +59,44 @@ module _ (g : ℕ → ℕ) (least : ℕ) where
           unfold widest in same-max (g (r .number)) (g (b .number)) (wide bs) (ap g (eq-of-compare (r .number) (b .number) c))
       go Ordering·gt c ih =
           unfold widest in ap (max (g (b .number))) ih ∙ swap-max (g (r .number)) (g (b .number)) (wide bs)
+
+-- THE ROWS OF A BLOCK, by a measure that rises: its last line decides, or the largest 64-bit value where lines wrap
+module _ (g : ℕ → ℕ) (least : ℕ) (rise : (n m : ℕ) → n ≤ m → g n ≤ g m) where
+  absorb : (t b w : ℕ) → b ≤ t → max t (max b w) ≡ max t w
+  absorb t b w h = omega arith
+
+  below : (b w : ℕ) → b ≤ w → max b w ≡ w
+  below b w h = omega arith
+
+  at-least : (b t w : ℕ) → t ≤ w → t ≤ max b w
+  at-least b t w h = omega arith
+
+  pub wide-block :
+      (i a : ℕ) (xs : List ℕ) (rows : List Row) → i + length xs < 2 ^ 64
+      → wide g least (addRows i (a ∷ xs) rows) ≡ max (g (i + length xs)) (wide g least rows)
+  unfolding addRows
+  wide-block i a [] rows h =
+      let m : i % 2 ^ 64 ≡ i = omega arith in
+      let e : i ≡ i + 0 = omega arith in
+      ap (λ (n : ℕ). wide g least (upsert rowKey (record { number = n; address = some a }) rows)) m
+      ∙ wide-put g least (record { number = i; address = some a }) rows ∙ ap (λ (n : ℕ). max (g n) (wide g least rows)) e
+  wide-block i a (x ∷ xs) rows h =
+      let m : i % 2 ^ 64 ≡ i = omega arith in
+      let e : suc i + length xs ≡ i + suc (length xs) = omega arith in
+      wide-block (suc i) x xs (upsert rowKey (record { number = i % 2 ^ 64; address = some a }) rows) (omega arith)
+      ∙ ap (max (g (suc i + length xs)))
+      (ap (λ (n : ℕ). wide g least (upsert rowKey (record { number = n; address = some a }) rows)) m
+      ∙ wide-put g least (record { number = i; address = some a }) rows)
+      ∙ absorb (g (suc i + length xs)) (g i) (wide g least rows) (rise i (suc i + length xs) (omega arith))
+      ∙ ap (λ (n : ℕ). max (g n) (wide g least rows)) e
+
+  pub wide-wrapped :
+      (i : ℕ) (xs : List ℕ) (rows : List Row) → g (2 ^ 64 - 1) ≤ wide g least rows → wide g least (addRows i xs rows) ≡ wide g least rows
+  unfolding addRows
+  wide-wrapped i [] rows h = refl
+  wide-wrapped i (a ∷ xs) rows h =
+      let n : ℕ = i % 2 ^ 64 in
+      let r : Row = record { number = n; address = some a } in
+      let b : g n ≤ wide g least rows = (let u = rise n (2 ^ 64 - 1) (omega arith) in omega arith) in
+      let e : wide g least (upsert rowKey r rows) ≡ wide g least rows = wide-put g least r rows ∙ below (g n) (wide g least rows) b in
+      wide-wrapped (suc i) xs (upsert rowKey r rows) (omega (arith, e)) ∙ e
