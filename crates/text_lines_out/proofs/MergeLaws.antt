@@ -1,6 +1,6 @@
 -- The rows of the line table in the order of their numbers. Assumes nothing.
 use mathlib.Core.Path.{_≡_, refl, sym, ap, ap₂, subst, _∙_}
-use mathlib.Core.Bool.{Bool, true, false}
+use mathlib.Core.Bool.{Bool, true, false, _&&_, _||_}
 use mathlib.Core.List.{List, [], _∷_, _++_, flatMap, append-nil, append-assoc}
 use mathlib.Core.Option.{Option, none, some}
 use Prim.Native.Nat.{ℕ, zero, suc, _+_, _-_, _%_, _^_, _≤_, _<_, compare, Ordering, Ordering·lt, Ordering·eq, Ordering·gt}
@@ -9,13 +9,16 @@ use lib.ListN.{length, take, drop, length-append, length-take, length-drop, take
 use lib.Seq.{take-all, drop-drop, length-take-le}
 use lib.Dec.{leb, ltb}
 use borrow.Author.Tests.{le-leb, lt-leb, leb-true, leb-false, ltb-true, ltb-false}
-use Rattle.format.specs.Basics.{if_then_else_, keep, chain, All}
+use Rattle.format.specs.Basics.{given, isEmpty, isSome, every, if_then_else_, keep, chain, All}
 use Rattle.format.specs.Sorted.{order, byOrdering, thenBy, upsert}
-use Rattle.format.specs.ObjectFile.{LineBlock, lineEnd, apart}
+use Rattle.format.specs.ObjectFile.{ObjectFile, LineBlock, lineEnd, apart, neverFall, namesOf, sourceText, consistent}
+use Rattle.format.specs.Words.{objectOf}
+use Rattle.format.specs.Utf8.{isUtf8}
+use Rattle.format.proofs.WordsTrip.{words-only}
 use Rattle.format.specs.Source.{lineCount}
 use Rattle.format.specs.TextWriter.{Row, rowKey, plainRows, addRows, addBlocks, lineRows}
 use Rattle.format.proofs.SortedLaws.{lt-of-compare, eq-of-compare, compare-self, compare-of-lt}
-use Rattle.format.proofs.ListLaws.{by-test, both}
+use Rattle.format.proofs.ListLaws.{by-test, both, all-map}
 use Rattle.text_lines_out.specs.Merge.{smaller, blockRows, straight, wrapped, mergeFrom, walkFrom}
 
 abbrev row : ℕ → Option ℕ → Row
@@ -550,3 +553,20 @@ apart-is (l ∷ ls) e a = go 0 l ls (omega arith) e a
         unfold chain in
         let b = both (leb (lineEnd l) (m .first)) (chain (λ l m. leb (lineEnd l) (m .first)) (m ∷ ls)) e in
         (h, a .0, go (lineEnd l) m ls (leb-true (lineEnd l) (m .first) (b .0)) (b .1) (a .1))
+
+pub lines-apart : (ws : List ℕ) (h : ObjectFile) → objectOf ws ≡ given h → Apart 0 (h .lineBlocks)
+unfolding consistent
+lines-apart ws h e =
+    let w = words-only ws h e in
+    let a = every (λ b. leb (length (b .words)) 65535) (h .blocks) in
+    let b = apart (h .lineBlocks) in
+    let c = every (λ l. neverFall (l .addresses)) (h .lineBlocks) in
+    let d = isEmpty (h .lineBlocks) || isSome (h .source) in
+    let n = every isUtf8 (namesOf h) in
+    let s = isUtf8 (sourceText (h .source)) in
+    apart-is (h .lineBlocks) (second a b c d n s (w .1 .consistent))
+    (all-map (λ l i. let k : l .first < 2 ^ 64 = i .0 in k) (h .lineBlocks) (w .2 .lineBlocks))
+  where
+    second : (a b c d n s : Bool) → (a && b && c && d && n && s) ≡ true → b ≡ true
+    second a b c d n s e =
+        both a b (both (a && b) c (both (a && b && c) d (both (a && b && c && d) n (both (a && b && c && d && n) s e .0) .0) .0) .0) .1
