@@ -115,7 +115,8 @@ pub fn count_hex(n: u64) -> usize
     ensures { λ r. ⌜ r ≡ length (numeral 19 16 n []) ⌝ }
 {
     let m = digits_of(n, 16);
-    20 - m.start
+    let start = m.start;
+    20 - start
 }
 
 // The lower-case hexadecimal numeral of `n`.
