@@ -111,12 +111,17 @@ spaces-length zero = refl
 spaces-length (suc n) = ap suc (spaces-length n)
 
 -- the digits lent are the numeral
+pub as-numeral :
+    (base n s : ℕ) (bytes room : List ℕ) (r : ℕ) (after : List ℕ) → length bytes ≡ 20 → drop s bytes ≡ numeral 19 base n []
+    → Put (take (20 - s) (drop s bytes)) room r after → Put (numeral 19 base n []) room r after
+as-numeral base n s bytes room r after e q p =
+    subst (λ (x : List ℕ). Put x room r after) (take-all (20 - s) (drop s bytes) (omega (arith, length-drop s bytes)) ∙ q) p
+
 pub as-decimal :
     (n s : ℕ) (bytes room : List ℕ) (r : ℕ) (after : List ℕ) → length bytes ≡ 20 → drop s bytes ≡ numeral 19 10 n []
     → Put (take (20 - s) (drop s bytes)) room r after → Put (decimal n) room r after
 unfolding decimal
-as-decimal n s bytes room r after e q p =
-    subst (λ (x : List ℕ). Put x room r after) (take-all (20 - s) (drop s bytes) (omega (arith, length-drop s bytes)) ∙ q) p
+as-decimal n s bytes room r after e q p = as-numeral 10 n s bytes room r after e q p
 
 -- a text in its column
 module _ (width : ℕ) (t : List ℕ) where

@@ -110,6 +110,25 @@ pub fn put_decimal(out: &mut [u8], n: u64) -> usize
     put_bytes(out, &bytes[start..])
 }
 
+// How many digits the lower-case hexadecimal numeral of `n` has.
+pub fn count_hex(n: u64) -> usize
+    ensures { λ r. ⌜ r ≡ length (numeral 19 16 n []) ⌝ }
+{
+    let m = digits_of(n, 16);
+    let start = m.start;
+    20 - start
+}
+
+// The lower-case hexadecimal numeral of `n`.
+pub fn put_hex(out: &mut [u8], n: u64) -> usize
+    ensures { λ r. ⌜ Put (numeral 19 16 n []) (now (out .entry)) r (now (out .exit)) ⌝ }
+{
+    let m = digits_of(n, 16);
+    let bytes = m.bytes;
+    let start = m.start;
+    put_bytes(out, &bytes[start..])
+}
+
 // As many spaces.
 pub fn put_spaces(out: &mut [u8], n: usize) -> usize
     ensures { λ r. ⌜ Put (spaces n) (now (out .entry)) r (now (out .exit)) ⌝ }

@@ -1,0 +1,2 @@
+pub mod Escaped
+pub mod Rows

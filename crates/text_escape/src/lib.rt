@@ -1,0 +1,264 @@
+// `escape_default` of the source, as it lies in text words, and the rows of the line table, whose last cell it is.
+use measuring::Room;
+use text_numerals::count_digits;
+use text_numerals::count_hex;
+use text_numerals::put_hex;
+use text_numerals::put_memory;
+use text_numerals::put_right;
+use utf8::Char;
+use writing::put_bytes;
+use writing::put_u8;
+ghost use mathlib.Core.Path.{_≡_};
+ghost use Prim.Native.Nat.{_+_, _≤_, _<_};
+ghost use lib.ListN.{length, drop, getD};
+ghost use Rattle.format.specs.Utf8.{charAt};
+ghost use Rattle.format.specs.TextWriter.{escapeChar, decimal, toRight};
+ghost use Rattle.writing.specs.Written.{Put};
+ghost use Rattle.utf8.specs.Chars.{charOf};
+ghost use Rattle.object.specs.Texts.{textBytes};
+ghost use Rattle.measuring.specs.Room.{roomOf, lessPart};
+ghost use Rattle.text_numerals.specs.Memory.{knownWord};
+ghost use Rattle.text_escape.specs.Escaped.{letterOf, codeText, escapedIn};
+ghost use Rattle.text_escape.specs.Rows.{lineLine};
+
+// What a character is escaped with: \u{
+const UNICODE: [u8; 3] = [0x5C, 0x75, 0x7B];
+
+// 000's TABLE_DIV.
+const TABLE_DIV: [u8; 3] = [0x20, 0x7C, 0x20];
+
+// The letter after the backslash of a character that has one; 0 of others. Letters pass at the first test.
+fn letter(c: u32) -> u8
+    ensures { λ r. ⌜ r ≡ letterOf c ⌝ }
+{
+    if 0x5C < c {
+        return 0;
+    }
+    if c == 0x5C {
+        return 0x5C;
+    }
+    if 0x27 < c {
+        return 0;
+    }
+    if c == 0x27 {
+        return 0x27;
+    }
+    if c == 0x22 {
+        return 0x22;
+    }
+    if c == 0x0A {
+        return 0x6E;
+    }
+    if c == 0x0D {
+        return 0x72;
+    }
+    if c == 0x09 {
+        return 0x74;
+    }
+    0
+}
+
+// How many bytes a character is escaped as.
+fn escaped_len(c: u32) -> usize
+    requires { ⌜ c < 0x110000 ⌝ }
+    ensures { λ r. ⌜ r ≡ length (escapeChar c) ⌝ }
+{
+    if letter(c) != 0 {
+        return 2;
+    }
+    if c < 0x20 {
+        return count_hex(c as u64) + 4;
+    }
+    if 0x7E < c {
+        return count_hex(c as u64) + 4;
+    }
+    1
+}
+
+// A character by its number.
+fn put_code(out: &mut [u8], c: u32) -> usize
+    ensures { λ r. ⌜ Put (codeText c) (now (out .entry)) r (now (out .exit)) ⌝ }
+{
+    let n = c as u64;
+    if out.len() < count_hex(n) + 4 {
+        return 0;
+    }
+    let open = UNICODE;
+    let mut at = 0;
+    at += put_bytes(&mut out[at..], &open);
+    at += put_hex(&mut out[at..], n);
+    at += put_u8(&mut out[at..], 0x7D);
+    at
+}
+
+// A character, escaped.
+fn put_escaped_char(out: &mut [u8], c: u32) -> usize
+    requires { ⌜ c < 0x110000 ⌝ }
+    ensures { λ r. ⌜ Put (escapeChar c) (now (out .entry)) r (now (out .exit)) ⌝ }
+{
+    let l = letter(c);
+    if l != 0 {
+        let pair = [0x5C, l];
+        return put_bytes(out, &pair);
+    }
+    if c < 0x20 {
+        return put_code(out, c);
+    }
+    if 0x7F <= c {
+        return put_code(out, c);
+    }
+    put_u8(out, c as u8)
+}
+
+// Byte `i + k` of the first `end` bytes of a text; 0 past them.
+fn byte_after(ws: &[u32], at: usize, i: usize, k: usize, end: usize) -> u8
+    requires { ⌜ i < end ⌝ }
+    ensures { λ r. ⌜ r ≡ getD (textBytes (now (ws .entry)) at end) (i + k) 0 ⌝ }
+{
+    if end - i <= k {
+        return 0;
+    }
+    object::text_byte(ws, at, i + k)
+}
+
+// The character at byte `i` of the first `end` bytes of a text.
+fn char_in(ws: &[u32], at: usize, i: usize, end: usize) -> Char
+    requires { ⌜ i < end ⌝ }
+    ensures { λ r. ⌜ charOf r ≡ charAt (drop i (textBytes (now (ws .entry)) at end)) ⌝ }
+{
+    let a = object::text_byte(ws, at, i);
+    if a < 0x80 {
+        return Char::Scalar {
+            value: a as u32,
+            more: 0,
+        };
+    }
+    let b = byte_after(ws, at, i, 1, end);
+    let c = byte_after(ws, at, i, 2, end);
+    let d = byte_after(ws, at, i, 3, end);
+    let four = [a, b, c, d];
+    utf8::char_at(&four, 0)
+}
+
+// The room that the bytes from `start` up to `end` of a text leave, escaped.
+pub fn measure_escaped(room: usize, ws: &[u32], at: usize, start: usize, end: usize) -> Room
+    ensures { λ r. ⌜ roomOf r ≡ lessPart room (escapedIn (now (ws .entry)) at start end) ⌝ }
+{
+    let mut left = room;
+    let mut i = start;
+    while i < end {
+        let Char::Scalar { value, more } = char_in(ws, at, i, end) else {
+            return Room::Left(left);
+        };
+        let n = escaped_len(value);
+        if left < n {
+            return Room::Short;
+        }
+        left -= n;
+        i += more + 1;
+    }
+    Room::Left(left)
+}
+
+// They, escaped, into a room that suffices.
+fn put_chars(out: &mut [u8], ws: &[u32], at: usize, start: usize, end: usize) -> usize
+    requires { ⌜ length (escapedIn (now ws) at start end) ≤ length (now out) ⌝ }
+    ensures { λ r. ⌜ Put (escapedIn (now (ws .entry)) at start end) (now (out .entry)) r (now (out .exit)) ⌝ }
+{
+    let mut n = 0;
+    let mut i = start;
+    while i < end {
+        let Char::Scalar { value, more } = char_in(ws, at, i, end) else {
+            return n;
+        };
+        n += put_escaped_char(&mut out[n..], value);
+        i += more + 1;
+    }
+    n
+}
+
+// They, escaped.
+pub fn put_escaped(out: &mut [u8], ws: &[u32], at: usize, start: usize, end: usize) -> usize
+    ensures { λ r. ⌜ Put (escapedIn (now (ws .entry)) at start end) (now (out .entry)) r (now (out .exit)) ⌝ }
+{
+    match measure_escaped(out.len(), ws, at, start, end) {
+        Room::Left(_) => put_chars(out, ws, at, start, end),
+        Room::Short => 0,
+    }
+}
+
+// How wide a number is in a column.
+fn column(width: usize, number: u64) -> usize
+    ensures { λ r. ⌜ r ≡ length (toRight width (decimal number)) ⌝ }
+{
+    let len = count_digits(number);
+    if width < len {
+        return len;
+    }
+    width
+}
+
+// The room that a row of the line table leaves: a line number, its address if it is known, and the bytes from `start` up to `end` of
+// the source.
+pub fn measure_line_row(
+    room: usize,
+    width: usize,
+    number: u64,
+    known: bool,
+    address: u16,
+    ws: &[u32],
+    at: usize,
+    start: usize,
+    end: usize,
+) -> Room
+    ensures { λ r. ⌜ roomOf r
+        ≡ lessPart room (lineLine width number (knownWord known address) (escapedIn (now (ws .entry)) at start end)) ⌝ }
+{
+    let head = column(width, number);
+    if room < 11 {
+        return Room::Short;
+    }
+    if room - 11 < head {
+        return Room::Short;
+    }
+    measure_escaped(room - 11 - head, ws, at, start, end)
+}
+
+// It, written.
+pub fn put_line_row(
+    out: &mut [u8],
+    width: usize,
+    number: u64,
+    known: bool,
+    address: u16,
+    ws: &[u32],
+    at: usize,
+    start: usize,
+    end: usize,
+) -> usize
+    ensures { λ r. ⌜ Put (lineLine width number (knownWord known address) (escapedIn (now (ws .entry)) at start end))
+        (now (out .entry)) r (now (out .exit)) ⌝ }
+{
+    let Room::Left(_) = measure_line_row(
+        out.len(),
+        width,
+        number,
+        known,
+        address,
+        ws,
+        at,
+        start,
+        end,
+    ) else {
+        return 0;
+    };
+    let div = TABLE_DIV;
+    let mut k = 0;
+    k += put_right(&mut out[k..], width, number);
+    k += put_bytes(&mut out[k..], &div);
+    k += put_memory(&mut out[k..], known, address);
+    k += put_bytes(&mut out[k..], &div);
+    k += put_chars(&mut out[k..], ws, at, start, end);
+    k += put_u8(&mut out[k..], 0x0A);
+    k
+}

@@ -1,0 +1,3 @@
+pub mod MergeLaws
+pub mod LineLaws
+pub mod WidthLaws

@@ -1,0 +1,189 @@
+-- Three parts. Assumes nothing.
+use borrow.Author.Needs.{needs}
+use native.Mathlib.Omega.{arith}
+use mathlib.Core.Path.{_≡_, refl, sym, ap, subst, _∙_}
+use mathlib.Core.List.{List, [], _∷_, _++_, append-nil}
+use Prim.Native.Nat.{ℕ, _+_, _-_, _≤_, _<_}
+use lib.ListN.{length}
+use denote.Ref.{now}
+use Rattle.writing.specs.Written.{Put}
+use Rattle.writing.proofs.WriteLaws.{too-short}
+use Rattle.writing.proofs.Parts.{State, Emits, rest, after, begin, emit, emitted, within, small}
+use Rattle.format.specs.Basics.{ascii}
+use Rattle.format.specs.TextWriter.{spaces, textLine, lineHeader}
+use Rattle.text_lines_out.proofs.LineLaws.{afterName, header-parts, header-length}
+use Rattle.text_lines_out.proofs.minus.Reads as minus-reads
+use Rattle.text_numerals.proofs.put_spaces.Reads as put-spaces-reads
+use Rattle.writing.proofs.put_bytes.Reads as put-bytes-reads
+use Rattle.text_lines_out.proofs.put_line_header.Statement.{statement}
+use Rattle.text_lines_out.proofs.put_line_header.Tie as tie
+
+abbrev room : tie.Start → List ℕ
+room t = now (t .args .out)
+
+abbrev whole : tie.Start → List ℕ
+whole t = textLine (lineHeader (t .args .width))
+
+abbrev state0 : tie.Start → State ℕ
+state0 t = record { at = 0; out = room t }
+
+abbrev start0 : tie.Else2 → tie.Start
+start0 c = c .before .before .before .before
+
+emits0 : (c : tie.Else2) → Emits (whole (start0 c)) (room (start0 c)) (whole (start0 c)) (state0 (start0 c))
+emits0 c =
+    begin _ _ (omega (
+      arith,
+      header-length
+          (start0 c .args .width),
+      c .before .before .minus .ensures,
+      c .before .if1 .left,
+      c .if2 .left,
+    ))
+
+abbrev left1 : tie.Start → List ℕ
+left1 t = spaces (t .args .width - 4) ++ afterName
+
+abbrev start1 : tie.After-put-bytes → tie.Start
+start1 c = start0 (c .before .before .before)
+
+abbrev state1 : tie.After-put-bytes → State ℕ
+state1 c = after (state0 (start1 c)) (c .put-bytes .result) (c .put-bytes .last .0)
+
+emits1 : (c : tie.After-put-bytes) → Emits (whole (start1 c)) (room (start1 c)) (left1 (start1 c)) (state1 c)
+unfolding ascii
+emits1 c =
+    let t = start1 c in
+    emit (emits0 (c .before .before .before)) (ascii "LINE") (left1 t) (header-parts (t .args .width)) (c .put-bytes .ensures)
+
+abbrev left2 : tie.Start → List ℕ
+left2 t = afterName
+
+abbrev start2 : tie.After-put-spaces → tie.Start
+start2 c = start1 (c .before .before .before .before)
+
+abbrev state2 : tie.After-put-spaces → State ℕ
+state2 c = after (state1 (c .before .before .before .before)) (c .put-spaces .result) (c .put-spaces .last .0)
+
+emits2 : (c : tie.After-put-spaces) → Emits (whole (start2 c)) (room (start2 c)) (left2 (start2 c)) (state2 c)
+unfolding ascii
+emits2 c =
+    let t = start2 c in
+    emit (emits1 (c .before .before .before .before)) (spaces (t .args .width - 4)) (left2 t) refl
+    (subst (λ (n : ℕ). Put (spaces n) (rest (state1 (c .before .before .before .before))) (c .put-spaces .result)
+    (c .put-spaces .last .0)) (c .before .before .before .before .before .before .before .before .before .minus .ensures)
+    (c .put-spaces .ensures))
+
+abbrev left3 : tie.Start → List ℕ
+left3 t = []
+
+abbrev start3 : tie.After-put-bytes2 → tie.Start
+start3 c = start2 (c .before .before .before .before .before)
+
+abbrev state3 : tie.After-put-bytes2 → State ℕ
+state3 c = after (state2 (c .before .before .before .before .before)) (c .put-bytes2 .result) (c .put-bytes2 .last .0)
+
+emits3 : (c : tie.After-put-bytes2) → Emits (whole (start3 c)) (room (start3 c)) (left3 (start3 c)) (state3 c)
+unfolding ascii
+emits3 c =
+    let t = start3 c in
+    emit (emits2 (c .before .before .before .before .before)) (afterName) (left3 t) (sym (append-nil _)) (c .put-bytes2 .ensures)
+
+minus-requires : tie.Need-minus-requires
+minus-requires c κs = search needs
+
+returns : tie.Need-returns
+returns c = let a = c .before .before .before .args in too-short _ _ _ (header-length (a .width)) (omega (arith, c .if1 .taken))
+
+sub-if2 : tie.Need-sub-if2
+sub-if2 c = search needs
+
+returns-2 : tie.Need-returns-2
+returns-2 c =
+    let a = c .before .before .before .before .args in
+    too-short _ _ _ (header-length (a .width)) (omega (arith, c .before .if1 .left, c .if2 .taken, c .before .before .minus .ensures))
+
+sub-put-bytes : tie.Need-sub-put-bytes
+sub-put-bytes c = search needs
+
+part-put-bytes-start : tie.Need-part-put-bytes-start
+part-put-bytes-start c = search needs
+
+part-put-bytes-end : tie.Need-part-put-bytes-end
+part-put-bytes-end c = search needs
+
+slice-aggregate-put-bytes : tie.Need-slice-aggregate-put-bytes
+slice-aggregate-put-bytes c = search needs
+
+put-bytes-requires : tie.Need-put-bytes-requires
+put-bytes-requires c κs = search needs
+
+add-k : tie.Need-add-k
+add-k c = search needs
+
+sub-put-spaces : tie.Need-sub-put-spaces
+sub-put-spaces c = within (emits1 (c .before .before))
+
+part-put-spaces-start : tie.Need-part-put-spaces-start
+part-put-spaces-start c = within (emits1 (c .before .before))
+
+part-put-spaces-end : tie.Need-part-put-spaces-end
+part-put-spaces-end c = search needs
+
+put-spaces-requires : tie.Need-put-spaces-requires
+put-spaces-requires c κs = search needs
+
+add-k-2 : tie.Need-add-k-2
+add-k-2 c = small (emits2 (c .before .before)) (omega arith)
+
+sub-put-bytes-2 : tie.Need-sub-put-bytes-2
+sub-put-bytes-2 c = within (emits2 (c .before .before))
+
+part-put-bytes-start-2 : tie.Need-part-put-bytes-start-2
+part-put-bytes-start-2 c = within (emits2 (c .before .before))
+
+part-put-bytes-end-2 : tie.Need-part-put-bytes-end-2
+part-put-bytes-end-2 c = search needs
+
+slice-aggregate-put-bytes-2 : tie.Need-slice-aggregate-put-bytes-2
+slice-aggregate-put-bytes-2 c = search needs
+
+put-bytes-requires-2 : tie.Need-put-bytes-requires-2
+put-bytes-requires-2 c κs = search needs
+
+add-k-3 : tie.Need-add-k-3
+add-k-3 c = small (emits3 (c .before .before)) (omega arith)
+
+same-length : tie.Need-same-length
+same-length c = search needs
+
+returns-3 : tie.Need-returns-3
+returns-3 c = emitted (emits3 (c .before .before)) refl
+
+pub put-line-header-spec : {M : Type 1} → statement M
+put-line-header-spec =
+    tie.close
+    (tie.spec
+    minus-requires
+    returns
+    sub-if2
+    returns-2
+    sub-put-bytes
+    part-put-bytes-start
+    part-put-bytes-end
+    slice-aggregate-put-bytes
+    put-bytes-requires
+    add-k
+    sub-put-spaces
+    part-put-spaces-start
+    part-put-spaces-end
+    put-spaces-requires
+    add-k-2
+    sub-put-bytes-2
+    part-put-bytes-start-2
+    part-put-bytes-end-2
+    slice-aggregate-put-bytes-2
+    put-bytes-requires-2
+    add-k-3
+    same-length
+    returns-3)

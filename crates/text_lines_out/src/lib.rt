@@ -1,0 +1,336 @@
+// The line table of the text form: rows in the order of their numbers, found in one walk along the line blocks and one along the source.
+use measuring::Room;
+use object::body_len;
+use object::number_at;
+use object::text_byte;
+use text_escape::measure_line_row;
+use text_escape::put_line_row;
+use text_numerals::put_spaces;
+use units::Line;
+use writing::put_bytes;
+ghost use mathlib.Core.Path.{_≡_};
+ghost use mathlib.Core.List.{[], _∷_};
+ghost use Prim.Native.Nat.{_+_, _-_, _*_, _^_, _≤_, _<_};
+ghost use lib.ListN.{length, getD};
+ghost use Rattle.format.specs.TextWriter.{textLine, lineHeader};
+ghost use Rattle.writing.specs.Written.{Put};
+ghost use Rattle.object.specs.Texts.{textBytes};
+ghost use Rattle.object.specs.Access.{addressIn};
+ghost use Rattle.text_numerals.specs.Memory.{knownWord};
+ghost use Rattle.measuring.specs.Room.{lessPart};
+ghost use Rattle.text_lines_out.specs.Lines.{At, Next, rowsText};
+ghost use Rattle.text_lines_out.specs.Merge.{smaller};
+ghost use Rattle.text_lines_out.specs.Runs.{row, Measured, addressFrom, runRows, Planned};
+
+// Where the line after the one that starts at byte `start` of a source of `n` bytes starts; past the last line, one byte past the
+// source.
+fn next_line(ws: &[u32], at: usize, n: usize, start: usize) -> usize
+    requires { ⌜ n ≤ 3 * length (now ws) ⌝ }
+    ensures { λ r. ⌜ Next (textBytes (now (ws .entry)) at n) start r ⌝ }
+{
+    let mut i = start;
+    while i < n {
+        if text_byte(ws, at, i) == 10 {
+            return i + 1;
+        }
+        i += 1;
+    }
+    n + 1
+}
+
+// The smaller of two.
+fn smaller(a: usize, b: usize) -> usize
+    ensures { λ r. ⌜ r ≡ smaller a b ⌝ }
+{
+    if a < b {
+        return a;
+    }
+    b
+}
+
+// What is left of the room after rows, and where the line of the next row starts.
+enum Rows {
+    Left(usize, usize),
+    Short,
+}
+
+// How much rows have filled, and where the line of the next row starts.
+struct Written {
+    len: usize,
+    start: usize,
+}
+
+// The room that a row leaves: a number, its address if it is known, and the line that starts at byte `start`.
+fn measure_row(
+    room: usize,
+    ws: &[u32],
+    at: usize,
+    n: usize,
+    width: usize,
+    number: u64,
+    known: bool,
+    address: u16,
+    start: usize,
+) -> Rows
+    requires { ⌜ (n ≤ 3 * length (now ws)) × At (textBytes (now ws) at n) number start ⌝ }
+    ensures { λ r. ⌜ Measured room (textBytes (now (ws .entry)) at n) width (row number (knownWord known address) ∷ []) (number + 1) r ⌝ }
+{
+    let next = next_line(ws, at, n, start);
+    let end = smaller(next, n);
+    match measure_line_row(room, width, number, known, address, ws, at, start, end) {
+        Room::Left(left) => Rows::Left(left, next),
+        Room::Short => Rows::Short,
+    }
+}
+
+// A row, written.
+fn put_row(
+    out: &mut [u8],
+    ws: &[u32],
+    at: usize,
+    n: usize,
+    width: usize,
+    number: u64,
+    known: bool,
+    address: u16,
+    start: usize,
+) -> Written
+    requires { ⌜ (n ≤ 3 * length (now ws)) × At (textBytes (now ws) at n) number start ⌝ }
+    ensures { λ r. ⌜ Put (rowsText width (textBytes (now (ws .entry)) at n) (row number (knownWord known address) ∷ []))
+        (now (out .entry)) (r .len) (now (out .exit))
+        × At (textBytes (now (ws .entry)) at n) (number + 1) (r .start) ⌝ }
+{
+    let next = next_line(ws, at, n, start);
+    let end = smaller(next, n);
+    let len = put_line_row(out, width, number, known, address, ws, at, start, end);
+    Written { len, start: next }
+}
+
+// The line's address in word `k` from a place on; 0 past the last word.
+fn line_address(ws: &[u32], place: usize, k: usize) -> u16
+    ensures { λ r. ⌜ r ≡ addressIn (getD (now (ws .entry)) (place + k) 0) ⌝ }
+{
+    if ws.len() <= place {
+        return 0;
+    }
+    if ws.len() - place <= k {
+        return 0;
+    }
+    (ws[place + k] % 0x1_0000) as u16
+}
+
+// The room that rows of `count` lines leave, from line `first` on: with the addresses from a place on if they are known, else with
+// none.
+fn measure_run(
+    room: usize,
+    ws: &[u32],
+    at: usize,
+    n: usize,
+    width: usize,
+    first: u64,
+    count: usize,
+    known: bool,
+    place: usize,
+    start: usize,
+) -> Rows
+    requires { ⌜ (n ≤ 3 * length (now ws)) × (first + count ≤ 2 ^ 64) × At (textBytes (now ws) at n) first start ⌝ }
+    ensures { λ r. ⌜ Measured room (textBytes (now (ws .entry)) at n) width
+        (runRows first (addressFrom known (now (ws .entry)) place) 0 count) (first + count) r ⌝ }
+{
+    let mut left = room;
+    let mut next = start;
+    let mut k = 0;
+    while k < count {
+        let line = Line(first).wrapping_add(k as u64);
+        let address = line_address(ws, place, k);
+        let Rows::Left(rest, after) = measure_row(
+            left,
+            ws,
+            at,
+            n,
+            width,
+            line.0,
+            known,
+            address,
+            next,
+        ) else {
+            return Rows::Short;
+        };
+        left = rest;
+        next = after;
+        k += 1;
+    }
+    Rows::Left(left, next)
+}
+
+// They, written into a room that suffices.
+fn put_run(
+    out: &mut [u8],
+    ws: &[u32],
+    at: usize,
+    n: usize,
+    width: usize,
+    first: u64,
+    count: usize,
+    known: bool,
+    place: usize,
+    start: usize,
+) -> Written
+    requires { ⌜ (n ≤ 3 * length (now ws)) × (first + count ≤ 2 ^ 64) × At (textBytes (now ws) at n) first start
+        × (length (rowsText width (textBytes (now ws) at n) (runRows first (addressFrom known (now ws) place) 0 count))
+        ≤ length (now out)) ⌝ }
+    ensures { λ r. ⌜ Put (rowsText width (textBytes (now (ws .entry)) at n)
+        (runRows first (addressFrom known (now (ws .entry)) place) 0 count)) (now (out .entry)) (r .len) (now (out .exit))
+        × At (textBytes (now (ws .entry)) at n) (first + count) (r .start) ⌝ }
+{
+    let mut len = 0;
+    let mut next = start;
+    let mut k = 0;
+    while k < count {
+        let line = Line(first).wrapping_add(k as u64);
+        let address = line_address(ws, place, k);
+        let row = put_row(
+            &mut out[len..],
+            ws,
+            at,
+            n,
+            width,
+            line.0,
+            known,
+            address,
+            next,
+        );
+        len += row.len;
+        next = row.start;
+        k += 1;
+    }
+    Written { len, start: next }
+}
+
+// The larger of two numbers.
+fn larger(a: u64, b: u64) -> u64
+    ensures { λ r. ⌜ r ≡ a + (b - a) ⌝ }
+{
+    if a < b {
+        return b;
+    }
+    a
+}
+
+// How much the first number is larger.
+fn minus(a: u64, b: u64) -> u64
+    ensures { λ r. ⌜ r ≡ a - b ⌝ }
+{
+    if a < b {
+        return 0;
+    }
+    a - b
+}
+
+// The smaller of two line numbers.
+fn smaller_line(a: u64, b: u64) -> u64
+    ensures { λ r. ⌜ r ≡ smaller a b ⌝ }
+{
+    if a < b {
+        return a;
+    }
+    b
+}
+
+// How many of the lines of a block don't wrap.
+fn straight_count(first: u64, count: usize) -> usize
+    ensures { λ r. ⌜ r ≡ smaller count (2 ^ 64 - first) ⌝ }
+{
+    let last = 0xFFFF_FFFF_FFFF_FFFF - first;
+    if count as u64 <= last {
+        return count;
+    }
+    last as usize + 1
+}
+
+// How many of the source's lines are done past a block.
+fn lines_done(first: u64, count: usize, lines: u64) -> u64
+    ensures { λ r. ⌜ r ≡ smaller (first + count) lines ⌝ }
+{
+    if lines <= first {
+        return lines;
+    }
+    if lines - first <= count as u64 {
+        return lines;
+    }
+    first + count as u64
+}
+
+// The rows of a line block: so many of the source before it; then its own, from a line on, with the addresses from a place on. And how
+// many of the source's lines are done then.
+struct Plan {
+    gap: usize,
+    first: u64,
+    count: usize,
+    place: usize,
+    done: u64,
+}
+
+// The rows of the line block at a place of the object, after those that wrapped and those of the lines that are done.
+fn plan_block(ws: &[u32], at: usize, lines: u64, wraps: u64, done: u64) -> Plan
+    requires { ⌜ (at < length (now ws)) × (lines ≤ 3 * length (now ws) + 1) ⌝ }
+    ensures { λ r. ⌜ Planned (now (ws .entry)) at lines wraps done r ⌝ }
+{
+    let body = at + 1;
+    let words = body + 3;
+    let first = number_at(ws, body);
+    let count = body_len(ws, words);
+    let gap = minus(smaller_line(first, lines), done) as usize;
+    let kept = straight_count(first, count);
+    let skip = smaller(minus(wraps, first) as usize, kept);
+    Plan {
+        gap,
+        first: larger(wraps, first),
+        count: kept - skip,
+        place: words + skip,
+        done: larger(done, lines_done(first, count, lines)),
+    }
+}
+
+// What stands in the header's first column, and what follows it.
+const LINE: [u8; 4] = [0x4C, 0x49, 0x4E, 0x45];
+
+const ADDR_SOURCE: [u8; 17] = [
+    0x20,
+    0x7C,
+    0x20,
+    0x41,
+    0x44,
+    0x44,
+    0x52,
+    0x20,
+    0x7C,
+    0x20,
+    0x53,
+    0x4F,
+    0x55,
+    0x52,
+    0x43,
+    0x45,
+    0x0A,
+];
+
+// The header of the line table, for a column of this width.
+pub fn put_line_header(out: &mut [u8], width: usize) -> usize
+    ensures { λ r. ⌜ Put (textLine (lineHeader width)) (now (out .entry)) r (now (out .exit)) ⌝ }
+{
+    let fill = minus(width as u64, 4) as usize;
+    if out.len() < 21 {
+        return 0;
+    }
+    if out.len() - 21 < fill {
+        return 0;
+    }
+    let name = LINE;
+    let rest = ADDR_SOURCE;
+    let mut k = 0;
+    k += put_bytes(&mut out[k..], &name);
+    k += put_spaces(&mut out[k..], fill);
+    k += put_bytes(&mut out[k..], &rest);
+    k
+}

@@ -1,0 +1,17 @@
+-- The digits that stand, copied. Assumes nothing.
+use borrow.Author.Needs.{needs}
+use native.Mathlib.Omega.{arith}
+use mathlib.Core.Path.{_≡_, refl, sym, ap, _∙_, subst}
+use Rattle.text_numerals.proofs.DigitLaws.{as-numeral}
+use Rattle.text_numerals.proofs.put_hex.Statement.{statement}
+use Rattle.text_numerals.proofs.put_hex.Tie as tie
+
+returns : tie.Need-returns
+returns c =
+    let d = c .before .before .before .before .before .before .before .digits-of in
+    as-numeral 16 _ (d .result .start) (d .result .bytes) _ _ _ (d .ensures .1) (d .ensures .2) (c .before .before .put-bytes .ensures)
+
+pub put-hex-spec : {M : Type 1} → statement M
+put-hex-spec =
+    tie.close
+    (tie.spec (λ c κs. search needs) (λ c. search needs) (λ c. search needs) (λ c. search needs) (λ c κs. search needs) (λ c. search needs) returns)

@@ -1,0 +1,68 @@
+-- The lengths of rows, and their parts. Assumes nothing.
+use mathlib.Core.Path.{_≡_, refl, sym, ap, _∙_}
+use mathlib.Core.Bool.{Bool, true, false, not}
+use mathlib.Core.List.{List, [], _∷_, _++_, map, append-assoc}
+use mathlib.Core.Option.{none, some}
+use Prim.Native.Nat.{ℕ, _+_, _-_, _%_, _^_, _≤_, _<_}
+use native.Mathlib.Omega.{arith}
+use lib.ListN.{length, length-append}
+use lib.Dec.{eqb}
+use borrow.Author.Tests.{eq-eqb, ne-eqb}
+use Rattle.format.specs.Basics.{ascii, if_then_else_}
+use Rattle.format.specs.Digits.{digitsOf}
+use Rattle.format.specs.Utf8.{characters}
+use Rattle.format.specs.TextWriter.{hex4, memoryText, textLine, tableDiv, spaces, toLeft}
+use Rattle.format.proofs.ListLaws.{by-test}
+use Rattle.text_numerals.specs.Memory.{knownWord}
+use Rattle.text_numerals.proofs.DigitLaws.{spaces-length}
+use Rattle.object.specs.Texts.{textByte, bytesFrom, textBytes}
+use Rattle.object.specs.Access.{memoryIn}
+use Rattle.object.proofs.ByteLaws.{bytes-here, bytes-end, bytes-length}
+use Rattle.utf8.specs.Chars.{begins}
+use Rattle.utf8.proofs.CharLaws.{count-on, characters-fit}
+use Rattle.text_rows_out.specs.Rows.{linkerLine}
+
+pub hex4-length : (v : ℕ) → length (hex4 v) ≡ 4
+unfolding hex4 digitsOf
+hex4-length v = refl
+
+pub line-length : (t : List ℕ) → length (textLine t) ≡ length t + 1
+line-length t = length-append t (0x0A ∷ [])
+
+pub address-length : (v : ℕ) → length (textLine (hex4 v)) ≡ 5
+address-length v = line-length (hex4 v) ∙ ap (λ (n : ℕ). n + 1) (hex4-length v)
+
+pub memory-length : (w : ℕ) → length (textLine (memoryText (memoryIn w))) ≡ 5
+unfolding memoryIn ascii
+memory-length w = by-test (eqb (w % 2 ^ 29) 0) (λ t. rw t) (λ t. rw t (address-length (w % 2 ^ 16)))
+
+-- the word as the code takes it apart
+pub memory-known : (w : ℕ) (t : Bool) → t ≡ not (eqb (w % 2 ^ 29) 0) → memoryText (knownWord t (w % 2 ^ 16)) ≡ memoryText (memoryIn w)
+unfolding memoryIn
+memory-known w t e = by-test (eqb (w % 2 ^ 29) 0) (λ q. rw (e, q)) (λ q. rw (e, q))
+
+-- three cells and a newline
+pub row-parts : (a b c : List ℕ) → textLine (a ++ b ++ c) ≡ a ++ (b ++ textLine c)
+row-parts a b c = append-assoc (a ++ b) c (0x0A ∷ []) ∙ append-assoc a b (textLine c)
+
+pub linker-length : (address : ℕ) (name : List ℕ) → length (linkerLine address name) ≡ 8 + length name
+unfolding ascii
+linker-length address name =
+    line-length (hex4 address ++ tableDiv ++ name)
+    ∙ omega (arith, length-append (hex4 address ++ tableDiv) name, hex4-length address, length-append (hex4 address) tableDiv)
+
+-- CHARACTERS of what is left
+module _ (ws : List ℕ) (at i n : ℕ) where
+  pub count-here : i < n
+      → begins (textByte ws at i) + characters (bytesFrom ws at (i + 1) (n - (i + 1))) ≡ characters (bytesFrom ws at i (n - i))
+  count-here h =
+      let t = bytesFrom ws at (i + 1) (n - (i + 1)) in
+      count-on (textByte ws at i ∷ t) 0 (omega arith) ∙ ap characters (sym (bytes-here ws at i n h))
+
+  pub count-done : n ≤ i → characters (bytesFrom ws at i (n - i)) ≡ 0
+  unfolding characters
+  count-done h = ap characters (bytes-end ws at i n h)
+
+pub left-length : (width : ℕ) (t : List ℕ) → length (toLeft width t) ≡ length t + (width - characters t)
+left-length width t =
+    length-append t (spaces (width - characters t)) ∙ ap (λ (n : ℕ). length t + n) (spaces-length (width - characters t))

@@ -1,0 +1,8 @@
+-- A row of the linker table by its cells. Assumes nothing.
+use mathlib.Core.List.{List, _++_}
+use Prim.Native.Nat.{ℕ}
+use Rattle.format.specs.TextWriter.{hex4, textLine, tableDiv, linkerRow}
+
+-- "ADDR | LABEL", with its newline
+abbrev pub linkerLine : ℕ → List ℕ → List ℕ
+linkerLine address name = textLine (linkerRow (record { address = address; name = name }))
