@@ -110,36 +110,6 @@ fn put_escaped_char(out: &mut [u8], c: u32) -> usize
     put_u8(out, c as u8)
 }
 
-// Byte `i + k` of the first `end` bytes of a text; 0 past them.
-fn byte_after(ws: &[u32], at: usize, i: usize, k: usize, end: usize) -> u8
-    requires { ⌜ i < end ⌝ }
-    ensures { λ r. ⌜ r ≡ getD (textBytes (now (ws .entry)) at end) (i + k) 0 ⌝ }
-{
-    if end - i <= k {
-        return 0;
-    }
-    object::text_byte(ws, at, i + k)
-}
-
-// The character at byte `i` of the first `end` bytes of a text.
-fn char_in(ws: &[u32], at: usize, i: usize, end: usize) -> Char
-    requires { ⌜ i < end ⌝ }
-    ensures { λ r. ⌜ charOf r ≡ charAt (drop i (textBytes (now (ws .entry)) at end)) ⌝ }
-{
-    let a = object::text_byte(ws, at, i);
-    if a < 0x80 {
-        return Char::Scalar {
-            value: a as u32,
-            more: 0,
-        };
-    }
-    let b = byte_after(ws, at, i, 1, end);
-    let c = byte_after(ws, at, i, 2, end);
-    let d = byte_after(ws, at, i, 3, end);
-    let four = [a, b, c, d];
-    utf8::char_at(&four, 0)
-}
-
 // The room that the bytes from `start` up to `end` of a text leave, escaped.
 pub fn measure_escaped(room: usize, ws: &[u32], at: usize, start: usize, end: usize) -> Room
     ensures { λ r. ⌜ roomOf r ≡ lessPart room (escapedIn (now (ws .entry)) at start end) ⌝ }
@@ -147,7 +117,7 @@ pub fn measure_escaped(room: usize, ws: &[u32], at: usize, start: usize, end: us
     let mut left = room;
     let mut i = start;
     while i < end {
-        let Char::Scalar { value, more } = char_in(ws, at, i, end) else {
+        let Char::Scalar { value, more } = word_chars::char_in(ws, at, i, end) else {
             return Room::Left(left);
         };
         let n = escaped_len(value);
@@ -168,7 +138,7 @@ fn put_chars(out: &mut [u8], ws: &[u32], at: usize, start: usize, end: usize) ->
     let mut n = 0;
     let mut i = start;
     while i < end {
-        let Char::Scalar { value, more } = char_in(ws, at, i, end) else {
+        let Char::Scalar { value, more } = word_chars::char_in(ws, at, i, end) else {
             return n;
         };
         n += put_escaped_char(&mut out[n..], value);

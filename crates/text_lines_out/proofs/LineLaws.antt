@@ -18,7 +18,8 @@ use Rattle.format.specs.TextWriter.{Row, plainRows, sourceCell, escape, textLin
 use Rattle.format.proofs.ListLaws.{by-test}
 use Rattle.format.proofs.Utf8Laws.{char-one, char-ascii, char-reads}
 use Rattle.source_info.specs.Passing.{span, spanFrom}
-use Rattle.source_info.proofs.LineLaws.{size-is, span-start, span-other, span-stop, span-pass, span-end, span-past}
+use Rattle.source_info.proofs.LineLaws.{span-start, span-other, span-stop, span-pass, span-end, span-past}
+use Rattle.word_chars.proofs.CharLaws.{size-is}
 use Rattle.object.specs.Access.{addressIn, lineBlockAt}
 use Rattle.object.specs.Bodies.{bodyAt}
 use Rattle.object.proofs.BodyLaws.{body-fits, body-out}

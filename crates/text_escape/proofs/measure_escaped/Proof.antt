@@ -12,12 +12,12 @@ use Rattle.format.specs.TextWriter.{escapeChar}
 use Rattle.utf8.specs.Chars.{charOf}
 use Rattle.utf8.proofs.CharLaws.{char-inside}
 use Rattle.object.specs.Texts.{textBytes}
-use Rattle.source_info.proofs.LineLaws.{size-is}
+use Rattle.word_chars.proofs.CharLaws.{size-is}
 use Rattle.text_escape.specs.Escaped.{escapedIn}
 use Rattle.text_escape.proofs.EscapeLaws.{escaped-end, escaped-none, escaped-char, char-bound}
 use Rattle.measuring.specs.Room.{less, lessPart}
 use Rattle.measuring.proofs.RoomLaws.{less-some, less-none, less-nothing, part-fits, part-short}
-use Rattle.text_escape.proofs.char_in.Reads as char-in-reads
+use Rattle.word_chars.proofs.char_in.Reads as char-in-reads
 use Rattle.text_escape.proofs.escaped_len.Reads as escaped-len-reads
 use Rattle.text_escape.proofs.measure_escaped.Statement.{statement}
 use Rattle.text_escape.proofs.measure_escaped.Tie as tie
@@ -78,7 +78,7 @@ loop-holds : tie.Need-loop-holds Inv-loop μ-loop
 loop-holds c = refl
 
 char-in-requires : tie.Need-char-in-requires Inv-loop μ-loop
-char-in-requires c κs = c .loop-test .taken
+char-in-requires c κs = search needs
 
 enum-known-value : tie.Need-enum-known-value Inv-loop μ-loop
 enum-known-value c = search needs

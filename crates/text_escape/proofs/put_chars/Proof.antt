@@ -12,11 +12,11 @@ use Rattle.format.specs.TextWriter.{escapeChar}
 use Rattle.utf8.specs.Chars.{charOf}
 use Rattle.utf8.proofs.CharLaws.{char-inside}
 use Rattle.object.specs.Texts.{textBytes}
-use Rattle.source_info.proofs.LineLaws.{size-is}
+use Rattle.word_chars.proofs.CharLaws.{size-is}
 use Rattle.text_escape.specs.Escaped.{escapedIn}
 use Rattle.text_escape.proofs.EscapeLaws.{escaped-end, escaped-none, escaped-char, char-bound}
 use Rattle.writing.proofs.Parts.{State, Emits, after, begin, emit, emitted, within, small, same}
-use Rattle.text_escape.proofs.char_in.Reads as char-in-reads
+use Rattle.word_chars.proofs.char_in.Reads as char-in-reads
 use Rattle.text_escape.proofs.put_escaped_char.Reads as put-escaped-char-reads
 use Rattle.text_escape.proofs.put_chars.Statement.{statement}
 use Rattle.text_escape.proofs.put_chars.Tie as tie
@@ -89,7 +89,7 @@ loop-holds : tie.Need-loop-holds Inv-loop μ-loop
 loop-holds c = begin _ _ (c .before .before .pre)
 
 char-in-requires : tie.Need-char-in-requires Inv-loop μ-loop
-char-in-requires c κs = c .loop-test .taken
+char-in-requires c κs = search needs
 
 enum-known-value : tie.Need-enum-known-value Inv-loop μ-loop
 enum-known-value c = search needs

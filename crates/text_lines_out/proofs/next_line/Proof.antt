@@ -7,7 +7,7 @@ use Prim.Native.Nat.{ℕ, _+_, _-_, _*_, _%_, _≤_, _<_}
 use lib.ListN.{length, getD}
 use denote.Ref.{now}
 use Rattle.object.specs.Texts.{textBytes}
-use Rattle.source_info.proofs.LineLaws.{byte-is, size-is}
+use Rattle.word_chars.proofs.CharLaws.{byte-is, size-is}
 use Rattle.text_lines_out.specs.Lines.{Next}
 use Rattle.text_lines_out.proofs.LineLaws.{Passing, passing-start, pass-on, next-newline, next-end}
 use Rattle.object.proofs.text_byte.Reads as text-byte-reads
