@@ -4,9 +4,8 @@ use mathlib.Core.Bool.{Bool, true, false, not, _||_}
 use mathlib.Core.List.{List, [], _∷_, _++_, map, flatMap, append-assoc}
 use Prim.Native.Nat.{ℕ, zero, suc, _+_, _*_, _<_}
 use native.Mathlib.Omega.{arith}
-use lib.ListN.{length, drop}
-use lib.Dec.{eqb}
-use borrow.Author.Tests.{eqb-true, eqb-false}
+use lib.ListN.{drop}
+use borrow.Author.Tests.{ne-eqb}
 use Rattle.format.specs.Basics.{Outcome, refused, given, _>>=_, ask, if_then_else_, isEmpty, isSome}
 use Rattle.format.specs.Tokens.{tokens}
 use Rattle.format.specs.Utf8.{isUtf8}
@@ -18,14 +17,14 @@ use Rattle.format.specs.Records.{askAll, concluded, dropStrayRelocations, withR
 use Rattle.format.specs.Words.{recordWords, wordsOf}
 use Rattle.format.specs.Binary.{bytesAt, numberAt, hasBytes, addressesFrom, recordAt}
 use Rattle.format.specs.Binary.{blockFrom, labelFrom, linesFrom, sourceFrom, relocationFrom}
-use Rattle.format.specs.Calls.{refusalOf, measured, Measured}
+use Rattle.format.specs.Calls.{refusalOf}
 use Rattle.format.proofs.ListLaws.{by-test, flatMap-append, flatMap-map}
 use Rattle.gather.specs.Places.{placesOf, keyAt}
 use Rattle.gather.proofs.WindowLaws.{by-order, upsert-below, upsert-same, upsert-above}
 use Rattle.binary_scan.proofs.ScanLaws.{unknown-record}
 use Rattle.binary_words.specs.RecordAt.{blockAt, labelAt, lineBlockAt, relocationAt, inOrder, sourceOf, objectAt, wordsAt, partWords}
 use Rattle.binary_words.proofs.PlacesRead.{gathered-object}
-use Rattle.binary_read.specs.AfterHeader.{afterHeader}
+use Rattle.binary_read.specs.AfterHeader.{afterHeader, answerOf}
 use Rattle.binary_read.specs.Emission.{sourceWords, keepsRelocations, objectWords}
 
 -- A REFUSAL HAS A NUMBER
@@ -215,45 +214,12 @@ module _ (s : List ℕ) (n : ℕ) (e : n ≡ refusalOf (tokens recordAt 0 (drop 
       let g = given-as (tokens recordAt 0 (drop 7 s)) (sym z ∙ e) (numbered-tokens 0 (drop 7 s)) in
       rw (g .1, gathered-object s (g .0) (g .1), t) (ap given (kept-words s))
 
--- what a measured answer says
-module _ (number len : ℕ) where
-  abbrev told : Measured
-  told = record { number = number; len = len }
+-- what the number of a refusal says
+module _ (n : ℕ) (words : List ℕ) where
+  pub answer-refused : (n ≡ 0 → ⊥) → answerOf n words ≡ refused n
+  unfolding answerOf
+  answer-refused h = rw (ne-eqb n 0 h) refl
 
-  number-of : (n : ℕ) → told ≡ measured (refused n) → number ≡ n
-  unfolding measured
-  number-of n e = ap (λ (m : Measured). m .number) e
-
-  number-given : (ws : List ℕ) → told ≡ measured (given ws) → number ≡ 0
-  unfolding measured
-  number-given ws e = ap (λ (m : Measured). m .number) e
-
-  length-given : (ws : List ℕ) → told ≡ measured (given ws) → len ≡ length ws
-  unfolding measured
-  length-given ws e = ap (λ (m : Measured). m .len) e
-
--- both ways that it ends
-module _ (s : List ℕ) where
-  by-outcome : (P : Outcome (List ℕ) → Type 0) → ((n : ℕ) → (n ≡ 0 → ⊥) → P (refused n)) → P (given (objectWords s)) → P (afterHeader s)
-  by-outcome P refuses gives =
-      let n = refusalOf (tokens recordAt 0 (drop 7 s)) in
-      by-test (eqb n 0)
-      (λ u. let z = eqb-true n 0 u in
-      by-test (apart (objectAt s .lineBlocks))
-      (λ t. subst P (sym (after-given s n refl z t)) gives)
-      (λ t. subst P (sym (after-apart s n refl z t)) (refuses 15 (λ e. omega arith))))
-      (λ u. let h = eqb-false n 0 u in subst P (sym (after-refused s n refl h)) (refuses n h))
-
-  -- what a number and a length tell of it
-  module _ (number len : ℕ) (e : told number len ≡ measured (afterHeader s)) where
-    pub told-refused : (number ≡ 0 → ⊥) → afterHeader s ≡ refused number
-    told-refused h =
-        by-outcome (λ o. told number len ≡ measured o → o ≡ refused number)
-        (λ n k q. ap refused (sym (number-of number len n q)))
-        (λ q. absurd (h (number-given number len (objectWords s) q))) e
-
-    pub told-given : number ≡ 0 → (afterHeader s ≡ given (objectWords s)) × (len ≡ length (objectWords s))
-    told-given z =
-        by-outcome (λ o. told number len ≡ measured o → (o ≡ given (objectWords s)) × (len ≡ length (objectWords s)))
-        (λ n k q. absurd (k (sym (number-of number len n q) ∙ z)))
-        (λ q. (refl, length-given number len (objectWords s) q)) e
+  pub answer-given : n ≡ 0 → answerOf n words ≡ given words
+  unfolding answerOf
+  answer-given z = rw z refl

@@ -112,6 +112,14 @@ module _ (s : List ℕ) where
   parts-few =
       omega (arith, part-within 0, part-within 1, part-within 2, source-within, part-within 4, joint (drop 7 s) 7 0 refl, length-drop 7 s)
 
+  -- all records together, with their source
+  abbrev most : ℕ
+  most = total 0 s (placesOf 0 s) + total 1 s (placesOf 1 s) + total 2 s (placesOf 2 s) + total 4 s (placesOf 4 s) + length (sourceWords s)
+
+  pub most-few : most ≤ length s + 4
+  unfolding placesOf
+  most-few = omega (arith, source-within, joint (drop 7 s) 7 0 refl, length-drop 7 s)
+
   -- the length of all parts
   length-joined : (a b c d e : List ℕ) → length (a ++ (b ++ (c ++ (d ++ e)))) ≡ length a + length b + length c + length d + length e
   length-joined a b c d e =
@@ -127,3 +135,9 @@ module _ (s : List ℕ) where
   pub length-dropped : keepsRelocations s ≡ false → length (objectWords s) ≡ before
   unfolding objectWords
   length-dropped e = length-joined (partWords 0 s) (partWords 1 s) (partWords 2 s) (sourceWords s) (relocationWords s) ∙ rw e (omega arith)
+
+  pub object-within : length (objectWords s) ≤ most
+  object-within =
+      by-test (keepsRelocations s)
+      (λ e. omega (arith, length-kept e, part-within 0, part-within 1, part-within 2, part-within 4))
+      (λ e. omega (arith, length-dropped e, part-within 0, part-within 1, part-within 2))

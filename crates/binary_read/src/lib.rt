@@ -1,5 +1,6 @@
 // The binary reader after the header: how many words the records of a file make, and the words.
 use binary_scan::scan;
+use binary_words::all_length;
 use binary_words::has_records;
 use binary_words::has_source;
 use binary_words::lines_apart;
@@ -22,13 +23,14 @@ ghost use mathlib.Core.List.{_++_, map, flatMap};
 ghost use mathlib.Core.Option.{some};
 ghost use Prim.Native.Nat.{_+_, _-_, _≤_, _<_, min};
 ghost use lib.ListN.{length, take};
+ghost use lib.Dec.{leb};
 ghost use Rattle.format.specs.Words.{memoryWord, textWords};
 ghost use Rattle.format.specs.Binary.{memoriesFrom, addressesFrom};
 ghost use Rattle.writing.specs.Written.{Put};
 ghost use Rattle.binary_words.specs.RecordAt.{wordsAt, partWords};
 ghost use Rattle.format.specs.Calls.{measured, fill};
 ghost use Rattle.units.specs.Filled.{measuredOf, filledOf};
-ghost use Rattle.binary_read.specs.AfterHeader.{afterHeader};
+ghost use Rattle.binary_read.specs.AfterHeader.{afterHeader, answerOf};
 ghost use Rattle.binary_read.specs.Emission.{memoryOfBytes, labelHead, relocationHead, chunksOf, sourceWords, keepsRelocations};
 ghost use Rattle.binary_read.specs.Emission.{relocationWords, objectWords, wholeWords, Chunked};
 
@@ -330,19 +332,44 @@ fn words_length(s: &[u8]) -> usize
     n
 }
 
+// How many words all records have, those too that are replaced or dropped: the object has no more.
+fn most_words(s: &[u8]) -> usize
+    ensures { λ r. ⌜ length (objectWords (now (s .entry))) ≤ r ⌝ }
+{
+    all_length(s, 0) + all_length(s, 1) + all_length(s, 2) + all_length(s, 4) + source_length(s)
+}
+
+// The words of the file fit into so much room. Where all its records do, none need be sorted to tell.
+fn has_room(s: &[u8], room: usize) -> bool
+    ensures { λ r. ⌜ r ≡ leb (length (objectWords (now (s .entry)))) room ⌝ }
+{
+    if most_words(s) <= room {
+        return true;
+    }
+    words_length(s) <= room
+}
+
+// The number of the first question after the header that is answered no, or 0.
+fn refusal(s: &[u8]) -> u8
+    ensures { λ r. ⌜ afterHeader (now (s .entry)) ≡ answerOf r (objectWords (now (s .entry))) ⌝ }
+{
+    let number = scan(s);
+    if number != 0 {
+        return number;
+    }
+    if !lines_apart(s) {
+        return 15;
+    }
+    0
+}
+
 // The number of the first question after the header that is answered no, or how many words the file gives.
 pub fn records_length(s: &[u8]) -> Measured
     ensures { λ r. ⌜ measuredOf r ≡ measured (afterHeader (now (s .entry))) ⌝ }
 {
-    let number = scan(s);
+    let number = refusal(s);
     if number != 0 {
-        return Measured {
-            number: number,
-            len: 0,
-        };
-    }
-    if !lines_apart(s) {
-        return Measured { number: 15, len: 0 };
+        return Measured { number, len: 0 };
     }
     let n = words_length(s);
     Measured { number: 0, len: n }
@@ -352,11 +379,11 @@ pub fn records_length(s: &[u8]) -> Measured
 pub fn read_records(s: &[u8], out: &mut [u32]) -> Filled
     ensures { λ r. ⌜ filledOf r (now (out .exit)) ≡ fill (afterHeader (now (s .entry))) (now (out .entry)) ⌝ }
 {
-    let m = records_length(s);
-    if m.number != 0 {
-        return Filled::refused(m.number);
+    let refused = refusal(s);
+    if refused != 0 {
+        return Filled::refused(refused);
     }
-    if out.len() < m.len {
+    if !has_room(s, out.len()) {
         return Filled::refused(3);
     }
     let n = put_object(out, s);

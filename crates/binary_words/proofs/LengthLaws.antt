@@ -175,6 +175,14 @@ module _ (kind : ℕ) (s : List ℕ) where
   all-few [] acc = omega arith
   all-few (a ∷ ps) acc = omega (arith, all-few ps (upsert (keyAt kind s) a acc), upsert-few a acc, total-cons kind s a ps)
 
+  pub records-few : total kind s (placesOf kind s) ≤ length s + 3
+  unfolding placesOf
+  records-few = omega (arith, places-few (drop 7 s) 7 0 refl, length-drop 7 s)
+
+  pub total-none : total kind s [] ≡ 0
+  unfolding flatMap
+  total-none = refl
+
   -- no more words than bytes, and 3
   pub part-few : length (partWords kind s) ≤ length s + 3
   unfolding placesOf flatMap

@@ -100,6 +100,21 @@ pub fn part_length(s: &[u8], kind: u8) -> usize
     windows_length(s, kind, &mut win)
 }
 
+// How many words the records of a kind have as they come, those that later ones replace too.
+pub fn all_length(s: &[u8], kind: u8) -> usize
+    ensures { λ r. ⌜ r ≡ length (flatMap (wordsAt kind (now (s .entry))) (placesOf kind (now (s .entry)))) ⌝ }
+{
+    let mut all = 0;
+    let mut at = 7;
+    loop {
+        let Found::At(p, next) = next_place(s, kind, at) else {
+            return all;
+        };
+        all += words_at(s, kind, p);
+        at = next;
+    }
+}
+
 // The line block at q ends at or before the first line of the one at p, as whole numbers.
 fn ends_before(s: &[u8], q: usize, p: usize) -> bool
     ensures { λ r. ⌜ r ≡ leb (lineEnd (lineBlockAt (now (s .entry)) q)) (lineBlockAt (now (s .entry)) p .first) ⌝ }

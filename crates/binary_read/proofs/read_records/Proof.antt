@@ -1,9 +1,9 @@
--- The number and the length, then the words. Assumes nothing.
+-- The number, then the words. Assumes nothing.
 use borrow.Author.Needs.{needs}
+use borrow.Author.Tests.{leb-true, leb-false, not-true, not-false}
 use mathlib.Core.Path.{_≡_, sym, ap, _∙_}
 use mathlib.Core.List.{List}
-use Prim.Native.Nat.{ℕ}
-use native.Mathlib.Omega.{arith}
+use Prim.Native.Nat.{ℕ, _≤_}
 use lib.ListN.{length}
 use denote.Ref.{now}
 use Rattle.format.specs.Basics.{Outcome, refused, given}
@@ -13,56 +13,51 @@ use Rattle.units.proofs.FilledLaws.{ends-refused, ends-short}
 use Rattle.writing.proofs.WriteLaws.{put-fills}
 use Rattle.binary_read.specs.AfterHeader.{afterHeader}
 use Rattle.binary_read.specs.Emission.{objectWords}
-use Rattle.binary_read.proofs.AfterLaws.{told-refused, told-given}
+use Rattle.binary_read.proofs.AfterLaws.{answer-refused, answer-given}
 use Rattle.binary_read.proofs.read_records.Statement.{statement}
 use Rattle.binary_read.proofs.read_records.Tie as tie
 
-abbrev start : tie.After-records-length → tie.Start
-start q = q .before .before .before
+abbrev words : tie.After-refusal → List ℕ
+words q = objectWords (now (q .before .before .before .args .s))
 
-refused-by : (q : tie.After-records-length) → (q .records-length .result .number ≡ 0 → ⊥) → afterHeader (now (start q .args .s))
-    ≡ refused (q .records-length .result .number)
-refused-by q h =
-    told-refused (now (start q .args .s)) (q .records-length .result .number) (q .records-length .result .len) (q .records-length .ensures)
-    h
+abbrev room : tie.After-refusal → List ℕ
+room q = now (q .before .before .before .args .out)
 
-given-by : (q : tie.After-records-length) → q .records-length .result .number ≡ 0
-    → (afterHeader (now (start q .args .s)) ≡ given (objectWords (now (start q .args .s))))
-    × (q .records-length .result .len ≡ length (objectWords (now (start q .args .s))))
-given-by q z =
-    told-given (now (start q .args .s)) (q .records-length .result .number) (q .records-length .result .len) (q .records-length .ensures) z
+given-by : (q : tie.After-refusal) → q .refusal .result ≡ 0 → afterHeader (now (q .before .before .before .args .s)) ≡ given (words q)
+given-by q z = q .refusal .ensures ∙ answer-given (q .refusal .result) (words q) z
 
 returns : tie.Need-returns
 returns c =
-    let q = c .before .before .before in
-    let out = now (start q .args .out) in
-    ap (λ r. filledOf r out) (c .refused .ensures) ∙ ends-refused (q .records-length .result .number) out
-    ∙ ap (λ (o : Outcome (List ℕ)). fill o out) (sym (refused-by q (c .before .if1 .taken)))
+    let q = c .before .before in
+    let n = q .refusal .result in
+    ap (λ r. filledOf r (room q)) (c .refused .ensures) ∙ ends-refused n (room q)
+    ∙ ap (λ (o : Outcome (List ℕ)). fill o (room q)) (sym (q .refusal .ensures ∙ answer-refused n (words q) (c .before .if1 .taken)))
 
 returns-2 : tie.Need-returns-2
 returns-2 c =
-    let q = c .before .before .before .before .before in
-    let out = now (start q .args .out) in
-    let g = given-by q (c .before .before .before .if1 .left) in
-    ap (λ r. filledOf r out) (c .refused2 .ensures)
-    ∙ ends-short (objectWords (now (start q .args .s))) out (omega (arith, g .1, c .before .if2 .taken))
-    ∙ ap (λ (o : Outcome (List ℕ)). fill o out) (sym (g .0))
+    let h = c .before .before in
+    let q = h .before .before in
+    let short = leb-false (length (words q)) (length (room q)) (sym (h .has-room .ensures) ∙ not-true _ (c .before .if2 .taken)) in
+    ap (λ r. filledOf r (room q)) (c .refused2 .ensures) ∙ ends-short (words q) (room q) short
+    ∙ ap (λ (o : Outcome (List ℕ)). fill o (room q)) (sym (given-by q (h .before .if1 .left)))
+
+-- there is room
+fits : (c : tie.Else2) → length (words (c .before .before .before)) ≤ length (room (c .before .before .before))
+fits c =
+    let q = c .before .before .before in
+    leb-true (length (words q)) (length (room q)) (sym (c .before .has-room .ensures) ∙ not-false _ (c .if2 .left))
 
 put-object-requires : tie.Need-put-object-requires
-put-object-requires c κs =
-    let q = c .before .before .before .before .before in
-    let g = given-by q (c .before .before .before .if1 .left) in
-    omega (arith, g .1, c .before .if2 .left)
+put-object-requires c κs = fits (c .before)
 
 returns-3 : tie.Need-returns-3
 returns-3 c =
     let p = c .before .before .before in
-    let q = p .before .before .before .before .before .before in
-    let out = now (start q .args .out) in
-    let g = given-by q (p .before .before .before .before .if1 .left) in
+    let e = p .before .before in
+    let q = e .before .before .before in
     ap (λ r. filledOf r (p .put-object .last .0)) (c .given .ensures)
-    ∙ put-fills (objectWords (now (start q .args .s))) out (omega (arith, g .1, p .before .before .if2 .left)) (p .put-object .ensures)
-    ∙ ap (λ (o : Outcome (List ℕ)). fill o out) (sym (g .0))
+    ∙ put-fills (words q) (room q) (fits e) (p .put-object .ensures)
+    ∙ ap (λ (o : Outcome (List ℕ)). fill o (room q)) (sym (given-by q (e .before .before .if1 .left)))
 
 pub read-records-spec : {M : Type 1} → statement M
 read-records-spec =
@@ -71,6 +66,7 @@ read-records-spec =
     (λ c κs. search needs)
     (λ c κs. search needs)
     returns
+    (λ c κs. search needs)
     (λ c κs. search needs)
     returns-2
     put-object-requires
