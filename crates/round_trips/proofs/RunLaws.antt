@@ -9,18 +9,18 @@ use borrow.Author.Tests.{ne-eqb}
 use Rattle.format.specs.Trips.{Form, Trip, LogEntry, logEntry}
 use Rattle.writing.proofs.EachLaws.{drop-at-place}
 use Rattle.round_trips.specs.declared.Made.{Made}
-use Rattle.round_trips.specs.Steps.{tripOf, standing, Step, StepsMade, none-left, then}
-use Rattle.round_trips.specs.Rows.{formOf, Lent, lentBy, row, rows, Ran}
+use Rattle.round_trips.specs.Steps.{tripOf, standing, Step, StepsMade, none-left, one-more}
+use Rattle.round_trips.specs.Rows.{formOf, TripRow, rowOf, row, rows, Ran}
 
 -- a list after a list
 steps-append : {ws mid last : List ℕ} {ts us : List Trip} {es fs : List LogEntry}
     → StepsMade ws ts es mid → StepsMade mid us fs last → StepsMade ws (ts ++ us) (es ++ fs) last
 steps-append none-left k = k
-steps-append (then s j) k = then s (steps-append j k)
+steps-append (one-more s j) k = one-more s (steps-append j k)
 
-map-append : (ts us : List Trip) → map lentBy (ts ++ us) ≡ map lentBy ts ++ map lentBy us
+map-append : (ts us : List Trip) → map rowOf (ts ++ us) ≡ map rowOf ts ++ map rowOf us
 map-append [] us = refl
-map-append (t ∷ ts) us = ap (λ rs. lentBy t ∷ rs) (map-append ts us)
+map-append (t ∷ ts) us = ap (λ rs. rowOf t ∷ rs) (map-append ts us)
 
 -- one trip
 pub ran-one :
@@ -29,8 +29,8 @@ pub ran-one :
 ran-one f b w ws bytes words r after last s p q e = record {
   trips = tripOf (formOf f) bytes words ∷ [];
   log = _;
-  made = subst (λ zs. StepsMade ws (tripOf (formOf f) bytes words ∷ []) (logEntry (tripOf (formOf f) bytes words) ws (r .number) (standing r after ws) ∷ []) zs) (sym e) (then s none-left);
-  lent = rw (p, q);
+  made = subst (λ zs. StepsMade ws (tripOf (formOf f) bytes words ∷ []) (logEntry (tripOf (formOf f) bytes words) ws (r .number) (standing r after ws) ∷ []) zs) (sym e) (one-more s none-left);
+  as-listed = rw (p, q);
 }
 
 -- "the holding stands as before"
@@ -56,14 +56,14 @@ pub front-fits :
 front-fits n xs ys zs h k room = omega (arith, front-length n xs ys h)
 
 pub ran-none : (ws : List ℕ) → Ran [] ws ws
-ran-none ws = record { trips = []; log = []; made = none-left; lent = refl }
+ran-none ws = record { trips = []; log = []; made = none-left; as-listed = refl }
 
-pub ran-append : {rs qs : List Lent} {ws mid last : List ℕ} → Ran rs ws mid → Ran qs mid last → Ran (rs ++ qs) ws last
+pub ran-append : {rs qs : List TripRow} {ws mid last : List ℕ} → Ran rs ws mid → Ran qs mid last → Ran (rs ++ qs) ws last
 ran-append {rs = rs} {qs = qs} a b = record {
   trips = a .trips ++ b .trips;
   log = _;
   made = steps-append (a .made) (b .made);
-  lent = map-append (a .trips) (b .trips) ∙ ap (λ xs. xs ++ map lentBy (b .trips)) (a .lent) ∙ ap (λ xs. rs ++ xs) (b .lent);
+  as-listed = map-append (a .trips) (b .trips) ∙ ap (λ xs. xs ++ map rowOf (b .trips)) (a .as-listed) ∙ ap (λ xs. rs ++ xs) (b .as-listed);
 }
 
 -- a row from a place, and where no whole one is left
@@ -93,7 +93,7 @@ rows-end ns i h = rows-short (drop i ns) (simp length-drop (omega arith))
 
 -- the rows before a place have run
 pub record RanTo (list ws : List ℕ) (i : ℕ) (last : List ℕ) : Type 0 where
-  pub past : List Lent
+  pub past : List TripRow
   pub ran : Ran past ws last
   pub ahead : past ++ rows (drop i list) ≡ rows list
 

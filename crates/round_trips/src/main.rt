@@ -76,12 +76,12 @@ const TURNED: [u32; 8] = [
     0xE2004342,
 ];
 
-// A trip of the form with this number.
+// A trip of the form with this number; prints its name.
 fn trip(form: u16, object: &[u32], bytes: &mut [u8], words: &mut [u32]) -> Made
     ensures { λ r. ⌜ Step (formOf form) (now (object .entry)) (now (bytes .entry)) (now (words .entry)) r (now (words .exit)) ⌝ }
     ensures { λ r. ⌜ Counts (r .len) (now (words .exit)) ⌝ }
 {
-    print::form(form);
+    io::write_all(1, b"binary ");
     binary_trip(object, bytes, words)
 }
 

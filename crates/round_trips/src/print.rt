@@ -1,14 +1,5 @@
 // What the program prints.
 
-// The name of a form.
-pub(crate) fn form(form: u16) {
-    if form == 0 {
-        io::write_all(1, b"binary ");
-    } else {
-        io::write_all(1, b"text ");
-    }
-}
-
 // The number of a trip, which ends its line.
 pub(crate) fn number(number: u8) {
     io::print_decimal(1, number as u64);
