@@ -22,7 +22,8 @@ calls-demand-3 ws f ts es last (one-more s k) = demand-3 ws (s .is-slice) f ts e
 
 -- term c over the calls
 pub calls-second-trip-differs : CallsSecondTripDiffers
-calls-second-trip-differs ws f changed t ts e es last (one-more s k) = second-trip-differs ws (s .is-slice) f changed t ts e es last (trips-made (one-more s k))
+calls-second-trip-differs ws f changed t ts e es last (one-more s k) =
+    second-trip-differs ws (s .is-slice) f changed t ts e es last (trips-made (one-more s k))
 
 -- what `run` leaves of a fair object
 pub run-demand-3 :

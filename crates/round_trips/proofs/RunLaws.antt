@@ -26,12 +26,10 @@ map-append (t ∷ ts) us = ap (λ rs. rowOf t ∷ rs) (map-append ts us)
 pub ran-one :
     (f b w : ℕ) (ws bytes words : List ℕ) (r : Made) (after last : List ℕ) → Step (formOf f) ws bytes words r after
     → length bytes ≡ min b 1024 → length words ≡ min w 64 → last ≡ standing r after ws → Ran (row f b w ∷ []) ws last
-ran-one f b w ws bytes words r after last s p q e = record {
-  trips = tripOf (formOf f) bytes words ∷ [];
-  log = _;
-  made = subst (λ zs. StepsMade ws (tripOf (formOf f) bytes words ∷ []) (logEntry (tripOf (formOf f) bytes words) ws (r .number) (standing r after ws) ∷ []) zs) (sym e) (one-more s none-left);
-  as-listed = rw (p, q);
-}
+ran-one f b w ws bytes words r after last s p q e =
+    let t = tripOf (formOf f) bytes words in
+    let es = logEntry t ws (r .number) (standing r after ws) ∷ [] in
+    record { trips = t ∷ []; log = es; made = subst (StepsMade ws (t ∷ []) es) (sym e) (one-more s none-left); as-listed = rw (p, q) }
 
 -- "the holding stands as before"
 pub stood : (ws after : List ℕ) (r : Made) → ¬ (r .number ≡ 0) → ws ≡ standing r after ws

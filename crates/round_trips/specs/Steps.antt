@@ -21,8 +21,8 @@ tripOf f bytes words = record { form = f; bytes = bytes; words = words }
 abbrev pub standing : Made → List ℕ → List ℕ → List ℕ
 standing r after ws = if eqb (r .number) 0 then take (r .len) after else ws
 
--- A trip of the form f from ws, "a slice of 32-bit words", that was lent these bytes and these words, handed back r, and left `after` in the
--- word buffer: the step of demand 3's lists.
+-- A trip of the form f from ws, "a slice of 32-bit words", that was lent these bytes and these words, handed back r, and left `after` in
+-- the word buffer: the step of demand 3's lists.
 pub record Step (f : Form) (ws bytes words : List ℕ) (r : Made) (after : List ℕ) : Type 0 where
   pub is-slice : IsSlice ws
   pub made : TripMade (tripOf f bytes words) ws (r .number) (standing r after ws)
@@ -41,8 +41,8 @@ CallsDemand3 =
     (ws : List ℕ) (f : Fair ws) (ts : List Trip) (es : List LogEntry) (last : List ℕ) → StepsMade ws ts es last
     → All AsExpected es × (last ≡ (if evenBinaryTrips es then ws else wordsOf (swapRelocations (f .object))))
 
--- term c over the calls: "a second unrefused binary trip that hands the first one's holding back though byte-swapping and sorting anew change
--- it" is shut out, as in SecondTripDiffers
+-- term c over the calls: "a second unrefused binary trip that hands the first one's holding back though byte-swapping and sorting anew
+-- change it" is shut out, as in SecondTripDiffers
 abbrev pub CallsSecondTripDiffers : Type 0
 CallsSecondTripDiffers =
     (ws : List ℕ) (f : Fair ws) → ¬ (wordsOf (swapRelocations (f .object)) ≡ ws)

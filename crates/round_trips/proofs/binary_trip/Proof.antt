@@ -1,11 +1,7 @@
 use borrow.Author.Needs.{needs}
-use native.Mathlib.Omega.{arith}
-use mathlib.Core.List.{List}
-use Prim.Native.Nat.{ℕ}
-use denote.Ref.{now}
 use Rattle.format.specs.Trips.{binary}
 use Rattle.units.specs.Filled.{filledOf}
-use Rattle.round_trips.proofs.StepLaws.{counted, write-within, read-within, stopped, went-on}
+use Rattle.round_trips.proofs.StepLaws.{counted, write-within, stopped, went-on}
 use Rattle.round_trips.proofs.binary_trip.Statement.{statement}
 use Rattle.round_trips.proofs.binary_trip.Tie as tie
 
@@ -13,10 +9,8 @@ returns : tie.Need-returns
 returns c =
     let s = c .before .before .before .before in
     let start = s .before .before .before .before .before .before in
-    let w = filledOf (s .serialize .result) (s .serialize .last .1 .1 .0) in (
-      record { is-slice = start .good .0 .1; made = stopped binary _ _ _ w (s .serialize .ensures) (c .if1 .taken) _ },
-      counted 0 (now (start .args .words)) (omega arith),
-    )
+    let w = filledOf (s .serialize .result) (s .serialize .last .1 .1 .0) in
+    stopped binary _ _ _ (start .good .0 .1) w (s .serialize .ensures) (c .if1 .taken)
 
 slice-reshare-prefix-deserialize : tie.Need-slice-reshare-prefix-deserialize
 slice-reshare-prefix-deserialize c =
@@ -36,10 +30,8 @@ returns-2 c =
     let s = e .before .before .before .before in
     let start = s .before .before .before .before .before .before in
     let w = filledOf (s .serialize .result) (s .serialize .last .1 .1 .0) in
-    let r = filledOf (d .deserialize .result) (d .deserialize .last .1 .1 .0) in (
-      record { is-slice = start .good .0 .1; made = went-on binary _ _ _ w (s .serialize .ensures) (e .if1 .left) r (d .deserialize .ensures) },
-      counted (r .len) (r .buffer) (read-within binary _ _ r (d .deserialize .ensures)),
-    )
+    let r = filledOf (d .deserialize .result) (d .deserialize .last .1 .1 .0) in
+    went-on binary _ _ _ (start .good .0 .1) w (s .serialize .ensures) (e .if1 .left) r (d .deserialize .ensures)
 
 pub binary-trip-spec : {M : Type 1} → statement M
 binary-trip-spec =
