@@ -1,0 +1,5 @@
+pub mod StepLaws
+pub mod ListLaws
+pub mod CopyLaws
+pub mod RunLaws
+pub mod Objects
