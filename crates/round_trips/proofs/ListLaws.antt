@@ -1,6 +1,6 @@
 -- Every list of steps through the calls is a list of demand 3's, and falls under its theorem. Assumes nothing.
 use mathlib.Core.Path.{_≡_, refl}
-use mathlib.Core.List.{List, [], _∷_}
+use mathlib.Core.List.{List}
 use Prim.Native.Nat.{ℕ}
 use Rattle.format.specs.Basics.{if_then_else_, All}
 use Rattle.format.specs.Words.{wordsOf}

@@ -6,7 +6,7 @@ use native.Mathlib.Omega.{arith}
 use lib.ListN.{length, take, drop, getD, length-drop}
 use lib.Seq.{take-append-le, length-take-le}
 use borrow.Author.Tests.{ne-eqb}
-use Rattle.format.specs.Trips.{Form, Trip, LogEntry, logEntry}
+use Rattle.format.specs.Trips.{Trip, LogEntry, logEntry}
 use Rattle.writing.proofs.EachLaws.{drop-at-place}
 use Rattle.round_trips.specs.declared.Made.{Made}
 use Rattle.round_trips.specs.Steps.{tripOf, standing, Step, StepsMade, none-left, one-more}

@@ -168,6 +168,7 @@ fn main() {
     let paper = PAPER;
     let turned = TURNED;
     let refused = [BINARY, 76, 64, BINARY, 77, 17, BINARY, 0, 0];
+    show(&paper, &refused[..0]);
     show(&paper, &refused);
     let odd = [
         BINARY,

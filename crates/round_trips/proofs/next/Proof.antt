@@ -1,11 +1,8 @@
 use borrow.Author.Needs.{needs}
 use native.Mathlib.Omega.{arith}
-use mathlib.Core.Path.{_≡_, refl, sym}
-use mathlib.Core.List.{List}
-use Prim.Native.Nat.{ℕ}
-use lib.ListN.{length, take, drop, length-append}
+use mathlib.Core.Path.{refl, sym}
+use lib.ListN.{length-append}
 use denote.Ref.{now}
-use Rattle.round_trips.proofs.StepLaws.{counted}
 use Rattle.round_trips.proofs.RunLaws.{ran-one, stood, filled, front-length, part-length, front-fits}
 use Rattle.round_trips.proofs.next.Statement.{statement}
 use Rattle.round_trips.proofs.next.Tie as tie
