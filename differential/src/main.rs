@@ -17,7 +17,7 @@ differential count_lines | raw_line_span N | line_span N | get_pos_pair N | get 
 differential marked                                  document 01's cases marked M
 differential vectors queries | binary | text         the lists for the test programs
 differential speed                                   times of the crate, and of the library's binary calls beside them
-differential growth                                  times of the library's check and queries on objects that grow";
+differential growth                                  times of the library's calls on objects and files that grow";
 
 fn stop(why: &str) -> ! {
     eprintln!("differential: {why}\n{USAGE}");
@@ -122,9 +122,12 @@ fn main() {
             _ => stop("queries, binary or text?"),
         },
         "speed" => speed::print(&ffi::calls()),
-        "growth" => match ffi::calls().queries {
-            Some(q) => speed::growth(&q),
-            None => println!("growth: the library isn't linked"),
+        "growth" => match (ffi::calls().queries, ffi::calls().binary) {
+            (None, None) => println!("growth: the library isn't linked"),
+            (queries, binary) => {
+                queries.iter().for_each(speed::growth);
+                binary.iter().for_each(speed::binary_growth);
+            }
         },
         _ => stop("what?"),
     }

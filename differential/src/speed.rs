@@ -147,3 +147,45 @@ pub fn growth(q: &Queries) {
 fn lines(p: &Parts) -> u64 {
     p.source.as_ref().map_or(0, |s| s.iter().filter(|b| **b == b'\n').count() as u64)
 }
+
+/// So many label records, rising or in any order, and a source.
+fn label_file(records: usize, rising: bool) -> Vec<u8> {
+    let mut order: Vec<usize> = (0..records).collect();
+    if !rising {
+        let mut r = Prng::new(9);
+        (1..records).rev().for_each(|i| order.swap(i, r.below(i + 1)));
+    }
+    let mut file = b"obj!\x10\x00\x01".to_vec();
+    for i in order {
+        let name = format!("L{i:07}");
+        file.push(1);
+        file.extend((i as u16).to_le_bytes());
+        file.push(0);
+        file.extend((i as u64).to_le_bytes());
+        file.extend((name.len() as u64).to_le_bytes());
+        file.extend(name.as_bytes());
+    }
+    file.extend([3, 1, 0, 0, 0, 0, 0, 0, 0, b'\n']);
+    file
+}
+
+/// The binary calls on files of labels that grow: rising ones up to a million, and in random order up to 65,536; the crate's beside them.
+pub fn binary_growth(form: &Form) {
+    let rising = [1_000, 10_000, 100_000, 1_000_000].map(|n| (n, true));
+    let random = [1_024, 4_096, 16_384, 65_536].map(|n| (n, false));
+    for (n, rises) in rising.into_iter().chain(random) {
+        let file = label_file(n, rises);
+        let (number, len) = (form.length)(&file);
+        assert_eq!(number, 0, "the file reads");
+        let (mut words, mut bytes) = (vec![0; len], vec![0; file.len()]);
+        let order = if rises { "rising" } else { "random" };
+        let each = |ns: f64| ns / n as f64;
+        let read = best(|| (form.read)(black_box(&file), &mut words));
+        let crate_read = best(|| BinaryFormat::deserialize(black_box(&file)));
+        let write = best(|| (form.write)(black_box(&words), &mut bytes));
+        println!(
+            "{n:8} labels {order}  read {:9.1} ns a record, the crate {:9.1}; write {:9.1}",
+            each(read), each(crate_read), each(write)
+        );
+    }
+}
