@@ -204,11 +204,15 @@ fn put_windows(out: &mut [u32], s: &[u8], kind: u8, win: &mut [usize]) -> usize
     }
 }
 
-// The words of the records of a kind.
+// The words of the records of a kind. Labels, of which a file has many in any order, go by larger windows.
 fn put_part(out: &mut [u32], s: &[u8], kind: u8) -> usize
     requires { ⌜ length (partWords kind (now s)) ≤ length (now out) ⌝ }
     ensures { λ r. ⌜ Put (partWords kind (now (s .entry))) (now (out .entry)) r (now (out .exit)) ⌝ }
 {
+    if kind == 1 {
+        let mut names = [0usize; 4096];
+        return put_windows(out, s, kind, &mut names);
+    }
     let mut win = [0usize; 1024];
     put_windows(out, s, kind, &mut win)
 }
