@@ -16,11 +16,12 @@ use Rattle.writing.specs.Written.{filled, written, Put}
 use Rattle.writing.proofs.EachLaws.{drop-at-place, flatMap-at}
 use Rattle.writing.proofs.WriteLaws.{filled-fits, written-fits}
 use Rattle.writing.proofs.Parts.{State, Emits, rest, has-room}
+use Rattle.writing.proofs.TextLaws.{firstWord, word-three, words-at}
 use borrow.Rule.Slice.PartAt.{part-to-end}
 use Rattle.bytes_at.specs.Part.{PartOf}
 use Rattle.binary_words.specs.RecordAt.{wordsAt}
 use Rattle.binary_words.proofs.LengthLaws.{memories-length, addresses-length}
-use Rattle.binary_read.specs.Emission.{memoryOfBytes, labelHead, relocationHead}
+use Rattle.binary_read.specs.Emission.{memoryOfBytes, textWordOf, labelHead, relocationHead}
 
 -- the first part, where all of the room is lent
 pub first :
@@ -88,6 +89,17 @@ module _ (s : List ℕ) (i : ℕ) where
       let b = ahead (i + 1) (i + 2) (omega arith) (omega arith) in
       let c = ahead (i + 2) (i + 3) (omega arith) (omega arith) in
       ap memoryWords (a ∙ ap (λ (z : List ℕ). getD s i 0 ∷ z) (b ∙ ap (λ (z : List ℕ). getD s (i + 1) 0 ∷ z) c))
+
+  pub text-at : i + 3 ≤ length s → textWords (drop i s)
+      ≡ textWordOf (getD s i 0) (getD s (i + 1) 0) (getD s (i + 2) 0) ∷ textWords (drop (i + 3) s)
+  text-at h =
+      let a = ahead i (i + 1) (omega arith) refl in
+      let b = ahead (i + 1) (i + 2) (omega arith) (omega arith) in
+      let c = ahead (i + 2) (i + 3) (omega arith) (omega arith) in
+      let xs : List ℕ = getD s i 0 ∷ getD s (i + 1) 0 ∷ getD s (i + 2) 0 ∷ drop (i + 3) s in
+      let d : drop i s ≡ xs = a ∙ ap (λ (z : List ℕ). getD s i 0 ∷ z) (b ∙ ap (λ (z : List ℕ). getD s (i + 1) 0 ∷ z) c) in
+      words-at s i (omega arith)
+      ∙ ap (λ (w : ℕ). w ∷ textWords (drop (i + 3) s)) (ap firstWord d ∙ sym (word-three xs (omega arith)))
 
   pub address-at : i + 2 ≤ length s → addressWords (drop i s)
       ≡ memoryOfBytes 0xFF (getD s i 0) (getD s (i + 1) 0) ∷ addressWords (drop (i + 2) s)

@@ -31,7 +31,7 @@ ghost use Rattle.binary_words.specs.RecordAt.{wordsAt, partWords};
 ghost use Rattle.format.specs.Calls.{measured, fill};
 ghost use Rattle.units.specs.Filled.{measuredOf, filledOf};
 ghost use Rattle.binary_read.specs.AfterHeader.{afterHeader, answerOf};
-ghost use Rattle.binary_read.specs.Emission.{memoryOfBytes, labelHead, relocationHead, chunksOf, sourceWords, keepsRelocations};
+ghost use Rattle.binary_read.specs.Emission.{memoryOfBytes, textWordOf, labelHead, relocationHead, chunksOf, sourceWords, keepsRelocations};
 ghost use Rattle.binary_read.specs.Emission.{relocationWords, objectWords, wholeWords, Chunked};
 
 // The memory word of three bytes: the flag and the value, low byte first.
@@ -76,6 +76,34 @@ fn put_address_words(out: &mut [u32], s: &[u8]) -> usize
         out[at] = memory_word(0xFF, s[i], s[i + 1]);
         at += 1;
         i += 2;
+    }
+    at
+}
+
+// The text word of three bytes, the first lowest.
+fn text_word(a: u8, b: u8, c: u8) -> u32
+    ensures { λ r. ⌜ r ≡ textWordOf a b c ⌝ }
+{
+    0xE300_0000 + a as u32 + 256 * b as u32 + 65536 * c as u32
+}
+
+// The words of a text: where all are of three bytes, one test a word.
+fn put_source_words(out: &mut [u32], s: &[u8]) -> usize
+    ensures { λ r. ⌜ Put (textWords (now (s .entry))) (now (out .entry)) r (now (out .exit)) ⌝ }
+{
+    if s.len() % 3 != 0 {
+        return put_text_words(out, s);
+    }
+    let n = s.len() / 3;
+    if out.len() < n {
+        return 0;
+    }
+    let mut at = 0;
+    let mut i = 0;
+    while at < n {
+        out[at] = text_word(s[i], s[i + 1], s[i + 2]);
+        at += 1;
+        i += 3;
     }
     at
 }
@@ -204,11 +232,15 @@ fn put_windows(out: &mut [u32], s: &[u8], kind: u8, win: &mut [usize]) -> usize
     }
 }
 
-// The words of the records of a kind.
+// The words of the records of a kind. Labels, of which a file has many in any order, go by larger windows.
 fn put_part(out: &mut [u32], s: &[u8], kind: u8) -> usize
     requires { ⌜ length (partWords kind (now s)) ≤ length (now out) ⌝ }
     ensures { λ r. ⌜ Put (partWords kind (now (s .entry))) (now (out .entry)) r (now (out .exit)) ⌝ }
 {
+    if kind == 1 {
+        let mut names = [0usize; 4096];
+        return put_windows(out, s, kind, &mut names);
+    }
     let mut win = [0usize; 1024];
     put_windows(out, s, kind, &mut win)
 }
@@ -245,7 +277,7 @@ fn put_chunk(out: &mut [u32], s: &[u8], held: &mut [u8], n: usize) -> Carried
     }
     let mut at = put_text_words(out, held);
     let e = k + (s.len() - k) / 3 * 3;
-    at += put_text_words(&mut out[at..], &s[k..e]);
+    at += put_source_words(&mut out[at..], &s[k..e]);
     let c = top_up(held, 0, &s[e..]);
     Carried { at: at, count: c }
 }

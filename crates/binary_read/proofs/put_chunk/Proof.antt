@@ -72,19 +72,19 @@ emits1 c =
     (chunk-words (front k) (text k) (held q) (moved q) (full q (c .before .before .before .if1 .left)) (long q) (within-text q))
     (k .pre .2) (c .put-text-words .ensures)
 
-emits2 : (c : tie.After-put-text-words2) →
+emits2 : (c : tie.After-put-source-words) →
     let q = c .before .before .before .before .before .before .before .before .before .before .before in
     Emits (wholeWords (front (start q) ++ text (start q))) (now (start q .args .out)) []
     (after (record {
       at = c .before .before .before .before .before .put-text-words .result;
       out =
           c .before .before .before .before .before .put-text-words .last .0;
-    }) (c .put-text-words2 .result) (c .put-text-words2 .last .0))
+    }) (c .put-source-words .result) (c .put-source-words .last .0))
 emits2 c =
     let q = c .before .before .before .before .before .before .before .before .before .before .before in
     let e : size q ≡ moved q + size q - moved q = omega arith in
     emit (emits1 (c .before .before .before .before .before)) (textWords (take (moved q + size q - moved q) (past q))) []
-    (ap (λ (j : ℕ). textWords (take j (past q)) ++ []) e) (c .put-text-words2 .ensures)
+    (ap (λ (j : ℕ). textWords (take j (past q)) ++ []) e) (c .put-source-words .ensures)
 
 returns-2 : tie.Need-returns-2
 returns-2 c =
