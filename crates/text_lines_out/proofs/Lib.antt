@@ -1,3 +1,4 @@
 pub mod MergeLaws
 pub mod LineLaws
 pub mod WidthLaws
+pub mod BlockLaws

@@ -292,6 +292,18 @@ at-beyond s m start a =
       near = a .near;
     })
 
+pub at-back : (s : List ℕ) (m start : ℕ) → At s m start → At s (smaller m (lineCount s)) start
+at-back s m start a =
+    by-test (leb m (lineCount s))
+    (λ t. let l = leb-true m (lineCount s) t in
+    let e : m ≡ smaller m (lineCount s) = omega arith in subst (λ (i : ℕ). At s i start) e a)
+    (λ t. let l = leb-false m (lineCount s) t in
+    record {
+      spans = λ k. a .spans k ∙ raw-beyond s (m + k) (omega arith) ∙ sym (raw-beyond s (smaller m (lineCount s) + k) (omega arith));
+      sound = a .sound;
+      near = a .near;
+    })
+
 -- RUNS AND ROWS
 run-none : (first : ℕ) (ws : List ℕ) (place k n : ℕ) → runRows first (addressFrom false ws place) k n ≡ plainRows (first + k) n
 unfolding runRows plainRows

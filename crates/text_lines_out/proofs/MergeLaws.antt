@@ -484,7 +484,7 @@ past-start w e f h = omega arith
 past-skip : (w e f : ℕ) → e ≤ f → w + (e - w) - f ≡ w - f
 past-skip w e f h = omega arith
 
-past-done : (lines w e f : ℕ) → e ≤ f
+pub past-done : (lines w e f : ℕ) → e ≤ f
     → smaller (w + (f - w)) lines ≡ smaller (w + (e - w)) lines + (smaller f lines - smaller (w + (e - w)) lines)
 past-done lines w e f h =
     by-test (leb w e)

@@ -1,6 +1,7 @@
 // The line table of the text form: rows in the order of their numbers, found in one walk along the line blocks and one along the source.
 use measuring::Room;
 use object::body_len;
+use object::kind;
 use object::number_at;
 use object::text_byte;
 use text_escape::measure_line_row;
@@ -12,6 +13,7 @@ ghost use mathlib.Core.Path.{_≡_};
 ghost use mathlib.Core.List.{[], _∷_};
 ghost use Prim.Native.Nat.{_+_, _-_, _*_, _^_, _≤_, _<_};
 ghost use lib.ListN.{length, getD};
+ghost use Rattle.format.specs.Source.{lineCount};
 ghost use Rattle.format.specs.TextWriter.{textLine, lineHeader};
 ghost use Rattle.writing.specs.Written.{Put};
 ghost use Rattle.object.specs.Texts.{textBytes};
@@ -21,6 +23,7 @@ ghost use Rattle.measuring.specs.Room.{lessPart};
 ghost use Rattle.text_lines_out.specs.Lines.{At, Next, rowsText};
 ghost use Rattle.text_lines_out.specs.Merge.{smaller};
 ghost use Rattle.text_lines_out.specs.Runs.{row, Measured, addressFrom, runRows, Planned};
+ghost use Rattle.text_lines_out.specs.Walk.{recordRows, recordDone, Follows, Passes};
 
 // Where the line after the one that starts at byte `start` of a source of `n` bytes starts; past the last line, one byte past the
 // source.
@@ -289,6 +292,138 @@ fn plan_block(ws: &[u32], at: usize, lines: u64, wraps: u64, done: u64) -> Plan
         count: kept - skip,
         place: words + skip,
         done: larger(done, lines_done(first, count, lines)),
+    }
+}
+
+// What is left of the room after the rows of a record, where the line of the next row starts, and how many of the source's lines are
+// done.
+enum Passed {
+    Left(usize, usize, u64),
+    Short,
+}
+
+// How much they have filled, where the line of the next row starts, and how many of the source's lines are done.
+struct Progress {
+    len: usize,
+    start: usize,
+    done: u64,
+}
+
+// The room that the rows of the record at a place leave.
+fn measure_line_record(
+    room: usize,
+    ws: &[u32],
+    at: usize,
+    text: usize,
+    n: usize,
+    width: usize,
+    lines: u64,
+    wraps: u64,
+    done: u64,
+    start: usize,
+) -> Passed
+    requires { ⌜ (at < length (now ws)) × (n ≤ 3 * length (now ws)) × (lines ≤ 3 * length (now ws) + 1)
+        × (lines ≡ lineCount (textBytes (now ws) text n)) × Follows (now ws) at lines wraps done
+        × At (textBytes (now ws) text n) done start ⌝ }
+    ensures { λ r. ⌜ Passes room (textBytes (now (ws .entry)) text n) width (recordRows (now (ws .entry)) at lines wraps done)
+        (recordDone (now (ws .entry)) at lines wraps done) r ⌝ }
+{
+    if kind(ws[at]) != 3 {
+        return Passed::Left(room, start, done);
+    }
+    let plan = plan_block(ws, at, lines, wraps, done);
+    let Rows::Left(rest, next) = measure_run(
+        room,
+        ws,
+        text,
+        n,
+        width,
+        done,
+        plan.gap,
+        false,
+        0,
+        start,
+    ) else {
+        return Passed::Short;
+    };
+    match measure_run(
+        rest,
+        ws,
+        text,
+        n,
+        width,
+        plan.first,
+        plan.count,
+        true,
+        plan.place,
+        next,
+    ) {
+        Rows::Left(left, last) => Passed::Left(left, last, plan.done),
+        Rows::Short => Passed::Short,
+    }
+}
+
+// They, written into a room that suffices.
+fn put_line_record(
+    out: &mut [u8],
+    ws: &[u32],
+    at: usize,
+    text: usize,
+    n: usize,
+    width: usize,
+    lines: u64,
+    wraps: u64,
+    done: u64,
+    start: usize,
+) -> Progress
+    requires { ⌜ (at < length (now ws)) × (n ≤ 3 * length (now ws)) × (lines ≤ 3 * length (now ws) + 1)
+        × (lines ≡ lineCount (textBytes (now ws) text n)) × Follows (now ws) at lines wraps done
+        × At (textBytes (now ws) text n) done start
+        × (length (rowsText width (textBytes (now ws) text n) (recordRows (now ws) at lines wraps done)) ≤ length (now out)) ⌝ }
+    ensures { λ r. ⌜ Put (rowsText width (textBytes (now (ws .entry)) text n) (recordRows (now (ws .entry)) at lines wraps done))
+        (now (out .entry)) (r .len) (now (out .exit))
+        × (r .done ≡ recordDone (now (ws .entry)) at lines wraps done)
+        × At (textBytes (now (ws .entry)) text n) (recordDone (now (ws .entry)) at lines wraps done) (r .start) ⌝ }
+{
+    if kind(ws[at]) != 3 {
+        return Progress {
+            len: 0,
+            start,
+            done,
+        };
+    }
+    let plan = plan_block(ws, at, lines, wraps, done);
+    let mut len = 0;
+    let gap = put_run(
+        &mut out[len..],
+        ws,
+        text,
+        n,
+        width,
+        done,
+        plan.gap,
+        false,
+        0,
+        start,
+    );
+    len += gap.len;
+    let own = put_run(
+        &mut out[len..],
+        ws,
+        text,
+        n,
+        width,
+        plan.first,
+        plan.count,
+        true,
+        plan.place,
+        gap.start,
+    );
+    len += own.len;
+    Progress {
+        len,
+        start: own.start,
+        done: plan.done,
     }
 }
 

@@ -1,0 +1,44 @@
+-- What a record adds to the rows of the line table, in a walk along the records of an object. Assumes nothing.
+use mathlib.Core.Path.{_≡_}
+use mathlib.Core.List.{List, [], _∷_, _++_}
+use mathlib.Core.Option.{none, some}
+use Prim.Native.Nat.{ℕ, _+_, _-_, _^_, _≤_, _<_}
+use lib.ListN.{length, drop}
+use lib.Dec.{eqb}
+use Rattle.format.specs.Basics.{if_then_else_}
+use Rattle.format.specs.ObjectFile.{lineEnd}
+use Rattle.format.specs.TextWriter.{Row, plainRows}
+use Rattle.object.specs.Access.{kindAt, lineBlockAt}
+use Rattle.measuring.specs.Room.{lessPart}
+use Rattle.text_lines_out.specs.Merge.{smaller, blockRows, straight}
+use Rattle.text_lines_out.specs.Lines.{At, rowsText}
+use Rattle.text_lines_out.specs.declared.Passed.{Passed}
+use Rattle.text_lines_out.specs.declared.Passed.the-variants as answer
+
+module _ (ws : List ℕ) (at lines wraps done : ℕ) where
+  -- the source's rows before the line block at a place, and its own
+  abbrev pub gapRows : List Row
+  gapRows = plainRows done (smaller (lineBlockAt ws at .first) lines - done)
+
+  abbrev pub ownRows : List Row
+  ownRows = blockRows (wraps + (lineBlockAt ws at .first - wraps)) (drop (wraps - lineBlockAt ws at .first) (straight (lineBlockAt ws at)))
+
+  -- the rows of the record at a place: none unless it is a line block
+  unfoldable pub recordRows : List Row
+  recordRows = if eqb (kindAt ws at) 3 then gapRows ++ ownRows else []
+
+  -- how many of the source's lines are done past it
+  unfoldable pub recordDone : ℕ
+  recordDone = if eqb (kindAt ws at) 3 then done + (smaller (lineEnd (lineBlockAt ws at)) lines - done) else done
+
+  -- a line block at a place begins past the end of the one before it, up to which the source's lines are done
+  abbrev pub Follows : Type 0
+  Follows =
+      kindAt ws at ≡ 3 → (e : ℕ) × (e ≤ lineBlockAt ws at .first) × (lineBlockAt ws at .first < 2 ^ 64)
+      × (done ≡ smaller (wraps + (e - wraps)) lines)
+
+-- the room that rows leave, how many of the source's lines are done, and where the next one starts
+abbrev pub Passes : ℕ → List ℕ → ℕ → List Row → ℕ → Passed → Type 0
+Passes room s width rows m (answer.Left left start done) =
+    (some left ≡ lessPart room (rowsText width s rows)) × (done ≡ m) × At s m start
+Passes room s width rows m answer.Short = none ≡ lessPart room (rowsText width s rows)
