@@ -8,23 +8,25 @@ use lib.ListN.{length, take, drop, length-append, length-take, length-drop}
 use lib.Seq.{take-all, length-take-le}
 use lib.Dec.{leb, eqb}
 use borrow.Author.Tests.{le-leb, lt-leb, leb-true, leb-false, eq-eqb, ne-eqb, eqb-true, eqb-false}
-use Rattle.format.specs.Basics.{given, if_then_else_}
+use Rattle.format.specs.Basics.{given, givenOr, if_then_else_}
 use Rattle.format.specs.ObjectFile.{ObjectFile, LineBlock, lineEnd}
 use Rattle.format.specs.Records.{Record, placed, emptyObject}
 use Rattle.format.specs.Source.{lineCount}
+use Rattle.format.specs.Calls.{checked}
 use Rattle.format.specs.TextWriter.{Row, plainRows, textLine, lineRow, sourceCell}
 use Rattle.format.proofs.ListLaws.{by-test}
 use Rattle.object.specs.Bodies.{bodyAt}
 use Rattle.object.specs.Access.{kindAt, lineBlockAt, recordAt}
+use Rattle.object.proofs.Formed.{formed}
 use Rattle.object.proofs.BodyLaws.{body-fits}
 use Rattle.source_info.proofs.RecordLaws.{Left, Here, start, finish, here, on, lines-here, lines-other}
 use Rattle.writing.specs.Written.{filled, written, Put}
 use Rattle.text_lines_out.specs.Merge.{smaller, blockRows, straight, walkFrom}
 use Rattle.text_lines_out.specs.Lines.{At, rowsText}
-use Rattle.text_lines_out.specs.Walk.{gapRows, ownRows, recordRows, recordDone, Follows}
+use Rattle.text_lines_out.specs.Walk.{gapRows, ownRows, recordRows, recordDone, Follows, lineBlocksIn, walkRows}
 use Rattle.text_lines_out.specs.Runs.{addressFrom, runRows, Planned}
 use Rattle.text_lines_out.specs.declared.Plan.{Plan}
-use Rattle.text_lines_out.proofs.MergeLaws.{Apart, past-done}
+use Rattle.text_lines_out.proofs.MergeLaws.{Apart, past-done, lines-apart}
 use Rattle.text_lines_out.proofs.LineLaws.{at-beyond, at-back, run-plain, smaller-right}
 
 -- ROWS OF TWO LISTS
@@ -228,3 +230,76 @@ module _ (ws : List ℕ) (at lines wraps done : ℕ) where
 pub nothing-put : {part : List ℕ} (room : List ℕ) → part ≡ [] → Put part room 0 room
 unfolding filled written
 nothing-put room e = rw e (rw (le-leb 0 (length room) (omega arith)) refl, rw (le-leb 0 (length room) (omega arith)) refl)
+
+-- THE WALK: which line blocks are left at a place, and where the source stands
+abbrev pub lineBlocksOf : ObjectFile → List LineBlock
+lineBlocksOf h = h .lineBlocks
+
+pub record Walking (ws s : List ℕ) (lines wraps at done next : ℕ) (ls : List LineBlock) : Type 0 where
+  pub past : ℕ
+  pub left : Left ws at lineBlocksOf ls
+  pub apart : Apart past ls
+  pub done-is : done ≡ smaller (wraps + (past - wraps)) lines
+  pub here : At s done next
+
+module _ (ws s : List ℕ) (lines wraps : ℕ) where
+  pub walking-start : (done next : ℕ) → checked ws ≡ 0 → done ≡ smaller wraps lines → At s (smaller wraps lines) next
+      → Walking ws s lines wraps 0 done next (lineBlocksIn ws)
+  walking-start done next e d a =
+      let f = formed ws e in
+      let q : lineBlocksIn ws ≡ f .object .lineBlocks = ap (λ o. givenOr o emptyObject .lineBlocks) (f .is) in
+      let z : wraps ≡ wraps + (0 - wraps) = omega arith in
+      record {
+        past = 0;
+        left = subst (λ (ls : List LineBlock). Left ws 0 lineBlocksOf ls) (sym q) (start ws lineBlocksOf (f .object) (f .is));
+        apart = subst (λ (ls : List LineBlock). Apart 0 ls) (sym q) (lines-apart ws (f .object) (f .is));
+        done-is = d ∙ ap (λ (x : ℕ). smaller x lines) z;
+        here = subst (λ (m : ℕ). At s m next) (sym d) a;
+      }
+
+  module _ (at done next : ℕ) (ls : List LineBlock) (g : Walking ws s lines wraps at done next ls) where
+    pub walking-low : done ≤ lines
+    walking-low = let h = smaller-right (wraps + (g .past - wraps)) lines in omega (arith, g .done-is, h)
+
+    pub walking-end : (width : ℕ) → length ws ≤ at
+        → rowsText width s (walkFrom lines wraps done ls) ≡ rowsText width s (runRows done (addressFrom false ws 0) 0 (lines - done))
+    unfolding emptyObject
+    walking-end width h =
+        let e : [] ≡ ls = finish ws lineBlocksOf at ls h (g .left) in
+        ap (rowsText width s)
+        (ap (walkFrom lines wraps done) (sym e) ∙ walk-last lines wraps done ∙ sym (run-plain done ws 0 (lines - done)))
+
+    module _ (h : at < length ws) where
+      abbrev step : Walks ws at lines wraps done (g .past) ls
+      step = walks ws at lines wraps done (g .past) ls h (g .left) (g .apart) (g .done-is)
+
+      abbrev pub others : List LineBlock
+      others = step .others
+
+      pub walking-follows : Follows ws at lines wraps done
+      walking-follows = step .follows
+
+      pub walking-rows : (width d : ℕ) → d ≡ recordDone ws at lines wraps done
+          → rowsText width s (walkFrom lines wraps done ls)
+          ≡ rowsText width s (recordRows ws at lines wraps done) ++ rowsText width s (walkFrom lines wraps d others)
+      walking-rows width d e =
+          ap (rowsText width s) (step .rows ∙ ap (λ (x : ℕ). recordRows ws at lines wraps done ++ walkFrom lines wraps x others) (sym e))
+          ∙ rows-append width s (recordRows ws at lines wraps done) (walkFrom lines wraps d others)
+
+      pub walking-on : (n d m : ℕ) → n ≡ at + 1 + length (bodyAt ws (at + 1)) → d ≡ recordDone ws at lines wraps done
+          → At s (recordDone ws at lines wraps done) m → Walking ws s lines wraps n d m others
+      walking-on n d m e q a = record {
+        past = step .past;
+        left = step .left n e;
+        apart = step .apart;
+        done-is = q ∙ step .done-is;
+        here = subst (λ (x : ℕ). At s x m) (sym q) a;
+      }
+
+      pub walking-less : (n : ℕ) → n ≡ at + 1 + length (bodyAt ws (at + 1)) → (at < n) × (n ≤ length ws)
+      walking-less n e = (omega arith, omega (arith, body-fits ws (at + 1) (omega arith)))
+
+pub walk-rows : (ws : List ℕ) (lines wraps done : ℕ) → done ≡ smaller wraps lines
+    → walkFrom lines wraps done (lineBlocksIn ws) ≡ walkRows ws lines wraps
+unfolding walkRows
+walk-rows ws lines wraps done e = ap (λ (d : ℕ). walkFrom lines wraps d (lineBlocksIn ws)) e

@@ -5,12 +5,14 @@ use mathlib.Core.Option.{none, some}
 use Prim.Native.Nat.{ℕ, _+_, _-_, _^_, _≤_, _<_}
 use lib.ListN.{length, drop}
 use lib.Dec.{eqb}
-use Rattle.format.specs.Basics.{if_then_else_}
-use Rattle.format.specs.ObjectFile.{lineEnd}
+use Rattle.format.specs.Basics.{givenOr, if_then_else_}
+use Rattle.format.specs.ObjectFile.{ObjectFile, LineBlock, lineEnd}
+use Rattle.format.specs.Records.{emptyObject}
+use Rattle.format.specs.Words.{objectOf}
 use Rattle.format.specs.TextWriter.{Row, plainRows}
 use Rattle.object.specs.Access.{kindAt, lineBlockAt}
 use Rattle.measuring.specs.Room.{lessPart}
-use Rattle.text_lines_out.specs.Merge.{smaller, blockRows, straight}
+use Rattle.text_lines_out.specs.Merge.{smaller, blockRows, straight, walkFrom}
 use Rattle.text_lines_out.specs.Lines.{At, rowsText}
 use Rattle.text_lines_out.specs.declared.Passed.{Passed}
 use Rattle.text_lines_out.specs.declared.Passed.the-variants as answer
@@ -42,3 +44,11 @@ abbrev pub Passes : ℕ → List ℕ → ℕ → List Row → ℕ → Passed →
 Passes room s width rows m (answer.Left left start done) =
     (some left ≡ lessPart room (rowsText width s rows)) × (done ≡ m) × At s m start
 Passes room s width rows m answer.Short = none ≡ lessPart room (rowsText width s rows)
+
+-- the line blocks of well formed words; none of others, which no caller has
+abbrev pub lineBlocksIn : List ℕ → List LineBlock
+lineBlocksIn ws = givenOr (objectOf ws) emptyObject .lineBlocks
+
+-- the rows of a walk along the whole object, after so many rows that wrapped
+unfoldable pub walkRows : List ℕ → ℕ → ℕ → List Row
+walkRows ws lines wraps = walkFrom lines wraps (smaller wraps lines) (lineBlocksIn ws)

@@ -1,5 +1,6 @@
 // The line table of the text form: rows in the order of their numbers, found in one walk along the line blocks and one along the source.
 use measuring::Room;
+use object::body_end;
 use object::body_len;
 use object::kind;
 use object::number_at;
@@ -14,16 +15,17 @@ ghost use mathlib.Core.List.{[], _∷_};
 ghost use Prim.Native.Nat.{_+_, _-_, _*_, _^_, _≤_, _<_};
 ghost use lib.ListN.{length, getD};
 ghost use Rattle.format.specs.Source.{lineCount};
+ghost use Rattle.format.specs.Calls.{checked};
 ghost use Rattle.format.specs.TextWriter.{textLine, lineHeader};
 ghost use Rattle.writing.specs.Written.{Put};
 ghost use Rattle.object.specs.Texts.{textBytes};
 ghost use Rattle.object.specs.Access.{addressIn};
 ghost use Rattle.text_numerals.specs.Memory.{knownWord};
-ghost use Rattle.measuring.specs.Room.{lessPart};
+ghost use Rattle.measuring.specs.Room.{roomOf, lessPart};
 ghost use Rattle.text_lines_out.specs.Lines.{At, Next, rowsText};
 ghost use Rattle.text_lines_out.specs.Merge.{smaller};
 ghost use Rattle.text_lines_out.specs.Runs.{row, Measured, addressFrom, runRows, Planned};
-ghost use Rattle.text_lines_out.specs.Walk.{recordRows, recordDone, Follows, Passes};
+ghost use Rattle.text_lines_out.specs.Walk.{recordRows, recordDone, Follows, Passes, walkRows};
 
 // Where the line after the one that starts at byte `start` of a source of `n` bytes starts; past the last line, one byte past the
 // source.
@@ -425,6 +427,109 @@ fn put_line_record(
         start: own.start,
         done: plan.done,
     }
+}
+
+// The room that the rows of all records leave, and of the source's lines past them.
+fn measure_line_records(
+    room: usize,
+    ws: &[u32],
+    text: usize,
+    n: usize,
+    width: usize,
+    lines: u64,
+    wraps: u64,
+    start: usize,
+) -> Room
+    requires { ⌜ (checked (now ws) ≡ 0) × (n ≤ 3 * length (now ws)) × (lines ≤ 3 * length (now ws) + 1)
+        × (lines ≡ lineCount (textBytes (now ws) text n)) × At (textBytes (now ws) text n) (smaller wraps lines) start ⌝ }
+    ensures { λ r. ⌜ roomOf r
+        ≡ lessPart room (rowsText width (textBytes (now (ws .entry)) text n) (walkRows (now (ws .entry)) lines wraps)) ⌝ }
+{
+    let mut left = room;
+    let mut next = start;
+    let mut done = smaller_line(wraps, lines);
+    let mut at = 0;
+    while at < ws.len() {
+        let Passed::Left(rest, after, past) = measure_line_record(
+            left,
+            ws,
+            at,
+            text,
+            n,
+            width,
+            lines,
+            wraps,
+            done,
+            next,
+        ) else {
+            return Room::Short;
+        };
+        left = rest;
+        next = after;
+        done = past;
+        at = body_end(ws, at + 1);
+    }
+    let count = minus(lines, done) as usize;
+    match measure_run(left, ws, text, n, width, done, count, false, 0, next) {
+        Rows::Left(rest, _) => Room::Left(rest),
+        Rows::Short => Room::Short,
+    }
+}
+
+// They, written into a room that suffices.
+fn put_line_records(
+    out: &mut [u8],
+    ws: &[u32],
+    text: usize,
+    n: usize,
+    width: usize,
+    lines: u64,
+    wraps: u64,
+    start: usize,
+) -> usize
+    requires { ⌜ (checked (now ws) ≡ 0) × (n ≤ 3 * length (now ws)) × (lines ≤ 3 * length (now ws) + 1)
+        × (lines ≡ lineCount (textBytes (now ws) text n)) × At (textBytes (now ws) text n) (smaller wraps lines) start
+        × (length (rowsText width (textBytes (now ws) text n) (walkRows (now ws) lines wraps)) ≤ length (now out)) ⌝ }
+    ensures { λ r. ⌜ Put (rowsText width (textBytes (now (ws .entry)) text n) (walkRows (now (ws .entry)) lines wraps))
+        (now (out .entry)) r (now (out .exit)) ⌝ }
+{
+    let mut len = 0;
+    let mut next = start;
+    let mut done = smaller_line(wraps, lines);
+    let mut at = 0;
+    while at < ws.len() {
+        let rows = put_line_record(
+            &mut out[len..],
+            ws,
+            at,
+            text,
+            n,
+            width,
+            lines,
+            wraps,
+            done,
+            next,
+        );
+        len += rows.len;
+        next = rows.start;
+        done = rows.done;
+        at = body_end(ws, at + 1);
+    }
+    let count = minus(lines, done) as usize;
+    let last = put_run(
+        &mut out[len..],
+        ws,
+        text,
+        n,
+        width,
+        done,
+        count,
+        false,
+        0,
+        next,
+    );
+    len += last.len;
+    len
 }
 
 // What stands in the header's first column, and what follows it.
