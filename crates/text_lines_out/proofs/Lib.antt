@@ -2,3 +2,4 @@ pub mod MergeLaws
 pub mod LineLaws
 pub mod WidthLaws
 pub mod BlockLaws
+pub mod TableLaws

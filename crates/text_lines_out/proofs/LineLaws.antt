@@ -351,6 +351,9 @@ sum-below d k j h = omega arith
 regroup : (a d j : ℕ) → a + d + j ≡ a + (d + j)
 regroup a d j = omega arith
 
+pub smaller-same : (a : ℕ) → a ≡ smaller a a
+smaller-same a = omega arith
+
 smaller-left : (a b : ℕ) → smaller a b ≤ a
 smaller-left a b = omega arith
 
@@ -367,7 +370,7 @@ take-at-place (suc n) [] j h = refl
 take-at-place (suc n) (x ∷ xs) zero h = refl
 take-at-place (suc n) (x ∷ xs) (suc j) h = take-at-place n xs j (omega arith)
 
-map-at-place : (xs : List ℕ) (j : ℕ) → j < length xs → getD (map addressIn xs) j 0 ≡ addressIn (getD xs j 0)
+pub map-at-place : (xs : List ℕ) (j : ℕ) → j < length xs → getD (map addressIn xs) j 0 ≡ addressIn (getD xs j 0)
 map-at-place [] j h = absurd (omega arith)
 map-at-place (x ∷ xs) zero h = refl
 map-at-place (x ∷ xs) (suc j) h = map-at-place xs j (omega arith)

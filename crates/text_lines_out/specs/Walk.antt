@@ -1,5 +1,6 @@
 -- What a record adds to the rows of the line table, in a walk along the records of an object. Assumes nothing.
 use mathlib.Core.Path.{_≡_}
+use mathlib.Core.Bool.{true}
 use mathlib.Core.List.{List, [], _∷_, _++_}
 use mathlib.Core.Option.{none, some}
 use Prim.Native.Nat.{ℕ, _+_, _-_, _^_, _≤_, _<_}
@@ -14,6 +15,8 @@ use Rattle.object.specs.Access.{kindAt, lineBlockAt}
 use Rattle.measuring.specs.Room.{lessPart}
 use Rattle.text_lines_out.specs.Merge.{smaller, blockRows, straight, walkFrom}
 use Rattle.text_lines_out.specs.Lines.{At, rowsText}
+use Rattle.text_lines_out.specs.Runs.{addressFrom, runRows}
+use Rattle.text_lines_out.specs.declared.Wrapped.{Wrapped}
 use Rattle.text_lines_out.specs.declared.Passed.{Passed}
 use Rattle.text_lines_out.specs.declared.Passed.the-variants as answer
 
@@ -52,3 +55,27 @@ lineBlocksIn ws = givenOr (objectOf ws) emptyObject .lineBlocks
 -- the rows of a walk along the whole object, after so many rows that wrapped
 unfoldable pub walkRows : List ℕ → ℕ → ℕ → List Row
 walkRows ws lines wraps = walkFrom lines wraps (smaller wraps lines) (lineBlocksIn ws)
+
+-- the addresses of the record at a place whose lines wrap: none unless it is a line block
+unfoldable pub wrappedAt : List ℕ → ℕ → List ℕ
+wrappedAt ws at = if eqb (kindAt ws at) 3 then drop (2 ^ 64 - lineBlockAt ws at .first) (lineBlockAt ws at .addresses) else []
+
+-- so many words from a place on hold these addresses, of line 0 and those after it
+pub record Wraps (ws xs : List ℕ) (r : Wrapped) : Type 0 where
+  pub count : r .count ≡ length xs
+  pub rows : runRows 0 (addressFrom true ws (r .place)) 0 (r .count) ≡ blockRows 0 xs
+
+-- the largest line number that a block with addresses sets in: the largest 64-bit value where lines wrap
+abbrev pub lastLine : LineBlock → ℕ
+lastLine l = smaller (l .first + (length (l .addresses) - 1)) (2 ^ 64 - 1)
+
+-- the larger of a line number and that
+unfoldable pub blockTop : ℕ → LineBlock → ℕ
+blockTop top l = if eqb (length (l .addresses)) 0 then top else top + (lastLine l - top)
+
+unfoldable pub blocksTop : ℕ → List LineBlock → ℕ  -- block by block
+blocksTop top [] = top
+blocksTop top (l ∷ ls) = blocksTop (blockTop top l) ls
+
+unfoldable pub topAt : List ℕ → ℕ → ℕ → ℕ  -- of the record at a place
+topAt ws at top = if eqb (kindAt ws at) 3 then blockTop top (lineBlockAt ws at) else top

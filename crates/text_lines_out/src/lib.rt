@@ -7,6 +7,7 @@ use object::number_at;
 use object::text_byte;
 use text_escape::measure_line_row;
 use text_escape::put_line_row;
+use text_numerals::count_digits;
 use text_numerals::put_spaces;
 use units::Line;
 use writing::put_bytes;
@@ -16,16 +17,16 @@ ghost use Prim.Native.Nat.{_+_, _-_, _*_, _^_, _≤_, _<_};
 ghost use lib.ListN.{length, getD};
 ghost use Rattle.format.specs.Source.{lineCount};
 ghost use Rattle.format.specs.Calls.{checked};
-ghost use Rattle.format.specs.TextWriter.{textLine, lineHeader};
+ghost use Rattle.format.specs.TextWriter.{textLine, lineHeader, lineWidth, addBlocks, plainRows};
 ghost use Rattle.writing.specs.Written.{Put};
 ghost use Rattle.object.specs.Texts.{textBytes};
 ghost use Rattle.object.specs.Access.{addressIn};
 ghost use Rattle.text_numerals.specs.Memory.{knownWord};
 ghost use Rattle.measuring.specs.Room.{roomOf, lessPart};
 ghost use Rattle.text_lines_out.specs.Lines.{At, Next, rowsText};
-ghost use Rattle.text_lines_out.specs.Merge.{smaller};
+ghost use Rattle.text_lines_out.specs.Merge.{smaller, wrapped};
 ghost use Rattle.text_lines_out.specs.Runs.{row, Measured, addressFrom, runRows, Planned};
-ghost use Rattle.text_lines_out.specs.Walk.{recordRows, recordDone, Follows, Passes, walkRows};
+ghost use Rattle.text_lines_out.specs.Walk.{recordRows, recordDone, Follows, Passes, walkRows, lineBlocksIn, wrappedAt, Wraps, topAt};
 
 // Where the line after the one that starts at byte `start` of a source of `n` bytes starts; past the last line, one byte past the
 // source.
@@ -530,6 +531,94 @@ fn put_line_records(
     );
     len += last.len;
     len
+}
+
+// The words that hold addresses whose lines wrap: a place and how many.
+struct Wrapped {
+    place: usize,
+    count: usize,
+}
+
+// Those of the record at a place: none unless it is a line block.
+fn wrapped_at(ws: &[u32], at: usize) -> Wrapped
+    requires { ⌜ at < length (now ws) ⌝ }
+    ensures { λ r. ⌜ Wraps (now (ws .entry)) (wrappedAt (now (ws .entry)) at) r ⌝ }
+{
+    if kind(ws[at]) != 3 {
+        return Wrapped { place: 0, count: 0 };
+    }
+    let body = at + 1;
+    let words = body + 3;
+    let first = number_at(ws, body);
+    let count = body_len(ws, words);
+    let kept = straight_count(first, count);
+    Wrapped {
+        place: words + kept,
+        count: count - kept,
+    }
+}
+
+// Those of an object: only the last line block can have any.
+fn find_wrapped(ws: &[u32]) -> Wrapped
+    requires { ⌜ checked (now ws) ≡ 0 ⌝ }
+    ensures { λ r. ⌜ Wraps (now (ws .entry)) (wrapped (lineBlocksIn (now (ws .entry)))) r ⌝ }
+{
+    let mut at = 0;
+    while at < ws.len() {
+        let found = wrapped_at(ws, at);
+        if found.count > 0 {
+            return found;
+        }
+        at = body_end(ws, at + 1);
+    }
+    Wrapped { place: 0, count: 0 }
+}
+
+// The last line of so many from a line on; the largest 64-bit value where they wrap.
+fn last_line(first: u64, count: usize) -> u64
+    ensures { λ r. ⌜ r ≡ smaller (first + (count - 1)) (2 ^ 64 - 1) ⌝ }
+{
+    let more = minus(count as u64, 1);
+    if more <= 0xFFFF_FFFF_FFFF_FFFF - first {
+        return first + more;
+    }
+    0xFFFF_FFFF_FFFF_FFFF
+}
+
+// The larger of a line number and those of the record at a place.
+fn top_at(ws: &[u32], at: usize, top: u64) -> u64
+    requires { ⌜ at < length (now ws) ⌝ }
+    ensures { λ r. ⌜ r ≡ topAt (now (ws .entry)) at top ⌝ }
+{
+    if kind(ws[at]) != 3 {
+        return top;
+    }
+    let body = at + 1;
+    let words = body + 3;
+    let first = number_at(ws, body);
+    let count = body_len(ws, words);
+    if count == 0 {
+        return top;
+    }
+    larger(top, last_line(first, count))
+}
+
+// The width of the column of line numbers, for a source of so many lines.
+fn line_width(ws: &[u32], lines: u64) -> usize
+    requires { ⌜ (checked (now ws) ≡ 0) × (1 ≤ lines) ⌝ }
+    ensures { λ r. ⌜ r ≡ lineWidth (addBlocks (lineBlocksIn (now (ws .entry))) (plainRows 0 lines)) ⌝ }
+{
+    let mut top = lines - 1;
+    let mut at = 0;
+    while at < ws.len() {
+        top = top_at(ws, at, top);
+        at = body_end(ws, at + 1);
+    }
+    let digits = count_digits(top);
+    if digits < 4 {
+        return 4;
+    }
+    digits
 }
 
 // What stands in the header's first column, and what follows it.
