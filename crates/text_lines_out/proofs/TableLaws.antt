@@ -12,7 +12,8 @@ use Rattle.format.specs.Basics.{givenOr, if_then_else_}
 use Rattle.format.specs.ObjectFile.{ObjectFile, LineBlock, lineEnd}
 use Rattle.format.specs.Records.{Record, placed, emptyObject}
 use Rattle.format.specs.Calls.{checked}
-use Rattle.format.specs.TextWriter.{Row, decimal, widest, plainRows, addRows, addBlocks, lineWidth}
+use Rattle.format.specs.Source.{lineCount}
+use Rattle.format.specs.TextWriter.{Row, decimal, widest, plainRows, addRows, addBlocks, lineRows, lineWidth, lineHeader, lineTable, textLine}
 use Rattle.format.proofs.ListLaws.{by-test}
 use Rattle.object.specs.Bodies.{bodyAt}
 use Rattle.object.specs.Access.{addressIn, kindAt, lineBlockAt, recordAt}
@@ -20,14 +21,15 @@ use Rattle.object.proofs.Formed.{formed}
 use Rattle.object.proofs.BodyLaws.{body-fits}
 use Rattle.object.proofs.ByteLaws.{body-word}
 use Rattle.source_info.proofs.RecordLaws.{Left, start, finish, here, lines-here, lines-other}
-use Rattle.text_lines_out.specs.Merge.{smaller, blockRows, wrapped}
+use Rattle.text_lines_out.specs.Merge.{smaller, blockRows, wrapped, walkFrom}
+use Rattle.text_lines_out.specs.Lines.{At, rowsText}
 use Rattle.text_lines_out.specs.Runs.{addressFrom, runRows}
-use Rattle.text_lines_out.specs.Walk.{lineBlocksIn, wrappedAt, Wraps, lastLine, blockTop, blocksTop, topAt}
+use Rattle.text_lines_out.specs.Walk.{lineBlocksIn, walkRows, wrappedAt, Wraps, lastLine, blockTop, blocksTop, topAt}
 use Rattle.text_lines_out.specs.declared.Wrapped.{Wrapped}
-use Rattle.text_lines_out.proofs.MergeLaws.{Apart, lines-apart, add-append, wrapped-cons}
-use Rattle.text_lines_out.proofs.LineLaws.{run-block, map-at-place}
+use Rattle.text_lines_out.proofs.MergeLaws.{Apart, lines-apart, line-walk, add-append, wrapped-cons}
+use Rattle.text_lines_out.proofs.LineLaws.{run-block, map-at-place, at-back}
 use Rattle.text_lines_out.proofs.WidthLaws.{decimal-rises, wide, wide-block, wide-wrapped}
-use Rattle.text_lines_out.proofs.BlockLaws.{lineBlocksOf}
+use Rattle.text_lines_out.proofs.BlockLaws.{lineBlocksOf, rows-append}
 
 -- A RECORD of a walk along the line blocks
 module _ (ws : List ℕ) (at e : ℕ) (ls : List LineBlock) where
@@ -315,3 +317,46 @@ module _ (ws : List ℕ) (at top : ℕ) where
       rw (eq-eqb (kindAt ws at) 3 k)
       (rw (ne-eqb (length (lineBlockAt ws at .addresses)) 0 (λ z. n (sym m ∙ z)))
       (ap (λ (x : ℕ). top + (smaller (lineBlockAt ws at .first + (x - 1)) (2 ^ 64 - 1) - top)) (sym m)))
+
+-- THE LINE TABLE, part by part
+module _ (ws s : List ℕ) (lines width : ℕ) (r : Wrapped) (e : checked ws ≡ 0) (counted : lines ≡ lineCount s) (few : lines ≤ 2 ^ 64)
+    (short : r .count ≤ 2 ^ 64) (w : Wraps ws (wrapped (lineBlocksIn ws)) r)
+    (wide-is : width ≡ lineWidth (addBlocks (lineBlocksIn ws) (plainRows 0 lines))) where
+  abbrev pub wrappedRows : List ℕ
+  wrappedRows = rowsText width s (runRows 0 (addressFrom true ws (r .place)) 0 (r .count))
+
+  abbrev pub walkedRows : List ℕ
+  walkedRows = rowsText width s (walkRows ws lines (r .count))
+
+  abbrev ls : List LineBlock
+  ls = lineBlocksIn ws
+
+  rows-are : lineRows s ls ≡ runRows 0 (addressFrom true ws (r .place)) 0 (r .count) ++ walkRows ws lines (r .count)
+  unfolding walkRows
+  rows-are =
+      line-walk s ls (subst (λ (n : ℕ). n ≤ 2 ^ 64) counted few) (blocks-start ws e .1) (subst (λ (n : ℕ). n ≤ 2 ^ 64) (w .count) short)
+      ∙ ap₂ (λ (x y : List Row). x ++ y) (sym (w .rows))
+      (ap (λ (n : ℕ). walkFrom n (length (wrapped ls)) (smaller (length (wrapped ls)) n) ls) (sym counted)
+      ∙ ap (λ (n : ℕ). walkFrom lines n (smaller n lines) ls) (sym (w .count)))
+
+  width-of : lineWidth (lineRows s ls) ≡ width
+  unfolding lineRows
+  width-of = sym (wide-is ∙ ap (λ (n : ℕ). lineWidth (addBlocks ls (plainRows 0 n))) counted)
+
+  pub table-parts : lineTable s ls ≡ textLine (lineHeader width) ++ (wrappedRows ++ walkedRows)
+  unfolding lineTable rowsText
+  table-parts =
+      ap (λ (k : ℕ). textLine (lineHeader k) ++ rowsText k s (lineRows s ls)) width-of
+      ∙ ap (λ (t : List ℕ). textLine (lineHeader width) ++ t)
+      (ap (rowsText width s) rows-are
+      ∙ rows-append width s (runRows 0 (addressFrom true ws (r .place)) 0 (r .count)) (walkRows ws lines (r .count)))
+
+  pub wrapped-passed : (x : ℕ) → At s (0 + r .count) x → At s (smaller (r .count) lines) x
+  wrapped-passed x a =
+      let z : 0 + r .count ≡ r .count = omega arith in
+      subst (λ (m : ℕ). At s (smaller (r .count) m) x) (sym counted)
+      (at-back s (r .count) x (subst (λ (m : ℕ). At s m x) z a))
+
+pub some-lines : (s : List ℕ) (lines : ℕ) → lines ≡ lineCount s → 1 ≤ lines
+unfolding lineCount
+some-lines s lines e = omega arith

@@ -17,7 +17,9 @@ ghost use Prim.Native.Nat.{_+_, _-_, _*_, _^_, _≤_, _<_};
 ghost use lib.ListN.{length, getD};
 ghost use Rattle.format.specs.Source.{lineCount};
 ghost use Rattle.format.specs.Calls.{checked};
-ghost use Rattle.format.specs.TextWriter.{textLine, lineHeader, lineWidth, addBlocks, plainRows};
+ghost use Rattle.format.specs.TextWriter.{textLine, lineHeader, lineTable, lineWidth, addBlocks, plainRows};
+ghost use Rattle.format.specs.Utf8.{isUtf8};
+ghost use mathlib.Core.Bool.{true};
 ghost use Rattle.writing.specs.Written.{Put};
 ghost use Rattle.object.specs.Texts.{textBytes};
 ghost use Rattle.object.specs.Access.{addressIn};
@@ -662,4 +664,86 @@ pub fn put_line_header(out: &mut [u8], width: usize) -> usize
     k += put_spaces(&mut out[k..], fill);
     k += put_bytes(&mut out[k..], &rest);
     k
+}
+
+// The room that the header leaves.
+fn measure_line_header(room: usize, width: usize) -> Room
+    ensures { λ r. ⌜ roomOf r ≡ lessPart room (textLine (lineHeader width)) ⌝ }
+{
+    let fill = minus(width as u64, 4) as usize;
+    if room < 21 {
+        return Room::Short;
+    }
+    let left = room - 21;
+    if left < fill {
+        return Room::Short;
+    }
+    Room::Left(left - fill)
+}
+
+// The room that the line table leaves, for the source of `n` bytes and so many lines in the words from a place on.
+fn measure_line_table(room: usize, ws: &[u32], text: usize, n: usize, lines: u64) -> Room
+    requires { ⌜ (checked (now ws) ≡ 0) × (n ≤ 3 * length (now ws)) × (lines ≤ 3 * length (now ws) + 1)
+        × (lines ≡ lineCount (textBytes (now ws) text n)) × (isUtf8 (textBytes (now ws) text n) ≡ true) ⌝ }
+    ensures { λ r. ⌜ roomOf r
+        ≡ lessPart room (lineTable (textBytes (now (ws .entry)) text n) (lineBlocksIn (now (ws .entry)))) ⌝ }
+{
+    let width = line_width(ws, lines);
+    let wrapped = find_wrapped(ws);
+    let Room::Left(left) = measure_line_header(room, width) else {
+        return Room::Short;
+    };
+    let Rows::Left(rest, next) = measure_run(
+        left,
+        ws,
+        text,
+        n,
+        width,
+        0,
+        wrapped.count,
+        true,
+        wrapped.place,
+        0,
+    ) else {
+        return Room::Short;
+    };
+    measure_line_records(rest, ws, text, n, width, lines, wrapped.count as u64, next)
+}
+
+// It, written into a room that suffices.
+fn put_line_table(out: &mut [u8], ws: &[u32], text: usize, n: usize, lines: u64) -> usize
+    requires { ⌜ (checked (now ws) ≡ 0) × (n ≤ 3 * length (now ws)) × (lines ≤ 3 * length (now ws) + 1)
+        × (lines ≡ lineCount (textBytes (now ws) text n)) × (isUtf8 (textBytes (now ws) text n) ≡ true)
+        × (length (lineTable (textBytes (now ws) text n) (lineBlocksIn (now ws))) ≤ length (now out)) ⌝ }
+    ensures { λ r. ⌜ Put (lineTable (textBytes (now (ws .entry)) text n) (lineBlocksIn (now (ws .entry)))) (now (out .entry)) r
+        (now (out .exit)) ⌝ }
+{
+    let width = line_width(ws, lines);
+    let wrapped = find_wrapped(ws);
+    let mut len = 0;
+    len += put_line_header(&mut out[len..], width);
+    let rows = put_run(
+        &mut out[len..],
+        ws,
+        text,
+        n,
+        width,
+        0,
+        wrapped.count,
+        true,
+        wrapped.place,
+        0,
+    );
+    len += rows.len;
+    len += put_line_records(
+        &mut out[len..],
+        ws,
+        text,
+        n,
+        width,
+        lines,
+        wrapped.count as u64,
+        rows.start,
+    );
+    len
 }
