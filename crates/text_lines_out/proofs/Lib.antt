@@ -3,3 +3,4 @@ pub mod LineLaws
 pub mod WidthLaws
 pub mod BlockLaws
 pub mod TableLaws
+pub mod SourceLaws

@@ -2,15 +2,15 @@
 use mathlib.Core.Path.{_≡_}
 use mathlib.Core.Bool.{true}
 use mathlib.Core.List.{List, [], _∷_, _++_}
-use mathlib.Core.Option.{none, some}
+use mathlib.Core.Option.{none, some, Option·getD}
 use Prim.Native.Nat.{ℕ, _+_, _-_, _^_, _≤_, _<_}
 use lib.ListN.{length, drop}
 use lib.Dec.{eqb}
-use Rattle.format.specs.Basics.{givenOr, if_then_else_}
+use Rattle.format.specs.Basics.{givenOr, andThen, if_then_else_}
 use Rattle.format.specs.ObjectFile.{ObjectFile, LineBlock, lineEnd}
 use Rattle.format.specs.Records.{emptyObject}
 use Rattle.format.specs.Words.{objectOf}
-use Rattle.format.specs.TextWriter.{Row, plainRows}
+use Rattle.format.specs.TextWriter.{Row, plainRows, lineTable, barLine}
 use Rattle.object.specs.Access.{kindAt, lineBlockAt}
 use Rattle.measuring.specs.Room.{lessPart}
 use Rattle.text_lines_out.specs.Merge.{smaller, blockRows, straight, walkFrom}
@@ -79,3 +79,8 @@ blocksTop top (l ∷ ls) = blocksTop (blockTop top l) ls
 
 unfoldable pub topAt : List ℕ → ℕ → ℕ → ℕ  -- of the record at a place
 topAt ws at top = if eqb (kindAt ws at) 3 then blockTop top (lineBlockAt ws at) else top
+
+-- .DEBUG past the first divider line, of well formed words: the line table and another divider line, nothing without a source
+unfoldable pub sourceTable : List ℕ → List ℕ
+sourceTable ws =
+    Option·getD (andThen (givenOr (objectOf ws) emptyObject .source) λ s. some (lineTable s (lineBlocksIn ws) ++ barLine)) []

@@ -5,6 +5,10 @@ use object::body_len;
 use object::kind;
 use object::number_at;
 use object::text_byte;
+use object::text_len;
+use source_info::Place;
+use source_info::count_newlines;
+use source_info::source_at;
 use text_escape::measure_line_row;
 use text_escape::put_line_row;
 use text_numerals::count_digits;
@@ -28,7 +32,7 @@ ghost use Rattle.measuring.specs.Room.{roomOf, lessPart};
 ghost use Rattle.text_lines_out.specs.Lines.{At, Next, rowsText};
 ghost use Rattle.text_lines_out.specs.Merge.{smaller, wrapped};
 ghost use Rattle.text_lines_out.specs.Runs.{row, Measured, addressFrom, runRows, Planned};
-ghost use Rattle.text_lines_out.specs.Walk.{recordRows, recordDone, Follows, Passes, walkRows, lineBlocksIn, wrappedAt, Wraps, topAt};
+ghost use Rattle.text_lines_out.specs.Walk.{recordRows, recordDone, Follows, Passes, walkRows, lineBlocksIn, wrappedAt, Wraps, topAt, sourceTable};
 
 // Where the line after the one that starts at byte `start` of a source of `n` bytes starts; past the last line, one byte past the
 // source.
@@ -670,15 +674,15 @@ pub fn put_line_header(out: &mut [u8], width: usize) -> usize
 fn measure_line_header(room: usize, width: usize) -> Room
     ensures { λ r. ⌜ roomOf r ≡ lessPart room (textLine (lineHeader width)) ⌝ }
 {
-    let fill = minus(width as u64, 4) as usize;
+    let spaces = minus(width as u64, 4) as usize;
     if room < 21 {
         return Room::Short;
     }
     let left = room - 21;
-    if left < fill {
+    if left < spaces {
         return Room::Short;
     }
-    Room::Left(left - fill)
+    Room::Left(left - spaces)
 }
 
 // The room that the line table leaves, for the source of `n` bytes and so many lines in the words from a place on.
@@ -745,5 +749,68 @@ fn put_line_table(out: &mut [u8], ws: &[u32], text: usize, n: usize, lines: u64)
         wrapped.count as u64,
         rows.start,
     );
+    len
+}
+
+// The room that the line table and the divider line after it leave; all of it without a source.
+fn measure_source(room: usize, ws: &[u32]) -> Room
+    requires { ⌜ checked (now ws) ≡ 0 ⌝ }
+    ensures { λ r. ⌜ roomOf r ≡ lessPart room (sourceTable (now (ws .entry))) ⌝ }
+{
+    let Place::At(at) = source_at(ws) else {
+        return Room::Left(room);
+    };
+    let end = body_end(ws, at);
+    let n = text_len(ws, at, end);
+    let lines = count_newlines(ws, at, n) + 1;
+    let Room::Left(left) = measure_line_table(room, ws, at, n, lines) else {
+        return Room::Short;
+    };
+    if left < 21 {
+        return Room::Short;
+    }
+    Room::Left(left - 21)
+}
+
+// The divider line.
+const BAR_LINE: [u8; 21] = [
+    0x3D,
+    0x3D,
+    0x3D,
+    0x3D,
+    0x3D,
+    0x3D,
+    0x3D,
+    0x3D,
+    0x3D,
+    0x3D,
+    0x3D,
+    0x3D,
+    0x3D,
+    0x3D,
+    0x3D,
+    0x3D,
+    0x3D,
+    0x3D,
+    0x3D,
+    0x3D,
+    0x0A,
+];
+
+// They, written into a room that suffices.
+fn put_source(out: &mut [u8], ws: &[u32]) -> usize
+    requires { ⌜ (checked (now ws) ≡ 0) × (length (sourceTable (now ws)) ≤ length (now out)) ⌝ }
+    ensures { λ r. ⌜ Put (sourceTable (now (ws .entry))) (now (out .entry)) r (now (out .exit)) ⌝ }
+{
+    let Place::At(at) = source_at(ws) else {
+        return 0;
+    };
+    let end = body_end(ws, at);
+    let n = text_len(ws, at, end);
+    let lines = count_newlines(ws, at, n) + 1;
+    let bar = BAR_LINE;
+    let mut len = 0;
+    len += put_line_table(&mut out[len..], ws, at, n, lines);
+    len += put_bytes(&mut out[len..], &bar);
     len
 }
