@@ -19,7 +19,7 @@ use units::ByteIndex;
 use units::Line;
 
 // Where the source's words begin.
-enum Place {
+pub enum Place {
     At(usize),
     Nothing,
 }
@@ -51,7 +51,7 @@ pub struct PosPair {
 }
 
 // Of a well formed object, the words of its source record.
-fn source_at(ws: &[u32]) -> Place
+pub fn source_at(ws: &[u32]) -> Place
     ensures { λ r. ⌜ Sourced (now (ws .entry)) r ⌝ }
 {
     let mut at = 0;
@@ -81,7 +81,7 @@ fn source_of(object: &[u32]) -> Source
 }
 
 // The newlines among the first `n` bytes of a text.
-fn count_newlines(ws: &[u32], at: usize, n: usize) -> u64
+pub fn count_newlines(ws: &[u32], at: usize, n: usize) -> u64
     ensures { λ r. ⌜ (r ≡ newlines (textBytes (now (ws .entry)) at n)) × (r ≤ n) ⌝ }
 {
     let mut count = 0;

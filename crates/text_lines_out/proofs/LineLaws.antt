@@ -292,6 +292,18 @@ at-beyond s m start a =
       near = a .near;
     })
 
+pub at-back : (s : List ℕ) (m start : ℕ) → At s m start → At s (smaller m (lineCount s)) start
+at-back s m start a =
+    by-test (leb m (lineCount s))
+    (λ t. let l = leb-true m (lineCount s) t in
+    let e : m ≡ smaller m (lineCount s) = omega arith in subst (λ (i : ℕ). At s i start) e a)
+    (λ t. let l = leb-false m (lineCount s) t in
+    record {
+      spans = λ k. a .spans k ∙ raw-beyond s (m + k) (omega arith) ∙ sym (raw-beyond s (smaller m (lineCount s) + k) (omega arith));
+      sound = a .sound;
+      near = a .near;
+    })
+
 -- RUNS AND ROWS
 run-none : (first : ℕ) (ws : List ℕ) (place k n : ℕ) → runRows first (addressFrom false ws place) k n ≡ plainRows (first + k) n
 unfolding runRows plainRows
@@ -339,6 +351,9 @@ sum-below d k j h = omega arith
 regroup : (a d j : ℕ) → a + d + j ≡ a + (d + j)
 regroup a d j = omega arith
 
+pub smaller-same : (a : ℕ) → a ≡ smaller a a
+smaller-same a = omega arith
+
 smaller-left : (a b : ℕ) → smaller a b ≤ a
 smaller-left a b = omega arith
 
@@ -355,7 +370,7 @@ take-at-place (suc n) [] j h = refl
 take-at-place (suc n) (x ∷ xs) zero h = refl
 take-at-place (suc n) (x ∷ xs) (suc j) h = take-at-place n xs j (omega arith)
 
-map-at-place : (xs : List ℕ) (j : ℕ) → j < length xs → getD (map addressIn xs) j 0 ≡ addressIn (getD xs j 0)
+pub map-at-place : (xs : List ℕ) (j : ℕ) → j < length xs → getD (map addressIn xs) j 0 ≡ addressIn (getD xs j 0)
 map-at-place [] j h = absurd (omega arith)
 map-at-place (x ∷ xs) zero h = refl
 map-at-place (x ∷ xs) (suc j) h = map-at-place xs j (omega arith)

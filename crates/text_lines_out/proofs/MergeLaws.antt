@@ -120,7 +120,7 @@ add-rows lines i (a ∷ xs) p done h k =
     ∙ append-assoc done (r ∷ []) (blockRows (suc i) xs ++ plainRows (suc i + length xs) (lines - (suc i + length xs)))
     ∙ ap (λ (j : ℕ). done ++ (r ∷ (blockRows (suc i) xs ++ plainRows j (lines - j)))) e
 
-add-append : (i : ℕ) (xs ys : List ℕ) (rs : List Row) → addRows i (xs ++ ys) rs ≡ addRows (i + length xs) ys (addRows i xs rs)
+pub add-append : (i : ℕ) (xs ys : List ℕ) (rs : List Row) → addRows i (xs ++ ys) rs ≡ addRows (i + length xs) ys (addRows i xs rs)
 unfolding addRows
 add-append i [] ys rs = let e : i ≡ i + 0 = omega arith in ap (λ (j : ℕ). addRows j ys rs) e
 add-append i (x ∷ xs) ys rs =
@@ -182,7 +182,7 @@ merge-step lines p l ls h =
     ∙ ap (λ (k : ℕ). gap lines p (l .first) ++ (blockRows (l .first) (drop k (straight l)) ++ mergeFrom lines (p + (lineEnd l - p)) ls)) z
     ∙ ap (λ (k : ℕ). gap lines p (l .first) ++ (blockRows (l .first) (straight l) ++ mergeFrom lines k ls)) n
 
-wrapped-cons : (l : LineBlock) (ls : List LineBlock) → wrapped (l ∷ ls) ≡ drop (2 ^ 64 - l .first) (l .addresses) ++ wrapped ls
+pub wrapped-cons : (l : LineBlock) (ls : List LineBlock) → wrapped (l ∷ ls) ≡ drop (2 ^ 64 - l .first) (l .addresses) ++ wrapped ls
 unfolding wrapped flatMap
 wrapped-cons l ls = refl
 
@@ -484,7 +484,7 @@ past-start w e f h = omega arith
 past-skip : (w e f : ℕ) → e ≤ f → w + (e - w) - f ≡ w - f
 past-skip w e f h = omega arith
 
-past-done : (lines w e f : ℕ) → e ≤ f
+pub past-done : (lines w e f : ℕ) → e ≤ f
     → smaller (w + (f - w)) lines ≡ smaller (w + (e - w)) lines + (smaller f lines - smaller (w + (e - w)) lines)
 past-done lines w e f h =
     by-test (leb w e)

@@ -1,3 +1,4 @@
 pub mod Merge
 pub mod Lines
 pub mod Runs
+pub mod Walk

@@ -1,2 +1,3 @@
 pub mod WalkLaws
 pub mod PartLaws
+pub mod OnlyLaws

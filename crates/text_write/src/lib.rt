@@ -13,14 +13,17 @@ use text_rows_out::put_count_line;
 use text_rows_out::put_linker_row;
 use text_rows_out::put_memory_line;
 ghost use mathlib.Core.Path.{_≡_};
+ghost use mathlib.Core.Bool.{not, _||_};
+ghost use lib.Dec.{eqb};
 ghost use Prim.Native.Nat.{_+_, _≤_, _<_};
 ghost use lib.ListN.{length};
 ghost use Rattle.format.specs.Calls.{checked};
+ghost use Rattle.format.specs.TextWriter.{blocksOnly};
 ghost use Rattle.writing.specs.Written.{Put};
 ghost use Rattle.object.specs.Bodies.{bodyAt, Text};
 ghost use Rattle.object.specs.Access.{kindAt};
 ghost use Rattle.measuring.specs.Room.{roomOf, lessPart};
-ghost use Rattle.text_write.specs.Tables.{memoryLines, blockPart, blocksText, relocationPart, relocationsText};
+ghost use Rattle.text_write.specs.Tables.{objectIn, memoryLines, blockPart, blocksText, relocationPart, relocationsText};
 
 // The memory words that go on at a place, a line each.
 fn put_memory_lines(out: &mut [u8], ws: &[u32], at: usize) -> usize
@@ -162,4 +165,32 @@ fn put_relocations(out: &mut [u8], ws: &[u32]) -> usize
         at = body_end(ws, at + 1);
     }
     n
+}
+
+// Whether a record of this kind is neither a block nor a line block.
+fn is_symbolic(k: u32) -> bool
+    ensures { λ r. ⌜ r ≡ not (eqb k 0 || eqb k 3) ⌝ }
+{
+    if k == 0 {
+        return false;
+    }
+    if k == 3 {
+        return false;
+    }
+    true
+}
+
+// Whether an object has blocks only: line blocks need a source, so they don't count.
+fn blocks_only(ws: &[u32]) -> bool
+    requires { ⌜ checked (now ws) ≡ 0 ⌝ }
+    ensures { λ r. ⌜ r ≡ blocksOnly (objectIn (now (ws .entry))) ⌝ }
+{
+    let mut at = 0;
+    while at < ws.len() {
+        if is_symbolic(kind(ws[at])) {
+            return false;
+        }
+        at = body_end(ws, at + 1);
+    }
+    true
 }
