@@ -1,0 +1,202 @@
+// The words of a text file's labels, of the rows of their two tables.
+use text_gather::Sorting;
+use text_gather::address_at;
+use text_gather::name_at;
+use text_gather::name_less;
+use text_words::external_at;
+use text_words::index_at;
+use text_words::put_label;
+use text_words::put_row;
+ghost use mathlib.Core.Path.{_≡_};
+ghost use mathlib.Core.Bool.{Bool, not, _&&_};
+ghost use mathlib.Core.List.{map};
+ghost use Prim.Native.Nat.{_≤_, _<_};
+ghost use lib.ListN.{length, getD};
+ghost use Rattle.format.specs.Sorted.{order};
+ghost use Rattle.format.specs.Records.{label};
+ghost use Rattle.format.specs.Words.{recordWords};
+ghost use Rattle.writing.specs.Written.{Put};
+ghost use Rattle.text_gather.specs.Keys.{nameAt};
+ghost use Rattle.text_words.specs.Written.{PutEach};
+ghost use Rattle.text_labels.specs.Labels.{labelsOf, leftIn, Within, Refilled, chosen, bothWords, nextWords, stepped};
+ghost use mathlib.Core.Bool.{true};
+ghost use mathlib.Core.List.{[]};
+ghost use Rattle.format.specs.Sorted.{sorted};
+ghost use Rattle.text_rows.specs.Rows.{rowKey, rowsOf};
+
+// The rows of a table that are left, in the order of names: the places of a window from i up to n, and the rows after them.
+pub struct Stream {
+    pub sorting: Sorting,
+    pub i: usize,
+    pub n: usize,
+}
+
+// Which tables the next label is from.
+pub struct Next {
+    pub symbol: bool,
+    pub start: bool,
+}
+
+// The next window, where the last one is used up.
+fn refill(s: Stream, t: &[u8], win: &mut [usize]) -> Stream
+    requires { ⌜ (0 < length (now win)) × Within (s .sorting .kind) (now win) s ⌝ }
+    ensures { λ r. ⌜ Refilled (s .sorting .kind) (now (t .entry)) (now (win .entry)) (now (win .exit)) s r ⌝ }
+{
+    if s.i < s.n {
+        return s;
+    }
+    let sorting = s.sorting;
+    let w = sorting.next_window(t, win);
+    let after = w.sorting;
+    let n = w.count;
+    Stream {
+        sorting: after,
+        i: 0,
+        n: n,
+    }
+}
+
+// The place of a stream's next row; 0 where its window is used up.
+fn place_at(win: &[usize], s: Stream) -> usize
+    requires { ⌜ s .n ≤ length (now win) ⌝ }
+    ensures { λ r. ⌜ (s .i < s .n → r ≡ getD (now (win .entry)) (s .i) 0) ⌝ }
+{
+    let i = s.i;
+    if i < s.n {
+        return win[i];
+    }
+    0
+}
+
+// Which tables the next label is from, where there are rows left of .SYMBOL, next at p, and of the label table, next at q.
+fn choose(t: &[u8], symbols: bool, p: usize, starts: bool, q: usize) -> Next
+    ensures { λ r. ⌜ r ≡ chosen symbols starts (order (nameAt 1 (now (t .entry)) p) (nameAt 3 (now (t .entry)) q)) ⌝ }
+{
+    if !symbols {
+        return Next {
+            symbol: false,
+            start: starts,
+        };
+    }
+    if !starts {
+        return Next {
+            symbol: true,
+            start: false,
+        };
+    }
+    if name_less(t, 1, p, 3, q) {
+        return Next {
+            symbol: true,
+            start: false,
+        };
+    }
+    if name_less(t, 3, q, 1, p) {
+        return Next {
+            symbol: false,
+            start: true,
+        };
+    }
+    Next {
+        symbol: true,
+        start: true,
+    }
+}
+
+// There is no next label.
+fn is_done(x: Next) -> bool
+    ensures { λ r. ⌜ r ≡ (not (x .symbol) && not (x .start)) ⌝ }
+{
+    if x.symbol {
+        return false;
+    }
+    !x.start
+}
+
+// A label of both tables.
+fn put_both(out: &mut [u32], t: &[u8], p: usize, q: usize) -> usize
+    ensures { λ r. ⌜ Put (bothWords (now (t .entry)) p q) (now (out .entry)) r (now (out .exit)) ⌝ }
+{
+    let c = name_at(t, 1, p);
+    let start = c.start;
+    let end = c.end;
+    put_label(
+        out,
+        address_at(t, 1, p),
+        external_at(t, p),
+        index_at(t, q),
+        &t[start..end],
+    )
+}
+
+// The next label.
+fn put_next(out: &mut [u32], t: &[u8], x: Next, p: usize, q: usize) -> usize
+    ensures { λ r. ⌜ Put (nextWords x (now (t .entry)) p q) (now (out .entry)) r (now (out .exit)) ⌝ }
+{
+    if x.symbol {
+        if x.start {
+            return put_both(out, t, p, q);
+        }
+        return put_row(out, t, 1, p);
+    }
+    put_row(out, t, 3, q)
+}
+
+// Past a stream's next row, if that is used.
+fn step(s: Stream, used: bool) -> Stream
+    requires { ⌜ (used ≡ true → s .i < s .n) ⌝ }
+    ensures { λ r. ⌜ r ≡ stepped s used ⌝ }
+{
+    if used {
+        let sorting = s.sorting;
+        return Stream {
+            sorting: sorting,
+            i: s.i + 1,
+            n: s.n,
+        };
+    }
+    s
+}
+
+// All rows of a kind.
+fn all_rows(t: &[u8], kind: u8) -> Stream
+    ensures { λ r. ⌜ (leftIn kind (now (t .entry)) [] r ≡ sorted rowKey (rowsOf kind (now (t .entry)))) × Within kind [] r ⌝ }
+{
+    let sorting = Sorting::new(t, kind);
+    Stream {
+        sorting: sorting,
+        i: 0,
+        n: 0,
+    }
+}
+
+// The labels of both tables, in the order of names.
+fn put_joined(out: &mut [u32], t: &[u8], symbols: &mut [usize], starts: &mut [usize]) -> usize
+    requires { ⌜ (0 < length (now symbols)) × (0 < length (now starts)) ⌝ }
+    ensures { λ r. ⌜ PutEach (map recordWords (map label (labelsOf (now (t .entry))))) (now (out .entry)) r (now (out .exit)) ⌝ }
+{
+    let mut at = 0;
+    let mut s = all_rows(t, 1);
+    let mut d = all_rows(t, 3);
+    loop {
+        s = refill(s, t, symbols);
+        d = refill(d, t, starts);
+        let p = place_at(symbols, s);
+        let q = place_at(starts, d);
+        let x = choose(t, s.i < s.n, p, d.i < d.n, q);
+        if is_done(x) {
+            return at;
+        }
+        at += put_next(&mut out[at..], t, x, p, q);
+        s = step(s, x.symbol);
+        d = step(d, x.start);
+    }
+}
+
+// The labels of a text file, in the order of names.
+pub fn put_labels(out: &mut [u32], t: &[u8]) -> usize
+    ensures { λ r. ⌜ PutEach (map recordWords (map label (labelsOf (now (t .entry))))) (now (out .entry)) r (now (out .exit)) ⌝ }
+{
+    let mut symbols = [0usize; 1024];
+    let mut starts = [0usize; 1024];
+    put_joined(out, t, &mut symbols, &mut starts)
+}

@@ -1,0 +1,4 @@
+pub mod JoinLaws
+pub mod TakenLaws
+pub mod FileLaws
+pub mod StepLaws

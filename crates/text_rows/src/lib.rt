@@ -1,0 +1,176 @@
+// The text reader's rows by kind, in place on the input: 0 the blocks of .TEXT, 1 the rows of .SYMBOL, 2 those of .LINKER_INFO, 3 those of
+// .DEBUG's label table.
+use text_cells::Number;
+use text_cells::decimal;
+use text_lines::Head;
+use text_lines::Line;
+use text_lines::begins_with;
+use text_lines::next_head;
+use text_lines::next_row;
+ghost use mathlib.Core.Path.{_≡_};
+ghost use Prim.Native.Nat.{suc};
+ghost use lib.ListN.{length};
+ghost use Rattle.format.specs.TextReader.{parseDecimal};
+ghost use Rattle.text_lines.specs.Groups.{partsFrom};
+ghost use Rattle.text_rows.specs.Rows.{orZero, countIn};
+ghost use Rattle.text_rows.specs.Steps.{Skips, GroupEnd, FirstRow, NextTable, RowEnd, NextPlace, BeginsAt};
+
+// A place in the input, or none.
+pub enum Place {
+    At(usize),
+    Nothing,
+}
+
+// The next row of a kind: its place, and the place after it.
+pub enum Found {
+    At(usize, usize),
+    Nothing,
+}
+
+// A block's count; 0 where it doesn't read.
+pub fn count_of(l: &[u8]) -> u64
+    ensures { λ r. ⌜ r ≡ orZero (parseDecimal 65536 (now (l .entry))) ⌝ }
+{
+    match decimal(l, 65535) {
+        Number::Value(n) => n,
+        Number::Nothing => 0,
+    }
+}
+
+// Past the next n lines of the group.
+fn skip_rows(t: &[u8], from: usize, n: u64) -> usize
+    ensures { λ r. ⌜ Skips (now (t .entry)) from n r ⌝ }
+{
+    let mut at = from;
+    let mut left = n;
+    while 0 < left {
+        let Line::At {
+            start: _,
+            end: _,
+            next,
+        } = next_row(t, at)
+        else {
+            return at;
+        };
+        at = next;
+        left -= 1;
+    }
+    at
+}
+
+// Past a block's count and its entries.
+fn block_end(t: &[u8], at: usize) -> usize
+    ensures { λ r. ⌜ Skips (now (t .entry)) at (suc (countIn (partsFrom (now (t .entry)) at .before))) r ⌝ }
+{
+    let Line::At { start, end, next } = next_row(t, at) else {
+        return at;
+    };
+    skip_rows(t, next, count_of(&t[start..end]))
+}
+
+// Past all lines of the group.
+fn end_of_group(t: &[u8], from: usize) -> usize
+    ensures { λ r. ⌜ GroupEnd (now (t .entry)) from r ⌝ }
+{
+    let mut at = from;
+    loop {
+        let Line::At {
+            start: _,
+            end: _,
+            next,
+        } = next_row(t, at)
+        else {
+            return at;
+        };
+        at = next;
+    }
+}
+
+// Past the header of a table; .TEXT has none.
+fn first_row(t: &[u8], kind: u8, at: usize) -> usize
+    ensures { λ r. ⌜ FirstRow kind (now (t .entry)) at r ⌝ }
+{
+    if kind == 0 {
+        return at;
+    }
+    let Line::At { start, end, next } = next_row(t, at) else {
+        return at;
+    };
+    if kind == 3 {
+        if begins_with(&t[start..end], b'=') {
+            return at;
+        }
+    }
+    next
+}
+
+// Where the rows of the next table of a kind begin, from within another group.
+fn next_table(t: &[u8], kind: u8, from: usize) -> Place
+    ensures { λ r. ⌜ NextTable kind (now (t .entry)) from r ⌝ }
+{
+    let mut at = from;
+    loop {
+        let e = end_of_group(t, at);
+        let head = next_head(t, e);
+        match head {
+            Head::Opens { kind: k, next } => {
+                if k == kind {
+                    return Place::At(first_row(t, kind, next));
+                }
+                at = next;
+            }
+            Head::Loose => {
+                return Place::Nothing;
+            }
+            Head::Done => {
+                return Place::Nothing;
+            }
+        }
+    }
+}
+
+// The place after the row that begins at a place of a table.
+fn row_end(t: &[u8], kind: u8, at: usize) -> Place
+    ensures { λ r. ⌜ RowEnd kind (now (t .entry)) at r ⌝ }
+{
+    let Line::At { start, end, next } = next_row(t, at) else {
+        return Place::Nothing;
+    };
+    if kind == 0 {
+        return Place::At(block_end(t, next));
+    }
+    if kind == 3 {
+        if begins_with(&t[start..end], b'=') {
+            return Place::Nothing;
+        }
+    }
+    Place::At(next)
+}
+
+// The first row of a kind from a place on, where one begins or its table ends.
+pub fn next_place(t: &[u8], kind: u8, from: usize) -> Found
+    ensures { λ r. ⌜ NextPlace kind (now (t .entry)) from r ⌝ }
+{
+    let mut at = from;
+    loop {
+        let row = row_end(t, kind, at);
+        match row {
+            Place::At(next) => {
+                return Found::At(at, next);
+            }
+            Place::Nothing => {
+                let Place::At(n) = next_table(t, kind, at) else {
+                    return Found::Nothing;
+                };
+                at = n;
+            }
+        }
+    }
+}
+
+// Where a walk over a text's rows begins: past the lines before the first group.
+pub fn first_place(t: &[u8]) -> usize
+    ensures { λ r. ⌜ BeginsAt (now (t .entry)) r ⌝ }
+{
+    end_of_group(t, 0)
+}

@@ -1,0 +1,338 @@
+// The words of a text file's rows.
+use text_blocks::pass_entries;
+use text_cells::Entry;
+use text_cells::Number;
+use text_cells::decimal;
+use text_cells::maybe_hex2u16;
+use text_gather::Sorting;
+use text_gather::address_at;
+use text_gather::cell_at;
+use text_gather::name_at;
+use text_lines::Line;
+use text_lines::Passed;
+use text_lines::next_row;
+use text_rows::count_of;
+use writing::put_number_words;
+use writing::put_text_words;
+use writing::put_word;
+ghost use mathlib.Core.Path.{_≡_};
+ghost use mathlib.Core.Bool.{true};
+ghost use mathlib.Core.List.{map};
+ghost use Prim.Native.Nat.{_+_, _*_, _^_, _≤_, _<_};
+ghost use lib.ListN.{length, take};
+ghost use Rattle.format.specs.Basics.{isSome};
+ghost use Rattle.format.specs.TextReader.{maybeHex2u16};
+ghost use Rattle.format.specs.Records.{block, label, relocation};
+ghost use Rattle.format.specs.Words.{word, flagBit, memoryWord, recordWords};
+ghost use Rattle.writing.specs.Written.{Put};
+ghost use Rattle.text_lines.specs.Groups.{partsFrom};
+ghost use Rattle.text_blocks.specs.Blocks.{wordsIn};
+ghost use Rattle.text_words.specs.Written.{externalAt, indexAt, entryWord, entriesFrom, EntriesOf, wordsAt, PutEach};
+ghost use Rattle.text_words.specs.Room.{roomOf, roomFor, roomAfter};
+ghost use Rattle.format.specs.Sorted.{sorted};
+ghost use Rattle.text_rows.specs.Rows.{rowKey, rowsOf};
+
+// A relocation: its address and its name.
+fn put_relocation(out: &mut [u32], address: u16, name: &[u8]) -> usize
+    ensures { λ r. ⌜ Put (recordWords (relocation (record { address = address; name = now (name .entry) })))
+        (now (out .entry)) r (now (out .exit)) ⌝ }
+{
+    if out.len() <= (name.len() + 2) / 3 {
+        return 0;
+    }
+    let mut at = 0;
+    at += put_word(&mut out[at..], 0xA000_0000 + address as u32);
+    at += put_text_words(&mut out[at..], name);
+    at
+}
+
+// The first word of a label: its address, and whether it is external.
+fn label_word(address: u16, external: bool) -> u32
+    ensures { λ r. ⌜ r ≡ word 2 (address + 2 ^ 16 * flagBit external) ⌝ }
+{
+    if external {
+        return 0x4001_0000 + address as u32;
+    }
+    0x4000_0000 + address as u32
+}
+
+// A label: its address and whether it is external, its source start and its name.
+pub fn put_label(out: &mut [u32], address: u16, external: bool, start: u64, name: &[u8]) -> usize
+    ensures { λ r. ⌜ Put (recordWords (label (record { name = now (name .entry); address = address; external = external; start = start })))
+        (now (out .entry)) r (now (out .exit)) ⌝ }
+{
+    if out.len() <= 3 + (name.len() + 2) / 3 {
+        return 0;
+    }
+    let head = label_word(address, external);
+    let mut at = 0;
+    at += put_word(&mut out[at..], head);
+    at += put_number_words(&mut out[at..], start);
+    at += put_text_words(&mut out[at..], name);
+    at
+}
+
+// Whether the row of .SYMBOL at a place says that its label is external.
+pub fn external_at(t: &[u8], p: usize) -> bool
+    ensures { λ r. ⌜ r ≡ externalAt (now (t .entry)) p ⌝ }
+{
+    let c = cell_at(t, p, 2, 1);
+    let start = c.start;
+    let end = c.end;
+    match decimal(&t[start..end], 255) {
+        Number::Value(n) => n != 0,
+        Number::Nothing => false,
+    }
+}
+
+// The source start that the row of the label table at a place says.
+pub fn index_at(t: &[u8], p: usize) -> u64
+    ensures { λ r. ⌜ r ≡ indexAt (now (t .entry)) p ⌝ }
+{
+    let c = cell_at(t, p, 1, 1);
+    let start = c.start;
+    let end = c.end;
+    match decimal(&t[start..end], 0xFFFF_FFFF_FFFF_FFFF) {
+        Number::Value(n) => n,
+        Number::Nothing => 0,
+    }
+}
+
+// The word of an entry.
+fn entry_word(l: &[u8]) -> u32
+    ensures { λ r. ⌜ r ≡ entryWord (maybeHex2u16 (now (l .entry))) ⌝ }
+{
+    match maybe_hex2u16(l) {
+        Entry::Value(v) => 0x2001_0000 + v as u32,
+        Entry::Unknown => 0x2000_0000,
+        Entry::Nothing => 0x2000_0000,
+    }
+}
+
+// The words of the next n lines of the group, all of them entries.
+fn put_entries(out: &mut [u32], t: &[u8], from: usize, n: usize) -> usize
+    requires { ⌜ (n ≤ length (now out)) × (isSome (wordsIn n (partsFrom (now t) from .before)) ≡ true) ⌝ }
+    ensures { λ r. ⌜ Put (map memoryWord (entriesFrom (now (t .entry)) from n)) (now (out .entry)) r (now (out .exit)) ⌝ }
+{
+    let mut i = 0;
+    let mut at = from;
+    while i < n {
+        let Line::At { start, end, next } = next_row(t, at) else {
+            return i;
+        };
+        out[i] = entry_word(&t[start..end]);
+        i += 1;
+        at = next;
+    }
+    i
+}
+
+// A block's entries: where they begin, and how many there are; none where they don't all read.
+pub struct Entries {
+    pub from: usize,
+    pub count: usize,
+}
+
+// The entries of the block at a place.
+fn entries_at(t: &[u8], p: usize) -> Entries
+    ensures { λ r. ⌜ EntriesOf (now (t .entry)) p r ⌝ }
+{
+    let Line::At {
+        start: _,
+        end: _,
+        next,
+    } = next_row(t, p)
+    else {
+        return Entries { from: p, count: 0 };
+    };
+    let Line::At {
+        start,
+        end,
+        next: from,
+    } = next_row(t, next)
+    else {
+        return Entries {
+            from: next,
+            count: 0,
+        };
+    };
+    let n = count_of(&t[start..end]) as usize;
+    match pass_entries(t, from, n) {
+        Passed::To(_) => Entries {
+            from: from,
+            count: n,
+        },
+        Passed::Bad => Entries {
+            from: from,
+            count: 0,
+        },
+    }
+}
+
+// The block at a place: its address and its memory words.
+fn put_block(out: &mut [u32], t: &[u8], p: usize) -> usize
+    ensures { λ r. ⌜ Put (wordsAt 0 (now (t .entry)) p) (now (out .entry)) r (now (out .exit)) ⌝ }
+{
+    let address = address_at(t, 0, p);
+    let e = entries_at(t, p);
+    let from = e.from;
+    let n = e.count;
+    if out.len() <= n {
+        return 0;
+    }
+    let mut at = 0;
+    at += put_word(&mut out[at..], address as u32);
+    at += put_entries(&mut out[at..], t, from, n);
+    at
+}
+
+// The row of a kind at a place.
+pub fn put_row(out: &mut [u32], t: &[u8], kind: u8, p: usize) -> usize
+    ensures { λ r. ⌜ Put (wordsAt kind (now (t .entry)) p) (now (out .entry)) r (now (out .exit)) ⌝ }
+{
+    if kind == 0 {
+        return put_block(out, t, p);
+    }
+    let c = name_at(t, kind, p);
+    let start = c.start;
+    let end = c.end;
+    if kind == 1 {
+        return put_label(
+            out,
+            address_at(t, kind, p),
+            external_at(t, p),
+            0,
+            &t[start..end],
+        );
+    }
+    if kind == 2 {
+        return put_relocation(out, address_at(t, kind, p), &t[start..end]);
+    }
+    put_label(out, 0, false, index_at(t, p), &t[start..end])
+}
+
+// The rows at the first n places of a window.
+fn put_window(out: &mut [u32], t: &[u8], kind: u8, win: &[usize], n: usize) -> usize
+    requires { ⌜ n ≤ length (now win) ⌝ }
+    ensures { λ r. ⌜ PutEach (map (wordsAt kind (now (t .entry))) (take n (now (win .entry)))) (now (out .entry)) r (now (out .exit)) ⌝ }
+{
+    let mut at = 0;
+    let mut i = 0;
+    while i < n {
+        let p = win[i];
+        at += put_row(&mut out[at..], t, kind, p);
+        i += 1;
+    }
+    at
+}
+
+// The rows of a kind in the order of their keys, window by window.
+fn put_windows(out: &mut [u32], t: &[u8], kind: u8, win: &mut [usize]) -> usize
+    requires { ⌜ 0 < length (now win) ⌝ }
+    ensures { λ r. ⌜ PutEach (map recordWords (sorted rowKey (rowsOf kind (now (t .entry))))) (now (out .entry)) r (now (out .exit)) ⌝ }
+{
+    let mut at = 0;
+    let mut sorting = Sorting::new(t, kind);
+    loop {
+        let w = sorting.next_window(t, win);
+        let n = w.count;
+        at += put_window(&mut out[at..], t, kind, win, n);
+        if n < win.len() {
+            return at;
+        }
+        sorting = w.sorting;
+    }
+}
+
+// The rows of a kind in the order of their keys.
+pub fn put_rows(out: &mut [u32], t: &[u8], kind: u8) -> usize
+    ensures { λ r. ⌜ PutEach (map recordWords (sorted rowKey (rowsOf kind (now (t .entry))))) (now (out .entry)) r (now (out .exit)) ⌝ }
+{
+    let mut win = [0usize; 1024];
+    put_windows(out, t, kind, &mut win)
+}
+
+// The room that is left.
+pub enum Room {
+    Left(usize),
+    Short,
+}
+
+// The room after n words.
+fn take_room(room: usize, n: usize) -> Room
+    ensures { λ r. ⌜ roomOf r ≡ roomFor n room ⌝ }
+{
+    if room < n {
+        return Room::Short;
+    }
+    Room::Left(room - n)
+}
+
+// The room after the words of the row of a kind at a place.
+fn row_room(t: &[u8], kind: u8, p: usize, room: usize) -> Room
+    ensures { λ r. ⌜ roomOf r ≡ roomFor (length (wordsAt kind (now (t .entry)) p)) room ⌝ }
+{
+    if kind == 0 {
+        let e = entries_at(t, p);
+        let n = e.count;
+        if room <= n {
+            return Room::Short;
+        }
+        return Room::Left(room - n - 1);
+    }
+    let c = name_at(t, kind, p);
+    let start = c.start;
+    let end = c.end;
+    let n = (end - start + 2) / 3;
+    if kind == 2 {
+        return take_room(room, 1 + n);
+    }
+    take_room(room, 4 + n)
+}
+
+// The room after the rows at the first n places of a window.
+fn window_room(t: &[u8], kind: u8, win: &[usize], n: usize, room: usize) -> Room
+    requires { ⌜ n ≤ length (now win) ⌝ }
+    ensures { λ r. ⌜ roomOf r ≡ roomAfter (map (wordsAt kind (now (t .entry))) (take n (now (win .entry)))) room ⌝ }
+{
+    let mut left = room;
+    let mut i = 0;
+    while i < n {
+        let p = win[i];
+        let Room::Left(m) = row_room(t, kind, p, left) else {
+            return Room::Short;
+        };
+        left = m;
+        i += 1;
+    }
+    Room::Left(left)
+}
+
+// The room after the rows of a kind, window by window.
+fn windows_room(t: &[u8], kind: u8, win: &mut [usize], room: usize) -> Room
+    requires { ⌜ 0 < length (now win) ⌝ }
+    ensures { λ r. ⌜ roomOf r ≡ roomAfter (map recordWords (sorted rowKey (rowsOf kind (now (t .entry))))) room ⌝ }
+{
+    let mut left = room;
+    let mut sorting = Sorting::new(t, kind);
+    loop {
+        let w = sorting.next_window(t, win);
+        let n = w.count;
+        let Room::Left(m) = window_room(t, kind, win, n, left) else {
+            return Room::Short;
+        };
+        if n < win.len() {
+            return Room::Left(m);
+        }
+        left = m;
+        sorting = w.sorting;
+    }
+}
+
+// The room after the rows of a kind, a later row with the same key replacing.
+pub fn rows_room(t: &[u8], kind: u8, room: usize) -> Room
+    ensures { λ r. ⌜ roomOf r ≡ roomAfter (map recordWords (sorted rowKey (rowsOf kind (now (t .entry))))) room ⌝ }
+{
+    let mut win = [0usize; 1024];
+    windows_room(t, kind, &mut win, room)
+}
