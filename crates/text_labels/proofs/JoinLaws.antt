@@ -186,14 +186,14 @@ pub record Joining (t : List ℕ) (all : List (List ℕ)) (room out sw₀ sw dw�
   pub puts : Puts (labelWords (leftIn 1 t sw s) (leftIn 3 t dw d)) all room out at
 
 -- a window of which nothing is used
-unused : (kind : ℕ) (t win : List ℕ) (s : Stream) → Within kind [] s → leftIn kind t win s ≡ leftIn kind t [] s
+pub unused : (kind : ℕ) (t win : List ℕ) (s : Stream) → Within kind [] s → leftIn kind t win s ≡ leftIn kind t [] s
 unfolding leftIn
 unused kind t win s w =
     let n : s .n ≡ 0 = omega (arith, w .inside) in
     ap (λ (k : ℕ). map (rowAt kind t) (drop (s .i) (take k win)) ++ left t (s .sorting)) n
     ∙ sym (ap (λ (k : ℕ). map (rowAt kind t) (drop (s .i) (take k [])) ++ left t (s .sorting)) n)
 
-wider : (kind : ℕ) (win : List ℕ) (s : Stream) → Within kind [] s → Within kind win s
+pub wider : (kind : ℕ) (win : List ℕ) (s : Stream) → Within kind [] s → Within kind win s
 wider kind win s w = record { same-kind = w .same-kind; ordered = w .ordered; inside = omega (arith, w .inside) }
 
 pub joining-begin : (t room sw dw : List ℕ) (s d : Stream) → Within 1 [] s → Within 3 [] d → leftIn 1 t [] s ≡ sorted rowKey (rowsOf 1 t)

@@ -1,3 +1,4 @@
 pub mod StreamLaws
 pub mod JoinLaws
+pub mod RoomLaws
 pub mod FileLaws

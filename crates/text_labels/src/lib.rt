@@ -3,6 +3,7 @@ use text_gather::Sorting;
 use text_gather::address_at;
 use text_gather::name_at;
 use text_gather::name_less;
+use text_words::Room;
 use text_words::external_at;
 use text_words::index_at;
 use text_words::put_label;
@@ -17,6 +18,7 @@ ghost use Rattle.format.specs.Records.{label};
 ghost use Rattle.format.specs.Words.{recordWords};
 ghost use Rattle.writing.specs.Written.{Put};
 ghost use Rattle.text_gather.specs.Keys.{nameAt};
+ghost use Rattle.text_words.specs.Room.{roomOf, roomFor, roomAfter};
 ghost use Rattle.text_words.specs.Written.{PutEach};
 ghost use Rattle.text_labels.specs.Labels.{labelsOf, leftIn, Within, Refilled, chosen, bothWords, nextWords, stepped};
 ghost use mathlib.Core.Bool.{true};
@@ -199,4 +201,67 @@ pub fn put_labels(out: &mut [u32], t: &[u8]) -> usize
     let mut symbols = [0usize; 1024];
     let mut starts = [0usize; 1024];
     put_joined(out, t, &mut symbols, &mut starts)
+}
+
+// The room after n words.
+fn take_room(room: usize, n: usize) -> Room
+    ensures { λ r. ⌜ roomOf r ≡ roomFor n room ⌝ }
+{
+    if room < n {
+        return Room::Short;
+    }
+    Room::Left(room - n)
+}
+
+// The room after the words of the next label.
+fn next_room(t: &[u8], x: Next, p: usize, q: usize, room: usize) -> Room
+    ensures { λ r. ⌜ roomOf r ≡ roomFor (length (nextWords x (now (t .entry)) p q)) room ⌝ }
+{
+    if x.symbol {
+        let c = name_at(t, 1, p);
+        let start = c.start;
+        let end = c.end;
+        let n = (end - start + 2) / 3;
+        return take_room(room, 4 + n);
+    }
+    let c = name_at(t, 3, q);
+    let start = c.start;
+    let end = c.end;
+    let n = (end - start + 2) / 3;
+    take_room(room, 4 + n)
+}
+
+// The room after the labels of both tables.
+fn joined_room(t: &[u8], symbols: &mut [usize], starts: &mut [usize], room: usize) -> Room
+    requires { ⌜ (0 < length (now symbols)) × (0 < length (now starts)) ⌝ }
+    ensures { λ r. ⌜ roomOf r ≡ roomAfter (map recordWords (map label (labelsOf (now (t .entry))))) room ⌝ }
+{
+    let mut left = room;
+    let mut s = all_rows(t, 1);
+    let mut d = all_rows(t, 3);
+    loop {
+        s = refill(s, t, symbols);
+        d = refill(d, t, starts);
+        let p = place_at(symbols, s);
+        let q = place_at(starts, d);
+        let x = choose(t, s.i < s.n, p, d.i < d.n, q);
+        if is_done(x) {
+            return Room::Left(left);
+        }
+        let Room::Left(m) = next_room(t, x, p, q, left) else {
+            return Room::Short;
+        };
+        left = m;
+        s = step(s, x.symbol);
+        d = step(d, x.start);
+    }
+}
+
+// The room after the labels of a text file.
+pub fn labels_room(t: &[u8], room: usize) -> Room
+    ensures { λ r. ⌜ roomOf r ≡ roomAfter (map recordWords (map label (labelsOf (now (t .entry))))) room ⌝ }
+{
+    let mut symbols = [0usize; 1024];
+    let mut starts = [0usize; 1024];
+    joined_room(t, &mut symbols, &mut starts, room)
 }
