@@ -1,5 +1,9 @@
 // The text reader: how many words a text file makes, and the words.
+use encode::encode_scalar;
 use text_lines::Line;
+use text_source::Source;
+use text_source::Token;
+use text_source::next_token;
 use text_tables::LineRow;
 use text_tables::next_source_line;
 use text_tables::parse_line_row;
@@ -7,17 +11,20 @@ use text_words::Room;
 use writing::put_number_words;
 use writing::put_word;
 ghost use mathlib.Core.Path.{_≡_};
-ghost use mathlib.Core.List.{map};
+ghost use mathlib.Core.Bool.{true};
+ghost use mathlib.Core.List.{[], _∷_, map};
 ghost use mathlib.Core.Option.{some};
-ghost use Prim.Native.Nat.{_≤_};
+ghost use Prim.Native.Nat.{_^_, _≤_, _<_};
 ghost use lib.ListN.{length, take};
-ghost use Rattle.format.specs.Words.{memoryWord};
+ghost use Rattle.format.specs.Utf8.{isScalar, encodeScalar};
+ghost use Rattle.format.specs.Words.{memoryWord, textWords};
 ghost use Rattle.writing.specs.Written.{Put};
 ghost use Rattle.text_tables.specs.Debug.{lineView};
 ghost use Rattle.text_debug.specs.DebugGroup.{addressIn, lineBlocksIn};
 ghost use Rattle.text_words.specs.Written.{PutEach};
 ghost use Rattle.text_words.specs.Room.{roomOf, roomAfter};
 ghost use Rattle.text_read.specs.Runs.{addressesFrom, NextRun, blockWords, runWords, runParts, runRoom};
+ghost use Rattle.text_read.specs.SourceText.{sourceAt, Unescapes, Ready, Pushes, Flushes};
 
 // A run of rows with an address: how many, and the place after the row without one that ends it; or one that reaches the last row.
 enum Run {
@@ -141,5 +148,166 @@ fn line_blocks_room(t: &[u8], rows: usize, room: usize) -> Room
         };
         left = m;
         row = next;
+    }
+}
+
+// A text that is being written: the place of its next word, and the bytes that are held over for it, how many and their value.
+struct Held {
+    at: usize,
+    count: u8,
+    value: u32,
+}
+
+// One more byte of a text.
+fn push(out: &mut [u32], h: Held, b: u8) -> Held
+    requires { ⌜ Ready (b ∷ []) h (now out) ⌝ }
+    ensures { λ r. ⌜ Pushes (b ∷ []) h (now (out .entry)) r (now (out .exit)) ⌝ }
+{
+    let at = h.at;
+    let v = b as u32;
+    if h.count == 0 {
+        return Held {
+            at: at,
+            count: 1,
+            value: v,
+        };
+    }
+    if h.count == 1 {
+        return Held {
+            at: at,
+            count: 2,
+            value: h.value + 256 * v,
+        };
+    }
+    out[at] = 0xE300_0000 + h.value + 65536 * v;
+    Held {
+        at: at + 1,
+        count: 0,
+        value: 0,
+    }
+}
+
+// More bytes of a text.
+fn push_bytes(out: &mut [u32], start: Held, s: &[u8]) -> Held
+    requires { ⌜ Ready (now s) start (now out) ⌝ }
+    ensures { λ r. ⌜ Pushes (now (s .entry)) start (now (out .entry)) r (now (out .exit)) ⌝ }
+{
+    let mut h = start;
+    let mut i = 0;
+    while i < s.len() {
+        h = push(out, h, s[i]);
+        i += 1;
+    }
+    h
+}
+
+// The bytes of a scalar value.
+fn push_scalar(out: &mut [u32], h: Held, v: u32) -> Held
+    requires { ⌜ (isScalar v ≡ true) × Ready (encodeScalar v) h (now out) ⌝ }
+    ensures { λ r. ⌜ Pushes (encodeScalar v) h (now (out .entry)) r (now (out .exit)) ⌝ }
+{
+    let mut bytes = [0u8; 4];
+    let n = encode_scalar(&mut bytes, v);
+    push_bytes(out, h, &bytes[0..n])
+}
+
+// The word of the bytes that are left over at the end: the length of all that is written.
+fn flush(out: &mut [u32], h: Held) -> usize
+    requires { ⌜ Ready [] h (now out) ⌝ }
+    ensures { λ r. ⌜ Flushes h (now (out .entry)) r (now (out .exit)) ⌝ }
+{
+    let at = h.at;
+    if h.count == 0 {
+        return at;
+    }
+    if h.count == 1 {
+        out[at] = 0xE100_0000 + h.value;
+        return at + 1;
+    }
+    out[at] = 0xE200_0000 + h.value;
+    at + 1
+}
+
+// The text of the source, token by token.
+fn put_source_text(out: &mut [u32], t: &[u8], rows: usize) -> usize
+    requires { ⌜ Unescapes (now t) rows × (length (textWords (sourceAt (now t) rows)) ≤ length (now out)) ⌝ }
+    ensures { λ r. ⌜ Put (textWords (sourceAt (now (t .entry)) rows)) (now (out .entry)) r (now (out .exit)) ⌝ }
+{
+    let mut h = Held {
+        at: 0,
+        count: 0,
+        value: 0,
+    };
+    let mut cur = Source {
+        at: 0,
+        end: 0,
+        next: rows,
+    };
+    loop {
+        let token = next_token(t, cur);
+        match token {
+            Token::Plain(b, d) => {
+                h = push(out, h, b);
+                cur = d;
+            }
+            Token::Scalar(v, d) => {
+                h = push_scalar(out, h, v);
+                cur = d;
+            }
+            Token::Bad => {
+                return 0;
+            }
+            Token::Done => {
+                return flush(out, h);
+            }
+        }
+    }
+}
+
+// How many bytes a scalar value has.
+fn scalar_length(v: u32) -> usize
+    ensures { λ r. ⌜ r ≡ length (encodeScalar v) ⌝ }
+{
+    if v < 0x80 {
+        return 1;
+    }
+    if v < 0x800 {
+        return 2;
+    }
+    if v < 0x10000 {
+        return 3;
+    }
+    4
+}
+
+// How many bytes the source has.
+fn source_length(t: &[u8], rows: usize) -> usize
+    requires { ⌜ Unescapes (now t) rows × (length (sourceAt (now t) rows) < 2 ^ 64) ⌝ }
+    ensures { λ r. ⌜ r ≡ length (sourceAt (now (t .entry)) rows) ⌝ }
+{
+    let mut n = 0;
+    let mut cur = Source {
+        at: 0,
+        end: 0,
+        next: rows,
+    };
+    loop {
+        let token = next_token(t, cur);
+        match token {
+            Token::Plain(_, d) => {
+                n += 1;
+                cur = d;
+            }
+            Token::Scalar(v, d) => {
+                n += scalar_length(v);
+                cur = d;
+            }
+            Token::Bad => {
+                return 0;
+            }
+            Token::Done => {
+                return n;
+            }
+        }
     }
 }
