@@ -184,7 +184,7 @@ pushing-end s start h room out i p l whole front more x =
     subst (λ (bs : List ℕ). Texting whole front (bs ++ more) out h) (drop-of-length-le s {i = i} l) (p .same whole front more x)
 
 -- A SCALAR VALUE
-encode-few : (v : ℕ) → length (encodeScalar v) ≤ 4
+pub encode-few : (v : ℕ) → length (encodeScalar v) ≤ 4
 unfolding encodeScalar
 encode-few v =
     by-test (ltb v 0x80) (λ t. rw t (omega arith))

@@ -11,6 +11,8 @@ use Rattle.text_tables.specs.Debug.{lineView}
 use Rattle.text_source.specs.Stream.{sourceFrom}
 use Rattle.text_debug.specs.DebugGroup.{sourceIn}
 use Rattle.text_read.specs.declared.Held.{Held}
+use Rattle.text_read.specs.declared.Count.{Count}
+use Rattle.text_read.specs.declared.Count.the-variants as count
 
 -- the source in the rows from a place on
 abbrev pub sourceAt : List ℕ → ℕ → List ℕ
@@ -47,3 +49,8 @@ Pushes bs h out r after = (whole room more : List ℕ) → Texting whole room (b
 -- the text ends, and all its words stand
 abbrev pub Flushes : Held → List ℕ → ℕ → List ℕ → Type 0
 Flushes h out r after = (whole room : List ℕ) → Texting whole room [] out h → Put whole room r after
+
+-- so many bytes, or about as many as 64 bits can count, or more
+abbrev pub Counted : ℕ → Count → Type 0
+Counted bytes (count.Bytes n) = n ≡ bytes
+Counted bytes count.Many = 0xFFFF_FFFF_FFFF_FFF0 < bytes

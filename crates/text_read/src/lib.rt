@@ -8,6 +8,8 @@ use text_tables::LineRow;
 use text_tables::next_source_line;
 use text_tables::parse_line_row;
 use text_words::Room;
+use text_words::put_rows;
+use text_words::rows_room;
 use writing::put_number_words;
 use writing::put_word;
 ghost use mathlib.Core.Path.{_≡_};
@@ -22,9 +24,10 @@ ghost use Rattle.writing.specs.Written.{Put};
 ghost use Rattle.text_tables.specs.Debug.{lineView};
 ghost use Rattle.text_debug.specs.DebugGroup.{addressIn, lineBlocksIn};
 ghost use Rattle.text_words.specs.Written.{PutEach};
-ghost use Rattle.text_words.specs.Room.{roomOf, roomAfter};
+ghost use Rattle.text_words.specs.Room.{roomOf, roomFor, roomAfter};
 ghost use Rattle.text_read.specs.Runs.{addressesFrom, NextRun, blockWords, runWords, runParts, runRoom};
-ghost use Rattle.text_read.specs.SourceText.{sourceAt, Unescapes, Ready, Pushes, Flushes};
+ghost use Rattle.text_read.specs.Parts.{joined, lineParts, sourceParts, relocationParts};
+ghost use Rattle.text_read.specs.SourceText.{Counted, sourceAt, Unescapes, Ready, Pushes, Flushes};
 
 // A run of rows with an address: how many, and the place after the row without one that ends it; or one that reaches the last row.
 enum Run {
@@ -280,18 +283,27 @@ fn scalar_length(v: u32) -> usize
     4
 }
 
+// How many bytes the source has, or more than can be counted.
+enum Count {
+    Bytes(usize),
+    Many,
+}
+
 // How many bytes the source has.
-fn source_length(t: &[u8], rows: usize) -> usize
-    requires { ⌜ Unescapes (now t) rows × (length (sourceAt (now t) rows) < 2 ^ 64) ⌝ }
-    ensures { λ r. ⌜ r ≡ length (sourceAt (now (t .entry)) rows) ⌝ }
+fn source_length(t: &[u8], rows: usize) -> Count
+    requires { ⌜ Unescapes (now t) rows ⌝ }
+    ensures { λ r. ⌜ Counted (length (sourceAt (now (t .entry)) rows)) r ⌝ }
 {
-    let mut n = 0;
+    let mut n: usize = 0;
     let mut cur = Source {
         at: 0,
         end: 0,
         next: rows,
     };
     loop {
+        if 0xFFFF_FFFF_FFFF_FFF0 < n {
+            return Count::Many;
+        }
         let token = next_token(t, cur);
         match token {
             Token::Plain(_, d) => {
@@ -303,11 +315,89 @@ fn source_length(t: &[u8], rows: usize) -> usize
                 cur = d;
             }
             Token::Bad => {
-                return 0;
+                return Count::Bytes(0);
             }
             Token::Done => {
-                return n;
+                return Count::Bytes(n);
             }
         }
     }
+}
+
+// The room after n words.
+fn take_room(room: usize, n: usize) -> Room
+    ensures { λ r. ⌜ roomOf r ≡ roomFor n room ⌝ }
+{
+    if room < n {
+        return Room::Short;
+    }
+    Room::Left(room - n)
+}
+
+// The room, less than 2^62 words, after the source; a buffer of words is never longer.
+fn source_room(t: &[u8], sourced: bool, rows: usize, room: usize) -> Room
+    requires { ⌜ (sourced ≡ true → Unescapes (now t) rows) × (room < 2 ^ 62) ⌝ }
+    ensures { λ r. ⌜ roomOf r ≡ roomAfter (sourceParts sourced (now (t .entry)) rows) room ⌝ }
+{
+    if !sourced {
+        return Room::Left(room);
+    }
+    match source_length(t, rows) {
+        Count::Many => Room::Short,
+        Count::Bytes(n) => take_room(room, 1 + n / 3 + (n % 3 + 2) / 3),
+    }
+}
+
+// The room after the line blocks, if there are rows of lines.
+fn lines_room(t: &[u8], sourced: bool, rows: usize, room: usize) -> Room
+    ensures { λ r. ⌜ roomOf r ≡ roomAfter (lineParts sourced (now (t .entry)) rows) room ⌝ }
+{
+    if !sourced {
+        return Room::Left(room);
+    }
+    line_blocks_room(t, rows, room)
+}
+
+// The room after the relocations, if they are kept.
+fn relocations_room(u: &[u8], kept: bool, room: usize) -> Room
+    ensures { λ r. ⌜ roomOf r ≡ roomAfter (relocationParts kept (now (u .entry))) room ⌝ }
+{
+    if !kept {
+        return Room::Left(room);
+    }
+    rows_room(u, 2, room)
+}
+
+// The line blocks, if there are rows of lines.
+fn put_lines(out: &mut [u32], t: &[u8], sourced: bool, rows: usize) -> usize
+    ensures { λ r. ⌜ PutEach (lineParts sourced (now (t .entry)) rows) (now (out .entry)) r (now (out .exit)) ⌝ }
+{
+    if !sourced {
+        return 0;
+    }
+    put_line_blocks(out, t, rows)
+}
+
+// The source, if there is one.
+fn put_source(out: &mut [u32], t: &[u8], sourced: bool, rows: usize) -> usize
+    requires { ⌜ (sourced ≡ true → Unescapes (now t) rows) × (length (joined (sourceParts sourced (now t) rows)) ≤ length (now out)) ⌝ }
+    ensures { λ r. ⌜ Put (joined (sourceParts sourced (now (t .entry)) rows)) (now (out .entry)) r (now (out .exit)) ⌝ }
+{
+    if !sourced {
+        return 0;
+    }
+    let mut at = 0;
+    at += put_word(&mut out[at..], 0x8000_0000);
+    at += put_source_text(&mut out[at..], t, rows);
+    at
+}
+
+// The relocations, if they are kept.
+fn put_relocations(out: &mut [u32], u: &[u8], kept: bool) -> usize
+    ensures { λ r. ⌜ PutEach (relocationParts kept (now (u .entry))) (now (out .entry)) r (now (out .exit)) ⌝ }
+{
+    if !kept {
+        return 0;
+    }
+    put_rows(out, u, 2)
 }
