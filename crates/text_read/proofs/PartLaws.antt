@@ -12,6 +12,7 @@ use Rattle.format.specs.Basics.{if_then_else_, isEmpty}
 use Rattle.format.specs.ObjectFile.{Label}
 use Rattle.format.specs.Records.{label, sourceRecords}
 use Rattle.format.specs.Words.{word, textWords, recordWords}
+use Rattle.format.proofs.ListLaws.{flatMap-append}
 use Rattle.writing.specs.Written.{Put}
 use Rattle.writing.proofs.TextLaws.{length-words}
 use Rattle.text_tables.specs.Debug.{lineView}
@@ -20,11 +21,11 @@ use Rattle.text_scan.specs.Walk.{lineBlocksOf, sourceOf}
 use Rattle.text_labels.specs.Labels.{labelsOf}
 use Rattle.text_words.specs.Written.{putEach, PutEach}
 use Rattle.text_words.specs.Room.{roomFor, roomAfter}
-use Rattle.text_words.proofs.RoomLaws.{room-short, room-one, rooms-none}
+use Rattle.text_words.proofs.RoomLaws.{room-short, room-one, rooms-none, rooms-short, rooms-on, room-is}
 use Rattle.text_words.proofs.PutLaws.{put-fits}
 use Rattle.text_read.specs.Runs.{blockWords}
 use Rattle.text_read.specs.SourceText.{sourceAt}
-use Rattle.text_read.specs.Parts.{joined, rowParts, labelParts, lineParts, sourceParts, relocationParts, keepsRelocations}
+use Rattle.text_read.specs.Parts.{joined, rowParts, labelParts, lineParts, sourceParts, relocationParts, keepsRelocations, objectParts}
 
 module _ (sourced : Bool) (t : List ℕ) (rows : ℕ) where
   pub lines-none : sourced ≡ false → lineParts sourced t rows ≡ []
@@ -111,3 +112,75 @@ keeps-is false u n e =
     and-true : (b : Bool) → (b && true) ≡ b
     and-true true = refl
     and-true false = refl
+
+-- THE FIVE PARTS
+module _ (u t : List ℕ) (sourced : Bool) (rows : ℕ) where
+  abbrev pub from4 : List (List ℕ)
+  from4 = relocationParts (keepsRelocations sourced u) u
+
+  abbrev pub from3 : List (List ℕ)
+  from3 = sourceParts sourced t rows ++ from4
+
+  abbrev pub from2 : List (List ℕ)
+  from2 = lineParts sourced t rows ++ from3
+
+  abbrev pub from1 : List (List ℕ)
+  from1 = labelParts u ++ from2
+
+  pub object-parts : objectParts u t sourced rows ≡ rowParts 0 u ++ from1
+  unfolding objectParts
+  object-parts = refl
+
+  -- the words of the parts that are left
+  pub joined-parts : joined (objectParts u t sourced rows) ≡ joined (rowParts 0 u) ++ joined from1
+  joined-parts = ap joined object-parts ∙ flatMap-append (λ (p : List ℕ). p) (rowParts 0 u) from1
+
+  pub joined1 : joined from1 ≡ joined (labelParts u) ++ joined from2
+  joined1 = flatMap-append (λ (p : List ℕ). p) (labelParts u) from2
+
+  pub joined2 : joined from2 ≡ joined (lineParts sourced t rows) ++ joined from3
+  joined2 = flatMap-append (λ (p : List ℕ). p) (lineParts sourced t rows) from3
+
+  pub joined3 : joined from3 ≡ joined (sourceParts sourced t rows) ++ joined from4
+  joined3 = flatMap-append (λ (p : List ℕ). p) (sourceParts sourced t rows) from4
+
+  -- the room that they leave
+  module _ (room : ℕ) where
+    pub short0 : none ≡ roomAfter (rowParts 0 u) room → none ≡ roomAfter (objectParts u t sourced rows) room
+    short0 o = rooms-short (rowParts 0 u) from1 _ room object-parts o
+
+    module _ (a : ℕ) (o : some a ≡ roomAfter (rowParts 0 u) room) where
+      on0 : roomAfter from1 a ≡ roomAfter (objectParts u t sourced rows) room
+      on0 = rooms-on (rowParts 0 u) from1 _ room object-parts a o
+
+      pub short1 : none ≡ roomAfter (labelParts u) a → none ≡ roomAfter (objectParts u t sourced rows) room
+      short1 p = rooms-short (labelParts u) from2 from1 a refl p ∙ on0
+
+      module _ (b : ℕ) (p : some b ≡ roomAfter (labelParts u) a) where
+        on1 : roomAfter from2 b ≡ roomAfter (objectParts u t sourced rows) room
+        on1 = rooms-on (labelParts u) from2 from1 a refl b p ∙ on0
+
+        pub label-count : a - b ≡ length (joined (labelParts u))
+        label-count = omega (arith, room-is (labelParts u) a b p)
+
+        pub below1 : b ≤ a
+        below1 = omega (arith, room-is (labelParts u) a b p)
+
+        pub short2 : none ≡ roomAfter (lineParts sourced t rows) b → none ≡ roomAfter (objectParts u t sourced rows) room
+        short2 q = rooms-short (lineParts sourced t rows) from3 from2 b refl q ∙ on1
+
+        module _ (c : ℕ) (q : some c ≡ roomAfter (lineParts sourced t rows) b) where
+          on2 : roomAfter from3 c ≡ roomAfter (objectParts u t sourced rows) room
+          on2 = rooms-on (lineParts sourced t rows) from3 from2 b refl c q ∙ on1
+
+          pub below : c ≤ room
+          below = omega (arith, room-is (rowParts 0 u) room a o, room-is (labelParts u) a b p, room-is (lineParts sourced t rows) b c q)
+
+          pub short3 : none ≡ roomAfter (sourceParts sourced t rows) c → none ≡ roomAfter (objectParts u t sourced rows) room
+          short3 r = rooms-short (sourceParts sourced t rows) from4 from3 c refl r ∙ on2
+
+          pub on3 : (d : ℕ) → some d ≡ roomAfter (sourceParts sourced t rows) c → (kept : Bool) → kept ≡ (sourced || not (eqb (a - b) 0))
+              → (x : Option ℕ) → x ≡ roomAfter (relocationParts kept u) d → x ≡ roomAfter (objectParts u t sourced rows) room
+          on3 d r kept k x w =
+              w ∙ ap (λ (z : Bool). roomAfter (relocationParts z u) d) (k ∙ keeps-is sourced u (a - b) label-count)
+              ∙ rooms-on (sourceParts sourced t rows) from4 from3 c refl d r ∙ on2

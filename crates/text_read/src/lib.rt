@@ -1,5 +1,7 @@
 // The text reader: how many words a text file makes, and the words.
 use encode::encode_scalar;
+use text_labels::labels_room;
+use text_labels::put_labels;
 use text_lines::Line;
 use text_source::Source;
 use text_source::Token;
@@ -13,11 +15,12 @@ use text_words::rows_room;
 use writing::put_number_words;
 use writing::put_word;
 ghost use mathlib.Core.Path.{_≡_};
-ghost use mathlib.Core.Bool.{true};
+ghost use mathlib.Core.Bool.{true, _||_, not};
 ghost use mathlib.Core.List.{[], _∷_, map};
 ghost use mathlib.Core.Option.{some};
 ghost use Prim.Native.Nat.{_^_, _≤_, _<_};
 ghost use lib.ListN.{length, take};
+ghost use lib.Dec.{eqb};
 ghost use Rattle.format.specs.Utf8.{isScalar, encodeScalar};
 ghost use Rattle.format.specs.Words.{memoryWord, textWords};
 ghost use Rattle.writing.specs.Written.{Put};
@@ -26,7 +29,7 @@ ghost use Rattle.text_debug.specs.DebugGroup.{addressIn, lineBlocksIn};
 ghost use Rattle.text_words.specs.Written.{PutEach};
 ghost use Rattle.text_words.specs.Room.{roomOf, roomFor, roomAfter};
 ghost use Rattle.text_read.specs.Runs.{addressesFrom, NextRun, blockWords, runWords, runParts, runRoom};
-ghost use Rattle.text_read.specs.Parts.{joined, lineParts, sourceParts, relocationParts};
+ghost use Rattle.text_read.specs.Parts.{joined, lineParts, sourceParts, relocationParts, objectParts};
 ghost use Rattle.text_read.specs.SourceText.{Counted, sourceAt, Unescapes, Ready, Pushes, Flushes};
 
 // A run of rows with an address: how many, and the place after the row without one that ends it; or one that reaches the last row.
@@ -400,4 +403,51 @@ fn put_relocations(out: &mut [u32], u: &[u8], kept: bool) -> usize
         return 0;
     }
     put_rows(out, u, 2)
+}
+
+// "No label and no source: relocations are dropped", by how many words the labels have.
+fn keeps_relocations(sourced: bool, labels: usize) -> bool
+    ensures { λ r. ⌜ r ≡ (sourced || not (eqb labels 0)) ⌝ }
+{
+    if sourced {
+        return true;
+    }
+    labels != 0
+}
+
+// The room, less than 2^62 words, after the five parts.
+fn object_room(u: &[u8], t: &[u8], sourced: bool, rows: usize, room: usize) -> Room
+    requires { ⌜ (sourced ≡ true → Unescapes (now t) rows) × (room < 2 ^ 62) ⌝ }
+    ensures { λ r. ⌜ roomOf r ≡ roomAfter (objectParts (now (u .entry)) (now (t .entry)) sourced rows) room ⌝ }
+{
+    let Room::Left(a) = rows_room(u, 0, room) else {
+        return Room::Short;
+    };
+    let Room::Left(b) = labels_room(u, a) else {
+        return Room::Short;
+    };
+    let Room::Left(c) = lines_room(t, sourced, rows, b) else {
+        return Room::Short;
+    };
+    let Room::Left(d) = source_room(t, sourced, rows, c) else {
+        return Room::Short;
+    };
+    relocations_room(u, keeps_relocations(sourced, a - b), d)
+}
+
+// The five parts, one after the other.
+fn put_object(out: &mut [u32], u: &[u8], t: &[u8], sourced: bool, rows: usize) -> usize
+    requires { ⌜ (sourced ≡ true → Unescapes (now t) rows)
+        × (length (joined (objectParts (now u) (now t) sourced rows)) ≤ length (now out)) ⌝ }
+    ensures { λ r. ⌜ Put (joined (objectParts (now (u .entry)) (now (t .entry)) sourced rows)) (now (out .entry)) r (now (out .exit)) ⌝ }
+{
+    let mut at = 0;
+    at += put_rows(&mut out[at..], u, 0);
+    let n = put_labels(&mut out[at..], u);
+    at += n;
+    at += put_lines(&mut out[at..], t, sourced, rows);
+    at += put_source(&mut out[at..], t, sourced, rows);
+    let kept = keeps_relocations(sourced, n);
+    at += put_relocations(&mut out[at..], u, kept);
+    at
 }
