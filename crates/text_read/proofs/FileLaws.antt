@@ -3,8 +3,16 @@ use mathlib.Core.Path.{_≡_, refl, sym, ap, ap₂, _∙_}
 use mathlib.Core.Bool.{Bool, true, false, _&&_, not}
 use mathlib.Core.List.{List, [], _∷_, _++_, map, flatMap, append-assoc}
 use mathlib.Core.Option.{Option, none, some}
-use Prim.Native.Nat.{ℕ}
-use Rattle.format.specs.Basics.{given, if_then_else_, isEmpty, isSome}
+use Prim.Native.Nat.{ℕ, _≤_}
+use native.Mathlib.Omega.{arith}
+use lib.ListN.{length}
+use borrow.Author.Tests.{lt-leb}
+use Rattle.format.specs.Calls.{Filled, fill, readText}
+use Rattle.writing.specs.Written.{Put}
+use Rattle.writing.proofs.WriteLaws.{put-fills}
+use Rattle.text_words.specs.Room.{roomAfter}
+use Rattle.text_words.proofs.RoomLaws.{room-is, room-lacks}
+use Rattle.format.specs.Basics.{Outcome, refused, given, _>>=_, if_then_else_, isEmpty, isSome}
 use Rattle.format.specs.Utf8.{trim}
 use Rattle.format.specs.ObjectFile.{Label, LineBlock, ObjectFile}
 use Rattle.format.specs.Records.{Record, block, label, lineBlock, relocation, sourceRecords, recordsOf, dropStrayRelocations}
@@ -16,7 +24,7 @@ use Rattle.text_tables.specs.Debug.{lineView}
 use Rattle.text_source.specs.Stream.{sourceFrom}
 use Rattle.text_scan.specs.declared.Scanned.{Scanned}
 use Rattle.text_scan.specs.Walk.{lineBlocksOf, sourceOf}
-use Rattle.text_scan.specs.Scan.{Read}
+use Rattle.text_scan.specs.Scan.{Read, Scans}
 use Rattle.text_rows.proofs.FileLaws.{PartsOf, text-parts}
 use Rattle.text_labels.specs.Labels.{labelsOf}
 use Rattle.text_labels.proofs.FileLaws.{text-words}
@@ -103,3 +111,48 @@ module _ (s t : List ℕ) (r : Scanned) (h : ObjectFile) (e : textObject s ≡ g
   pub file-unescapes : r .sourced ≡ true → Unescapes t (r .rows)
   unfolding sourceFrom
   file-unescapes q = x .lines .reads q
+
+-- THE CALL: a refusal, a buffer that is too short, and the words
+pub read-refused : (s t : List ℕ) (r : Scanned) (buffer : List ℕ) → Scans t (textObject s) r → (r .number ≡ 0 → ⊥)
+    → record { number = r .number; len = 0; buffer = buffer } ≡ fill (readText s) buffer
+unfolding readText fill
+read-refused s t r buffer q z = go (textObject s) q
+  where
+    go : (o : Outcome ObjectFile) → Scans t o r → record { number = r .number; len = 0; buffer = buffer } ≡ fill (o >>= λ h. given (wordsOf h)) buffer
+    go (refused n) q = ap (λ (x : Scanned). record { number = x .number; len = 0; buffer = buffer }) (q .0)
+    go (given h) q = absurd (z (q .yes))
+
+pub read-given : (s t : List ℕ) (r : Scanned) → Scans t (textObject s) r → r .number ≡ 0 → (h : ObjectFile) × (textObject s ≡ given h) × Read t r h
+read-given s t r q z = go (textObject s) refl q
+  where
+    go : (o : Outcome ObjectFile) → textObject s ≡ o → Scans t o r → (h : ObjectFile) × (textObject s ≡ given h) × Read t r h
+    go (refused n) e q = let k : 0 ≡ n = sym z ∙ ap (λ (x : Scanned). x .number) (q .0) in absurd (omega (arith, q .1))
+    go (given h) e q = (h, e, q)
+
+module _ (s t : List ℕ) (r : Scanned) (buffer : List ℕ) (q : Scans t (textObject s) r) (z : r .number ≡ 0) where
+  answer : readText s ≡ given (joined (objectParts (trim s) t (r .sourced) (r .rows)))
+  unfolding readText
+  answer =
+      let x = read-given s t r q z in
+      ap (λ (o : Outcome ObjectFile). o >>= λ h. given (wordsOf h)) (x .1) ∙ ap given (file-words s t r (x .0) (x .1) (x .2))
+
+  pub read-unescapes : r .sourced ≡ true → Unescapes t (r .rows)
+  read-unescapes = let x = read-given s t r q z in file-unescapes s t r (x .0) (x .1) (x .2)
+
+  pub read-inside : r .end ≡ length t
+  read-inside = let x = read-given s t r q z in x .2 .end
+
+  pub read-short : none ≡ roomAfter (objectParts (trim s) t (r .sourced) (r .rows)) (length buffer)
+      → record { number = 3; len = 0; buffer = buffer } ≡ fill (readText s) buffer
+  unfolding fill
+  read-short o =
+      sym (ap (λ (x : Outcome (List ℕ)). fill x buffer) answer
+      ∙ rw (lt-leb _ _ (room-lacks (objectParts (trim s) t (r .sourced) (r .rows)) (length buffer) o)) refl)
+
+  module _ (m : ℕ) (o : some m ≡ roomAfter (objectParts (trim s) t (r .sourced) (r .rows)) (length buffer)) where
+    pub read-fits : length (joined (objectParts (trim s) t (r .sourced) (r .rows))) ≤ length buffer
+    read-fits = omega (arith, room-is (objectParts (trim s) t (r .sourced) (r .rows)) (length buffer) m o)
+
+    pub read-put : (n : ℕ) (after : List ℕ) → Put (joined (objectParts (trim s) t (r .sourced) (r .rows))) buffer n after
+        → record { number = 0; len = n; buffer = after } ≡ fill (readText s) buffer
+    read-put n after w = put-fills _ buffer read-fits w ∙ sym (ap (λ (x : Outcome (List ℕ)). fill x buffer) answer)

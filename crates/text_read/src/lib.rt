@@ -3,6 +3,7 @@ use encode::encode_scalar;
 use text_labels::labels_room;
 use text_labels::put_labels;
 use text_lines::Line;
+use text_scan::scan_text;
 use text_source::Source;
 use text_source::Token;
 use text_source::next_token;
@@ -12,6 +13,8 @@ use text_tables::parse_line_row;
 use text_words::Room;
 use text_words::put_rows;
 use text_words::rows_room;
+use trim::trim;
+use units::Filled;
 use writing::put_number_words;
 use writing::put_word;
 ghost use mathlib.Core.Path.{_≡_};
@@ -21,6 +24,8 @@ ghost use mathlib.Core.Option.{some};
 ghost use Prim.Native.Nat.{_^_, _≤_, _<_};
 ghost use lib.ListN.{length, take};
 ghost use lib.Dec.{eqb};
+ghost use Rattle.format.specs.Calls.{readText, fill};
+ghost use Rattle.units.specs.Filled.{filledOf};
 ghost use Rattle.format.specs.Utf8.{isScalar, encodeScalar};
 ghost use Rattle.format.specs.Words.{memoryWord, textWords};
 ghost use Rattle.writing.specs.Written.{Put};
@@ -450,4 +455,35 @@ fn put_object(out: &mut [u32], u: &[u8], t: &[u8], sourced: bool, rows: usize) -
     let kept = keeps_relocations(sourced, n);
     at += put_relocations(&mut out[at..], u, kept);
     at
+}
+
+// The words of a text file, or the number of the first question that is answered no, 20 to 31; 3 where the buffer is too short.
+pub fn read_text(s: &[u8], out: &mut [u32]) -> Filled
+    ensures { λ r. ⌜ filledOf r (now (out .exit)) ≡ fill (readText (now (s .entry))) (now (out .entry)) ⌝ }
+{
+    let scanned = scan_text(s);
+    if scanned.number != 0 {
+        return Filled::refused(scanned.number);
+    }
+    let w = trim(s, 0, s.len());
+    let from = w.start;
+    let to = w.end;
+    let end = scanned.end;
+    let Room::Left(_) = object_room(
+        &s[from..to],
+        &s[0..end],
+        scanned.sourced,
+        scanned.rows,
+        out.len(),
+    ) else {
+        return Filled::refused(3);
+    };
+    let n = put_object(
+        out,
+        &s[from..to],
+        &s[0..end],
+        scanned.sourced,
+        scanned.rows,
+    );
+    Filled::given(n)
 }
