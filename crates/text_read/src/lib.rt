@@ -478,12 +478,6 @@ pub fn read_text(s: &[u8], out: &mut [u32]) -> Filled
     ) else {
         return Filled::refused(3);
     };
-    let n = put_object(
-        out,
-        &s[from..to],
-        &s[0..end],
-        scanned.sourced,
-        scanned.rows,
-    );
+    let n = put_object(out, &s[from..to], &s[0..end], scanned.sourced, scanned.rows);
     Filled::given(n)
 }

@@ -293,15 +293,17 @@ module _ (t : List ℕ) (c d : Source) (b : ℕ) (k : bytesLeft t c ≡ b ∷ by
 
     pub token-scalar : (v : ℕ) (g : Source) → 0 ≡ escapeByte e → e ≡ 0x75 → EscapeAt t f v g → TokenAt t c (encodeScalar v) g × (isScalar v ≡ true)
     token-scalar v g q z u =
-        let s : 1 + u .bytes ≡ suc (u .bytes) = omega arith in
-        (record {
-          less = rw (k, j) (let w : length (bytesLeft t g) ≡ length (bytesLeft t f) - u .bytes = ap length (sym (u .rest)) ∙ length-drop (u .bytes) (bytesLeft t f) in omega arith);
-          same = ap (tokens unescapeAt 0) k
-              ∙ tokens-step unescapeAt b (bytesLeft t d) (encodeScalar v) (1 + u .bytes) (escape ∙ after-u e (bytesLeft t f) (sym q) z ∙ u .read)
-              ∙ ap (λ (r : List ℕ). tokens unescapeAt 0 (drop (1 + u .bytes) r) >>= λ ts. given (encodeScalar v ∷ ts)) j
-              ∙ ap (λ (n : ℕ). tokens unescapeAt 0 (drop n (e ∷ bytesLeft t f)) >>= λ ts. given (encodeScalar v ∷ ts)) s
-              ∙ ap (λ (r : List ℕ). tokens unescapeAt 0 r >>= λ ts. given (encodeScalar v ∷ ts)) (u .rest);
-        }, u .scalar)
+        let s : 1 + u .bytes ≡ suc (u .bytes) = omega arith in (
+          record {
+            less = rw (k, j) (let w : length (bytesLeft t g) ≡ length (bytesLeft t f) - u .bytes = ap length (sym (u .rest)) ∙ length-drop (u .bytes) (bytesLeft t f) in omega arith);
+            same = ap (tokens unescapeAt 0) k
+                ∙ tokens-step unescapeAt b (bytesLeft t d) (encodeScalar v) (1 + u .bytes) (escape ∙ after-u e (bytesLeft t f) (sym q) z ∙ u .read)
+                ∙ ap (λ (r : List ℕ). tokens unescapeAt 0 (drop (1 + u .bytes) r) >>= λ ts. given (encodeScalar v ∷ ts)) j
+                ∙ ap (λ (n : ℕ). tokens unescapeAt 0 (drop n (e ∷ bytesLeft t f)) >>= λ ts. given (encodeScalar v ∷ ts)) s
+                ∙ ap (λ (r : List ℕ). tokens unescapeAt 0 r >>= λ ts. given (encodeScalar v ∷ ts)) (u .rest);
+          },
+          u .scalar,
+        )
 
 -- the braces
 pub escape-some : (t : List ℕ) (c d : Source) (b : ℕ) → bytesLeft t c ≡ b ∷ bytesLeft t d → b ≡ 0x7B → (v : ℕ) (g : Source) (n : ℕ) → unicodeEscape (0x7B ∷ bytesLeft t d) ≡ given (encodeScalar v, 1 + (1 + n + 1)) → drop (n + 1) (bytesLeft t d) ≡ bytesLeft t g → isScalar v ≡ true → EscapeAt t c v g

@@ -57,8 +57,7 @@ source-room-requires : tie.Need-source-room-requires
 source-room-requires c κs =
     let x = c .before in
     let b = to-b x in
-    let k = start (to-a b) in
-    (
+    let k = start (to-a b) in (
       k .pre .0,
       omega (arith, k .pre .1, below (now (k .args .u)) (now (k .args .t)) (k .args .sourced) (k .args .rows) _ _ (left0 (to-a b)) _ (left1 b) _ (left2 x)),
     )

@@ -90,9 +90,11 @@ emits4 c =
 put-source-requires : tie.Need-put-source-requires
 put-source-requires c κs =
     let d = c .before .before .before in
-    let k = start1 (to1 (to2 d)) in
-    (k .pre .0, room-for (emits3 d) (joined (sourceParts (k .args .sourced) (text k) (k .args .rows)))
-    (joined (from4 (file k) (text k) (k .args .sourced) (k .args .rows))) (joined3 (file k) (text k) (k .args .sourced) (k .args .rows)))
+    let k = start1 (to1 (to2 d)) in (
+      k .pre .0,
+      room-for (emits3 d) (joined (sourceParts (k .args .sourced) (text k) (k .args .rows)))
+          (joined (from4 (file k) (text k) (k .args .sourced) (k .args .rows))) (joined3 (file k) (text k) (k .args .sourced) (k .args .rows)),
+    )
 
 abbrev to4 : tie.After-put-relocations → tie.After-put-source
 to4 c = c .before .before .before .before .before

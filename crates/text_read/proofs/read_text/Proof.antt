@@ -75,8 +75,7 @@ put-object-requires : tie.Need-put-object-requires
 put-object-requires c κs =
     let d = c .before .before .before in
     let o = d .before .before in
-    let w = o .before .before .before in
-    (
+    let w = o .before .before .before in (
       unescapes w,
       subst (λ (ps : List (List ℕ)). length (joined ps) ≤ length (room w)) (sym (parts w))
           (read-fits (bytes w) _ _ (room w) (scan w .scan-text .ensures) (w .before .if1 .left) _
