@@ -2,7 +2,7 @@
 use mathlib.Core.Path.{_≡_, refl, sym, ap, _∙_, subst}
 use mathlib.Core.Bool.{Bool, true, false}
 use mathlib.Core.List.{List, [], _∷_}
-use Prim.Native.Nat.{ℕ, zero, suc, _-_, _≤_}
+use Prim.Native.Nat.{ℕ, zero, suc, _-_, _≤_, _<_}
 use native.Mathlib.Omega.{arith}
 use lib.ListN.{length, take, drop, getD, replicate}
 use lib.Seq.{take-nil, length-take-le}
@@ -142,8 +142,8 @@ module _ (t : List ℕ) (start a e n : ℕ) (l : LineAt kept t start a e n) wher
             })
 
 -- a refusal
-pub scans-no : (t : List ℕ) (o : Outcome ObjectFile) (n : ℕ) (r : Scanned) → o ≡ refused n → r ≡ refusedScan n → Scans t o r
-scans-no t o n r e q = subst (λ (x : Outcome ObjectFile). Scans t x r) (sym e) q
+pub scans-no : (t : List ℕ) (o : Outcome ObjectFile) (n : ℕ) (r : Scanned) → o ≡ refused n → 0 < n → r ≡ refusedScan n → Scans t o r
+scans-no t o n r e l q = subst (λ (x : Outcome ObjectFile). Scans t x r) (sym e) (q, l)
 
 -- THE FILE
 drop-take : (x n : ℕ) (l : List ℕ) → drop x (take n l) ≡ take (n - x) (drop x l)
@@ -171,7 +171,7 @@ module _ (s : List ℕ) where
 
 -- the number that a scan hands back
 pub scans-number : (t : List ℕ) (o : Outcome ObjectFile) (r : Scanned) → Scans t o r → r .number ≡ refusalOf o
-scans-number t (refused n) r s = ap (λ (x : Scanned). x .number) s
+scans-number t (refused n) r s = ap (λ (x : Scanned). x .number) (s .0)
 scans-number t (given h) r s = s .yes
 
 -- of a file up to the end that is handed back

@@ -2,7 +2,7 @@
 use mathlib.Core.Path.{_≡_}
 use mathlib.Core.Bool.{true, false}
 use mathlib.Core.List.{List}
-use Prim.Native.Nat.{ℕ, _≤_}
+use Prim.Native.Nat.{ℕ, _≤_, _<_}
 use lib.ListN.{length, drop}
 use Rattle.format.specs.Basics.{Outcome, refused, given, _>>=_, ask, isEmpty, beginsWith, ascii}
 use Rattle.format.specs.Tokens.{foldOutcome, partsAt}
@@ -40,7 +40,7 @@ pub record Read (t : List ℕ) (r : Scanned) (h : ObjectFile) : Type 0 where
   pub lines : Lined t (r .sourced) (r .rows) object
   pub whole : h ≡ dropStrayRelocations object
 
--- what a scan hands back for each outcome
+-- what a scan hands back for each outcome; no refusal has number 0
 abbrev pub Scans : List ℕ → Outcome ObjectFile → Scanned → Type 0
-Scans t (refused n) r = r ≡ refusedScan n
+Scans t (refused n) r = (r ≡ refusedScan n) × (0 < n)
 Scans t (given h) r = Read t r h

@@ -169,8 +169,8 @@ module _ (all rest : List ℕ) (n v : ℕ) (i : Digits all rest n v) where
       pub esc-bad : isScalar v ≡ false → unicodeEscape (123 ∷ all) ≡ refused 30
       esc-bad s = uni-bad stop (omega arith) close s
 
-      pub esc-good : isScalar v ≡ true → (k : ℕ) × (unicodeEscape (123 ∷ all) ≡ given (encodeScalar v, 1 + (1 + k + 1))) × (drop (k + 1) all ≡ bs)
-      esc-good s = (n, uni-good stop (omega arith) close s, sym (drop-drop 1 n all) ∙ ap (drop 1) (i .left ∙ e))
+      pub esc-good : isScalar v ≡ true → (k : ℕ) × (unicodeEscape (123 ∷ all) ≡ given (encodeScalar v, 1 + (1 + k + 1))) × (drop (k + 1) all ≡ bs) × (isScalar v ≡ true)
+      esc-good s = (n, uni-good stop (omega arith) close s, sym (drop-drop 1 n all) ∙ ap (drop 1) (i .left ∙ e), s)
 
 module _ (v : ℕ) where
   pub scalar-low : v < 0xD800 → isScalar v ≡ true
@@ -291,25 +291,28 @@ module _ (t : List ℕ) (c d : Source) (b : ℕ) (k : bytesLeft t c ≡ b ∷ by
     pub token-none : 0 ≡ escapeByte e → e ≡ 0x75 → unicodeEscape (bytesLeft t f) ≡ refused 30 → tokensLeft t c ≡ refused 30
     token-none q z u = ap (tokens unescapeAt 0) k ∙ tokens-stop unescapeAt b (bytesLeft t d) 30 (escape ∙ after-u e (bytesLeft t f) (sym q) z ∙ u)
 
-    pub token-scalar : (v : ℕ) (g : Source) → 0 ≡ escapeByte e → e ≡ 0x75 → EscapeAt t f v g → TokenAt t c (encodeScalar v) g
+    pub token-scalar : (v : ℕ) (g : Source) → 0 ≡ escapeByte e → e ≡ 0x75 → EscapeAt t f v g → TokenAt t c (encodeScalar v) g × (isScalar v ≡ true)
     token-scalar v g q z u =
-        let s : 1 + u .bytes ≡ suc (u .bytes) = omega arith in
-        record {
-          less = rw (k, j) (let w : length (bytesLeft t g) ≡ length (bytesLeft t f) - u .bytes = ap length (sym (u .rest)) ∙ length-drop (u .bytes) (bytesLeft t f) in omega arith);
-          same = ap (tokens unescapeAt 0) k
-              ∙ tokens-step unescapeAt b (bytesLeft t d) (encodeScalar v) (1 + u .bytes) (escape ∙ after-u e (bytesLeft t f) (sym q) z ∙ u .read)
-              ∙ ap (λ (r : List ℕ). tokens unescapeAt 0 (drop (1 + u .bytes) r) >>= λ ts. given (encodeScalar v ∷ ts)) j
-              ∙ ap (λ (n : ℕ). tokens unescapeAt 0 (drop n (e ∷ bytesLeft t f)) >>= λ ts. given (encodeScalar v ∷ ts)) s
-              ∙ ap (λ (r : List ℕ). tokens unescapeAt 0 r >>= λ ts. given (encodeScalar v ∷ ts)) (u .rest);
-        }
+        let s : 1 + u .bytes ≡ suc (u .bytes) = omega arith in (
+          record {
+            less = rw (k, j) (let w : length (bytesLeft t g) ≡ length (bytesLeft t f) - u .bytes = ap length (sym (u .rest)) ∙ length-drop (u .bytes) (bytesLeft t f) in omega arith);
+            same = ap (tokens unescapeAt 0) k
+                ∙ tokens-step unescapeAt b (bytesLeft t d) (encodeScalar v) (1 + u .bytes) (escape ∙ after-u e (bytesLeft t f) (sym q) z ∙ u .read)
+                ∙ ap (λ (r : List ℕ). tokens unescapeAt 0 (drop (1 + u .bytes) r) >>= λ ts. given (encodeScalar v ∷ ts)) j
+                ∙ ap (λ (n : ℕ). tokens unescapeAt 0 (drop n (e ∷ bytesLeft t f)) >>= λ ts. given (encodeScalar v ∷ ts)) s
+                ∙ ap (λ (r : List ℕ). tokens unescapeAt 0 r >>= λ ts. given (encodeScalar v ∷ ts)) (u .rest);
+          },
+          u .scalar,
+        )
 
 -- the braces
-pub escape-some : (t : List ℕ) (c d : Source) (b : ℕ) → bytesLeft t c ≡ b ∷ bytesLeft t d → b ≡ 0x7B → (v : ℕ) (g : Source) (n : ℕ) → unicodeEscape (0x7B ∷ bytesLeft t d) ≡ given (encodeScalar v, 1 + (1 + n + 1)) → drop (n + 1) (bytesLeft t d) ≡ bytesLeft t g → EscapeAt t c v g
-escape-some t c d b k h v g n e r =
+pub escape-some : (t : List ℕ) (c d : Source) (b : ℕ) → bytesLeft t c ≡ b ∷ bytesLeft t d → b ≡ 0x7B → (v : ℕ) (g : Source) (n : ℕ) → unicodeEscape (0x7B ∷ bytesLeft t d) ≡ given (encodeScalar v, 1 + (1 + n + 1)) → drop (n + 1) (bytesLeft t d) ≡ bytesLeft t g → isScalar v ≡ true → EscapeAt t c v g
+escape-some t c d b k h v g n e r z =
     record {
       bytes = 1 + n + 1;
       read = ap unicodeEscape (k ∙ ap (λ (x : ℕ). x ∷ bytesLeft t d) h) ∙ e;
       rest = ap (drop (1 + n + 1)) k ∙ (let s : 1 + n + 1 ≡ suc (n + 1) = omega arith in ap (λ (m : ℕ). drop m (b ∷ bytesLeft t d)) s) ∙ r;
+      scalar = z;
     }
 
 pub escape-bad : (t : List ℕ) (c d : Source) (b : ℕ) → bytesLeft t c ≡ b ∷ bytesLeft t d → b ≡ 0x7B → unicodeEscape (0x7B ∷ bytesLeft t d) ≡ refused 30 → unicodeEscape (bytesLeft t c) ≡ refused 30
@@ -336,5 +339,5 @@ unfolding tokens
 number-end t c e = sym (ap (λ (bs : List ℕ). refusalOf (tokens unescapeAt 0 bs)) e)
 
 pub escape-of : (t : List ℕ) (c d : Source) (b : ℕ) → bytesLeft t c ≡ b ∷ bytesLeft t d → b ≡ 0x7B → (r : Unicode) → NextDigits t d r → NextEscape t c r
-escape-of t c d b k h (un.Scalar v g) i = escape-some t c d b k h v g (i .0) (i .1) (i .2)
+escape-of t c d b k h (un.Scalar v g) i = escape-some t c d b k h v g (i .0) (i .1) (i .2) (i .3)
 escape-of t c d b k h un.Bad i = escape-bad t c d b k h i

@@ -1,13 +1,14 @@
 -- Unescaping the source column, token by token.
 -- Assumes nothing.
 use mathlib.Core.Path.{_≡_}
+use mathlib.Core.Bool.{true}
 use mathlib.Core.List.{List, [], _∷_}
 use Prim.Native.Nat.{ℕ, _+_, _<_}
 use lib.ListN.{length, drop}
 use lib.Dec.{eqb}
 use Rattle.format.specs.Basics.{Outcome, refused, given, _>>=_, if_then_else_}
 use Rattle.format.specs.Tokens.{tokens}
-use Rattle.format.specs.Utf8.{encodeScalar}
+use Rattle.format.specs.Utf8.{encodeScalar, isScalar}
 use Rattle.format.specs.TextReader.{unescapeAt, unicodeEscape}
 use Rattle.text_source.specs.declared.Source.{Source}
 use Rattle.text_source.specs.declared.Unicode.{Unicode}
@@ -32,6 +33,7 @@ pub record EscapeAt (t : List ℕ) (c : Source) (v : ℕ) (d : Source) : Type 0 
   pub bytes : ℕ
   pub read : unicodeEscape (bytesLeft t c) ≡ given (encodeScalar v, 1 + bytes)
   pub rest : drop bytes (bytesLeft t c) ≡ bytesLeft t d
+  pub scalar : isScalar v ≡ true
 
 abbrev pub NextEscape : List ℕ → Source → Unicode → Type 0
 NextEscape t c (un.Scalar v d) = EscapeAt t c v d
@@ -47,7 +49,7 @@ pub record TokenAt (t : List ℕ) (c : Source) (bs : List ℕ) (d : Source) : Ty
 
 abbrev pub NextToken : List ℕ → Source → Token → Type 0
 NextToken t c (tk.Plain b d) = TokenAt t c (b ∷ []) d
-NextToken t c (tk.Scalar v d) = TokenAt t c (encodeScalar v) d
+NextToken t c (tk.Scalar v d) = TokenAt t c (encodeScalar v) d × (isScalar v ≡ true)
 NextToken t c tk.Bad = tokensLeft t c ≡ refused 30
 NextToken t c tk.Done = bytesLeft t c ≡ []
 
@@ -55,5 +57,5 @@ NextToken t c tk.Done = bytesLeft t c ≡ []
 abbrev pub NextDigits : List ℕ → Source → Unicode → Type 0
 NextDigits t c (un.Scalar v d) =
     (n : ℕ) × (unicodeEscape (0x7B ∷ bytesLeft t c) ≡ given (encodeScalar v, 1 + (1 + n + 1)))
-    × (drop (n + 1) (bytesLeft t c) ≡ bytesLeft t d)
+    × (drop (n + 1) (bytesLeft t c) ≡ bytesLeft t d) × (isScalar v ≡ true)
 NextDigits t c un.Bad = unicodeEscape (0x7B ∷ bytesLeft t c) ≡ refused 30

@@ -1,4 +1,5 @@
 -- 20, and then the file trimmed. Assumes nothing.
+use native.Mathlib.Omega.{arith}
 use borrow.Author.Needs.{needs}
 use mathlib.Core.Path.{sym, _∙_, subst}
 use denote.Ref.{now}
@@ -14,7 +15,7 @@ use Rattle.text_scan.proofs.scan_text.Statement.{statement}
 use Rattle.text_scan.proofs.scan_text.Tie as tie
 
 returns : tie.Need-returns
-returns c = scans-no _ _ 20 _ (scan-bytes _ (sym (c .before .before .is-utf8 .ensures) ∙ not-true _ (c .before .if1 .taken))) (c .refuse .ensures)
+returns c = scans-no _ _ 20 _ (scan-bytes _ (sym (c .before .before .is-utf8 .ensures) ∙ not-true _ (c .before .if1 .taken))) (omega arith) (c .refuse .ensures)
 
 slice-aggregate-scan-trimmed : tie.Need-slice-aggregate-scan-trimmed
 slice-aggregate-scan-trimmed c = sym (length-take-le _ _ (c .before .trim .ensures .1 .inside))

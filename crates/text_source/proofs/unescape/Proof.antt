@@ -25,10 +25,10 @@ loop-again : tie.Need-loop-again Inv-loop μ-loop
 loop-again c = let k = subst (NextToken (now (c .before .before .before .before .before .before .args .t)) (c .before .before .before .before .loop .cur)) (c .before .token .given .1) (c .before .before .before .next-token .ensures) in number-on _ _ _ _ k ∙ c .before .before .before .before .loop .inv
 
 loop-less-2 : tie.Need-loop-less-2 Inv-loop μ-loop
-loop-less-2 c = let k = subst (NextToken (now (c .before .before .before .before .before .before .args .t)) (c .before .before .before .before .loop .cur)) (c .before .token2 .given .1) (c .before .before .before .next-token .ensures) in k .less
+loop-less-2 c = let k = subst (NextToken (now (c .before .before .before .before .before .before .args .t)) (c .before .before .before .before .loop .cur)) (c .before .token2 .given .1) (c .before .before .before .next-token .ensures) in k .0 .less
 
 loop-again-2 : tie.Need-loop-again-2 Inv-loop μ-loop
-loop-again-2 c = let k = subst (NextToken (now (c .before .before .before .before .before .before .args .t)) (c .before .before .before .before .loop .cur)) (c .before .token2 .given .1) (c .before .before .before .next-token .ensures) in number-on _ _ _ _ k ∙ c .before .before .before .before .loop .inv
+loop-again-2 c = let k = subst (NextToken (now (c .before .before .before .before .before .before .args .t)) (c .before .before .before .before .loop .cur)) (c .before .token2 .given .1) (c .before .before .before .next-token .ensures) in number-on _ _ _ _ (k .0) ∙ c .before .before .before .before .loop .inv
 
 returns : tie.Need-returns Inv-loop μ-loop
 returns c = sym (ap refusalOf (subst (NextToken (now (c .before .before .before .before .before .args .t)) (c .before .before .before .loop .cur)) (c .enum-told .given .1) (c .before .before .next-token .ensures))) ∙ c .before .before .before .loop .inv ∙ number-all _

@@ -1,0 +1,158 @@
+-- Of a text file that reads, the words of its object are those of the five parts. Assumes nothing.
+use mathlib.Core.Path.{_≡_, refl, sym, ap, ap₂, _∙_}
+use mathlib.Core.Bool.{Bool, true, false, _&&_, not}
+use mathlib.Core.List.{List, [], _∷_, _++_, map, flatMap, append-assoc}
+use mathlib.Core.Option.{Option, none, some}
+use Prim.Native.Nat.{ℕ, _≤_}
+use native.Mathlib.Omega.{arith}
+use lib.ListN.{length}
+use borrow.Author.Tests.{lt-leb}
+use Rattle.format.specs.Calls.{Filled, fill, readText}
+use Rattle.writing.specs.Written.{Put}
+use Rattle.writing.proofs.WriteLaws.{put-fills}
+use Rattle.text_words.specs.Room.{roomAfter}
+use Rattle.text_words.proofs.RoomLaws.{room-is, room-lacks}
+use Rattle.format.specs.Basics.{Outcome, refused, given, _>>=_, if_then_else_, isEmpty, isSome}
+use Rattle.format.specs.Utf8.{trim}
+use Rattle.format.specs.ObjectFile.{Label, LineBlock, ObjectFile}
+use Rattle.format.specs.Records.{Record, block, label, lineBlock, relocation, sourceRecords, recordsOf, dropStrayRelocations}
+use Rattle.format.specs.TextReader.{textObject}
+use Rattle.format.specs.Words.{recordWords, wordsOf}
+use Rattle.format.proofs.ListLaws.{flatMap-append, flatMap-map, by-test}
+use Rattle.format.proofs.Outcomes.{gives}
+use Rattle.text_tables.specs.Debug.{lineView}
+use Rattle.text_source.specs.Stream.{sourceFrom}
+use Rattle.text_scan.specs.declared.Scanned.{Scanned}
+use Rattle.text_scan.specs.Walk.{lineBlocksOf, sourceOf}
+use Rattle.text_scan.specs.Scan.{Read, Scans}
+use Rattle.text_rows.proofs.FileLaws.{PartsOf, text-parts}
+use Rattle.text_labels.specs.Labels.{labelsOf}
+use Rattle.text_labels.proofs.FileLaws.{text-words}
+use Rattle.text_read.specs.SourceText.{Unescapes}
+use Rattle.text_read.specs.Parts.{joined, rowParts, labelParts, lineParts, sourceParts, relocationParts, keepsRelocations, objectParts}
+use Rattle.text_read.proofs.PartLaws.{from1, from2, from3, from4, joined-parts, joined1, joined2, joined3}
+
+-- the words of records, one after the other
+records-joined : (rs : List Record) → flatMap recordWords rs ≡ joined (map recordWords rs)
+records-joined rs = sym (flatMap-map (λ (p : List ℕ). p) recordWords rs)
+
+-- five lists, grouped to the right
+regroup : {A : Type 0} (a b c d e : List A) → a ++ b ++ c ++ d ++ e ≡ a ++ (b ++ (c ++ (d ++ e)))
+regroup a b c d e = append-assoc (a ++ b ++ c) d e ∙ append-assoc (a ++ b) c (d ++ e) ∙ append-assoc a b (c ++ (d ++ e))
+
+-- dropping relocations leaves the line blocks and the source
+dropped-lines : (h : ObjectFile) → dropStrayRelocations h .lineBlocks ≡ h .lineBlocks
+unfolding dropStrayRelocations
+dropped-lines h = by-test (isEmpty (h .labels) && not (isSome (h .source))) (λ e. simp e) (λ e. simp e)
+
+dropped-source : (h : ObjectFile) → dropStrayRelocations h .source ≡ h .source
+unfolding dropStrayRelocations
+dropped-source h = by-test (isEmpty (h .labels) && not (isSome (h .source))) (λ e. simp e) (λ e. simp e)
+
+some-source : (sourced : Bool) (ls : List (List ℕ)) → isSome (sourceOf sourced ls) ≡ sourced
+unfolding sourceOf isSome
+some-source true ls = refl
+some-source false ls = refl
+
+relocations-are : (sourced : Bool) (u : List ℕ)
+    → (if isEmpty (labelsOf u) && not sourced then [] else joined (rowParts 2 u)) ≡ joined (relocationParts (keepsRelocations sourced u) u)
+unfolding relocationParts keepsRelocations flatMap
+relocations-are sourced u = by-test (isEmpty (labelsOf u) && not sourced) (λ e. simp e) (λ e. simp e)
+
+module _ (s t : List ℕ) (r : Scanned) (h : ObjectFile) (e : textObject s ≡ given h) (x : Read t r h) where
+  abbrev u : List ℕ
+  u = trim s
+
+  abbrev ls : List (List ℕ)
+  ls = lineView t (r .rows) .0
+
+  lines-are : h .lineBlocks ≡ lineBlocksOf (r .sourced) ls
+  lines-are = ap (λ (o : ObjectFile). o .lineBlocks) (x .whole) ∙ dropped-lines (x .object) ∙ x .lines .blocks
+
+  source-is : h .source ≡ sourceOf (r .sourced) ls
+  source-is = ap (λ (o : ObjectFile). o .source) (x .whole) ∙ dropped-source (x .object) ∙ x .lines .source
+
+  labels-are : h .labels ≡ labelsOf u
+  unfolding labelsOf
+  labels-are = gives (PartsOf u) (textObject s) h (text-parts s) e .labels
+
+  lines-words : flatMap recordWords (map lineBlock (h .lineBlocks)) ≡ joined (lineParts (r .sourced) t (r .rows))
+  lines-words = records-joined (map lineBlock (h .lineBlocks)) ∙ ap (λ (xs : List LineBlock). joined (map recordWords (map lineBlock xs))) lines-are
+
+  source-words : flatMap recordWords (sourceRecords (h .source)) ≡ joined (sourceParts (r .sourced) t (r .rows))
+  source-words = records-joined (sourceRecords (h .source)) ∙ ap (λ (o : Option (List ℕ)). joined (map recordWords (sourceRecords o))) source-is
+
+  relocation-words : flatMap recordWords (map relocation (h .relocations)) ≡ joined (from4 u t (r .sourced) (r .rows))
+  relocation-words =
+      text-words s h e .relocations
+      ∙ ap₂ (λ (xs : List Label) (b : Bool). if isEmpty xs && not b then [] else joined (rowParts 2 u)) labels-are
+      (ap isSome source-is ∙ some-source (r .sourced) ls)
+      ∙ relocations-are (r .sourced) u
+
+  -- the words of the file are those of its five parts
+  pub file-words : wordsOf h ≡ joined (objectParts u t (r .sourced) (r .rows))
+  unfolding wordsOf recordsOf
+  file-words =
+      ap (flatMap recordWords)
+      (regroup (map block (h .blocks)) (map label (h .labels)) (map lineBlock (h .lineBlocks)) (sourceRecords (h .source)) (map relocation (h .relocations)))
+      ∙ flatMap-append recordWords (map block (h .blocks)) _
+      ∙ ap₂ (λ (a b : List ℕ). a ++ b) (text-words s h e .blocks)
+      (flatMap-append recordWords (map label (h .labels)) _
+      ∙ ap₂ (λ (a b : List ℕ). a ++ b) (text-words s h e .labels)
+      (flatMap-append recordWords (map lineBlock (h .lineBlocks)) _
+      ∙ ap₂ (λ (a b : List ℕ). a ++ b) lines-words
+      (flatMap-append recordWords (sourceRecords (h .source)) _ ∙ ap₂ (λ (a b : List ℕ). a ++ b) source-words relocation-words
+      ∙ sym (joined3 u t (r .sourced) (r .rows)))
+      ∙ sym (joined2 u t (r .sourced) (r .rows)))
+      ∙ sym (joined1 u t (r .sourced) (r .rows)))
+      ∙ sym (joined-parts u t (r .sourced) (r .rows))
+
+  -- and its source unescapes
+  pub file-unescapes : r .sourced ≡ true → Unescapes t (r .rows)
+  unfolding sourceFrom
+  file-unescapes q = x .lines .reads q
+
+-- THE CALL: a refusal, a buffer that is too short, and the words
+pub read-refused : (s t : List ℕ) (r : Scanned) (buffer : List ℕ) → Scans t (textObject s) r → (r .number ≡ 0 → ⊥)
+    → record { number = r .number; len = 0; buffer = buffer } ≡ fill (readText s) buffer
+unfolding readText fill
+read-refused s t r buffer q z = go (textObject s) q
+  where
+    go : (o : Outcome ObjectFile) → Scans t o r → record { number = r .number; len = 0; buffer = buffer } ≡ fill (o >>= λ h. given (wordsOf h)) buffer
+    go (refused n) q = ap (λ (x : Scanned). record { number = x .number; len = 0; buffer = buffer }) (q .0)
+    go (given h) q = absurd (z (q .yes))
+
+pub read-given : (s t : List ℕ) (r : Scanned) → Scans t (textObject s) r → r .number ≡ 0 → (h : ObjectFile) × (textObject s ≡ given h) × Read t r h
+read-given s t r q z = go (textObject s) refl q
+  where
+    go : (o : Outcome ObjectFile) → textObject s ≡ o → Scans t o r → (h : ObjectFile) × (textObject s ≡ given h) × Read t r h
+    go (refused n) e q = let k : 0 ≡ n = sym z ∙ ap (λ (x : Scanned). x .number) (q .0) in absurd (omega (arith, q .1))
+    go (given h) e q = (h, e, q)
+
+module _ (s t : List ℕ) (r : Scanned) (buffer : List ℕ) (q : Scans t (textObject s) r) (z : r .number ≡ 0) where
+  answer : readText s ≡ given (joined (objectParts (trim s) t (r .sourced) (r .rows)))
+  unfolding readText
+  answer =
+      let x = read-given s t r q z in
+      ap (λ (o : Outcome ObjectFile). o >>= λ h. given (wordsOf h)) (x .1) ∙ ap given (file-words s t r (x .0) (x .1) (x .2))
+
+  pub read-unescapes : r .sourced ≡ true → Unescapes t (r .rows)
+  read-unescapes = let x = read-given s t r q z in file-unescapes s t r (x .0) (x .1) (x .2)
+
+  pub read-inside : r .end ≡ length t
+  read-inside = let x = read-given s t r q z in x .2 .end
+
+  pub read-short : none ≡ roomAfter (objectParts (trim s) t (r .sourced) (r .rows)) (length buffer)
+      → record { number = 3; len = 0; buffer = buffer } ≡ fill (readText s) buffer
+  unfolding fill
+  read-short o =
+      sym (ap (λ (x : Outcome (List ℕ)). fill x buffer) answer
+      ∙ rw (lt-leb _ _ (room-lacks (objectParts (trim s) t (r .sourced) (r .rows)) (length buffer) o)) refl)
+
+  module _ (m : ℕ) (o : some m ≡ roomAfter (objectParts (trim s) t (r .sourced) (r .rows)) (length buffer)) where
+    pub read-fits : length (joined (objectParts (trim s) t (r .sourced) (r .rows))) ≤ length buffer
+    read-fits = omega (arith, room-is (objectParts (trim s) t (r .sourced) (r .rows)) (length buffer) m o)
+
+    pub read-put : (n : ℕ) (after : List ℕ) → Put (joined (objectParts (trim s) t (r .sourced) (r .rows))) buffer n after
+        → record { number = 0; len = n; buffer = after } ≡ fill (readText s) buffer
+    read-put n after w = put-fills _ buffer read-fits w ∙ sym (ap (λ (x : Outcome (List ℕ)). fill x buffer) answer)

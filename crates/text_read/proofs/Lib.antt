@@ -1,0 +1,4 @@
+pub mod RunLaws
+pub mod TextLaws
+pub mod PartLaws
+pub mod FileLaws

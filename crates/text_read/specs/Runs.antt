@@ -1,0 +1,49 @@
+-- The line blocks of a text file, run by run, from the rows of its line table. Assumes nothing.
+use mathlib.Core.Path.{_≡_}
+use mathlib.Core.List.{List, [], _∷_, _++_, map}
+use mathlib.Core.Option.{Option, none, some}
+use Prim.Native.Nat.{ℕ, _+_, _≤_, _<_}
+use lib.ListN.{length}
+use lib.Dec.{eqb}
+use Rattle.format.specs.Basics.{if_then_else_, isEmpty}
+use Rattle.format.specs.ObjectFile.{LineBlock}
+use Rattle.format.specs.Records.{lineBlock}
+use Rattle.format.specs.Words.{word, memoryWord, numberWords, recordWords}
+use Rattle.text_tables.specs.Debug.{lineView}
+use Rattle.text_debug.specs.DebugGroup.{addressIn}
+use Rattle.text_words.specs.Room.{roomFor}
+use Rattle.text_read.specs.declared.Run.{Run}
+use Rattle.text_read.specs.declared.Run.the-variants as run
+
+-- the addresses of the rows from a place on
+abbrev pub addressesFrom : List ℕ → ℕ → List (Option ℕ)
+addressesFrom t at = map addressIn (lineView t at .0)
+
+-- n rows with an address, one without, and the place after it
+pub record RunEnds (t : List ℕ) (at n next : ℕ) : Type 0 where
+  pub run : List ℕ
+  pub count : length run ≡ n
+  pub on : at + n < next
+  pub inside : next ≤ length t
+  pub same : addressesFrom t at ≡ map some run ++ none ∷ addressesFrom t next
+
+-- "a run reaching the last row is dropped"
+abbrev pub NextRun : List ℕ → ℕ → Run → Type 0
+NextRun t at (run.Ends n next) = RunEnds t at n next
+NextRun t at run.Last = (run : List ℕ) × (addressesFrom t at ≡ map some run)
+
+-- the words of line blocks, each a part
+abbrev pub blockWords : List LineBlock → List (List ℕ)
+blockWords ls = map recordWords (map lineBlock ls)
+
+-- "3 line block: then a number (first line) and its addresses"
+unfoldable pub runWords : ℕ → List (Option ℕ) → List ℕ
+runWords first xs = word 3 0 ∷ numberWords first ++ map memoryWord xs
+
+-- the part that a run makes: none of an empty one
+unfoldable pub runParts : ℕ → List (Option ℕ) → List (List ℕ)
+runParts first xs = if isEmpty xs then [] else runWords first xs ∷ []
+
+-- the room after a run of n rows
+unfoldable pub runRoom : ℕ → ℕ → Option ℕ
+runRoom n room = if eqb n 0 then some room else roomFor (4 + n) room

@@ -1,0 +1,483 @@
+// The text reader: how many words a text file makes, and the words.
+use encode::encode_scalar;
+use text_labels::labels_room;
+use text_labels::put_labels;
+use text_lines::Line;
+use text_scan::scan_text;
+use text_source::Source;
+use text_source::Token;
+use text_source::next_token;
+use text_tables::LineRow;
+use text_tables::next_source_line;
+use text_tables::parse_line_row;
+use text_words::Room;
+use text_words::put_rows;
+use text_words::rows_room;
+use trim::trim;
+use units::Filled;
+use writing::put_number_words;
+use writing::put_word;
+ghost use mathlib.Core.Path.{_≡_};
+ghost use mathlib.Core.Bool.{true, _||_, not};
+ghost use mathlib.Core.List.{[], _∷_, map};
+ghost use mathlib.Core.Option.{some};
+ghost use Prim.Native.Nat.{_^_, _≤_, _<_};
+ghost use lib.ListN.{length, take};
+ghost use lib.Dec.{eqb};
+ghost use Rattle.format.specs.Calls.{readText, fill};
+ghost use Rattle.units.specs.Filled.{filledOf};
+ghost use Rattle.format.specs.Utf8.{isScalar, encodeScalar};
+ghost use Rattle.format.specs.Words.{memoryWord, textWords};
+ghost use Rattle.writing.specs.Written.{Put};
+ghost use Rattle.text_tables.specs.Debug.{lineView};
+ghost use Rattle.text_debug.specs.DebugGroup.{addressIn, lineBlocksIn};
+ghost use Rattle.text_words.specs.Written.{PutEach};
+ghost use Rattle.text_words.specs.Room.{roomOf, roomFor, roomAfter};
+ghost use Rattle.text_read.specs.Runs.{addressesFrom, NextRun, blockWords, runWords, runParts, runRoom};
+ghost use Rattle.text_read.specs.Parts.{joined, lineParts, sourceParts, relocationParts, objectParts};
+ghost use Rattle.text_read.specs.SourceText.{Counted, sourceAt, Unescapes, Ready, Pushes, Flushes};
+
+// A run of rows with an address: how many, and the place after the row without one that ends it; or one that reaches the last row.
+enum Run {
+    Ends(usize, usize),
+    Last,
+}
+
+// The memory word of a row's address.
+fn address_word(l: &[u8]) -> u32
+    ensures { λ r. ⌜ r ≡ memoryWord (addressIn (now (l .entry))) ⌝ }
+{
+    match parse_line_row(l) {
+        LineRow::Known(_, a) => 0x2001_0000 + a as u32,
+        LineRow::Unknown(_) => 0x2000_0000,
+        LineRow::Bad => 0x2000_0000,
+    }
+}
+
+// The run of rows that begins at a place.
+fn next_run(t: &[u8], from: usize) -> Run
+    ensures { λ r. ⌜ NextRun (now (t .entry)) from r ⌝ }
+{
+    let mut at = from;
+    let mut n = 0;
+    loop {
+        let Line::At { start, end, next } = next_source_line(t, at) else {
+            return Run::Last;
+        };
+        if address_word(&t[start..end]) == 0x2000_0000 {
+            return Run::Ends(n, next);
+        }
+        n += 1;
+        at = next;
+    }
+}
+
+// The memory words of the addresses of the next n rows.
+fn put_addresses(out: &mut [u32], t: &[u8], from: usize, n: usize) -> usize
+    requires { ⌜ (n ≤ length (now out)) × (n ≤ length (addressesFrom (now t) from)) ⌝ }
+    ensures { λ r. ⌜ Put (map memoryWord (take n (addressesFrom (now (t .entry)) from))) (now (out .entry)) r (now (out .exit)) ⌝ }
+{
+    let mut i = 0;
+    let mut at = from;
+    while i < n {
+        let Line::At { start, end, next } = next_source_line(t, at) else {
+            return i;
+        };
+        out[i] = address_word(&t[start..end]);
+        i += 1;
+        at = next;
+    }
+    i
+}
+
+// The line block of the next n rows, the first of which is line `first`; none of no rows.
+fn put_run(out: &mut [u32], t: &[u8], from: usize, first: u64, n: usize) -> usize
+    requires { ⌜ n ≤ length (addressesFrom (now t) from) ⌝ }
+    ensures { λ r. ⌜ PutEach (runParts first (take n (addressesFrom (now (t .entry)) from))) (now (out .entry)) r (now (out .exit)) ⌝ }
+{
+    if n == 0 {
+        return 0;
+    }
+    if out.len() < 4 {
+        return 0;
+    }
+    if out.len() - 4 < n {
+        return 0;
+    }
+    let mut at = 0;
+    at += put_word(&mut out[at..], 0x6000_0000);
+    at += put_number_words(&mut out[at..], first);
+    at += put_addresses(&mut out[at..], t, from, n);
+    at
+}
+
+// The line blocks of the rows from a place on.
+fn put_line_blocks(out: &mut [u32], t: &[u8], rows: usize) -> usize
+    ensures { λ r. ⌜ PutEach (blockWords (lineBlocksIn (lineView (now (t .entry)) rows .0))) (now (out .entry)) r (now (out .exit)) ⌝ }
+{
+    let mut at = 0;
+    let mut row = rows;
+    let mut line: u64 = 0;
+    loop {
+        let Run::Ends(n, next) = next_run(t, row) else {
+            return at;
+        };
+        at += put_run(&mut out[at..], t, row, line, n);
+        line += n as u64 + 1;
+        row = next;
+    }
+}
+
+// The room after the line block of a run of n rows.
+fn run_room(n: usize, room: usize) -> Room
+    ensures { λ r. ⌜ roomOf r ≡ runRoom n room ⌝ }
+{
+    if n == 0 {
+        return Room::Left(room);
+    }
+    if room < 4 {
+        return Room::Short;
+    }
+    if room - 4 < n {
+        return Room::Short;
+    }
+    Room::Left(room - 4 - n)
+}
+
+// The room after the line blocks of the rows from a place on.
+fn line_blocks_room(t: &[u8], rows: usize, room: usize) -> Room
+    ensures { λ r. ⌜ roomOf r ≡ roomAfter (blockWords (lineBlocksIn (lineView (now (t .entry)) rows .0))) room ⌝ }
+{
+    let mut left = room;
+    let mut row = rows;
+    loop {
+        let Run::Ends(n, next) = next_run(t, row) else {
+            return Room::Left(left);
+        };
+        let Room::Left(m) = run_room(n, left) else {
+            return Room::Short;
+        };
+        left = m;
+        row = next;
+    }
+}
+
+// A text that is being written: the place of its next word, and the bytes that are held over for it, how many and their value.
+struct Held {
+    at: usize,
+    count: u8,
+    value: u32,
+}
+
+// One more byte of a text.
+fn push(out: &mut [u32], h: Held, b: u8) -> Held
+    requires { ⌜ Ready (b ∷ []) h (now out) ⌝ }
+    ensures { λ r. ⌜ Pushes (b ∷ []) h (now (out .entry)) r (now (out .exit)) ⌝ }
+{
+    let at = h.at;
+    let v = b as u32;
+    if h.count == 0 {
+        return Held {
+            at: at,
+            count: 1,
+            value: v,
+        };
+    }
+    if h.count == 1 {
+        return Held {
+            at: at,
+            count: 2,
+            value: h.value + 256 * v,
+        };
+    }
+    out[at] = 0xE300_0000 + h.value + 65536 * v;
+    Held {
+        at: at + 1,
+        count: 0,
+        value: 0,
+    }
+}
+
+// More bytes of a text.
+fn push_bytes(out: &mut [u32], start: Held, s: &[u8]) -> Held
+    requires { ⌜ Ready (now s) start (now out) ⌝ }
+    ensures { λ r. ⌜ Pushes (now (s .entry)) start (now (out .entry)) r (now (out .exit)) ⌝ }
+{
+    let mut h = start;
+    let mut i = 0;
+    while i < s.len() {
+        h = push(out, h, s[i]);
+        i += 1;
+    }
+    h
+}
+
+// The bytes of a scalar value.
+fn push_scalar(out: &mut [u32], h: Held, v: u32) -> Held
+    requires { ⌜ (isScalar v ≡ true) × Ready (encodeScalar v) h (now out) ⌝ }
+    ensures { λ r. ⌜ Pushes (encodeScalar v) h (now (out .entry)) r (now (out .exit)) ⌝ }
+{
+    let mut bytes = [0u8; 4];
+    let n = encode_scalar(&mut bytes, v);
+    push_bytes(out, h, &bytes[0..n])
+}
+
+// The word of the bytes that are left over at the end: the length of all that is written.
+fn flush(out: &mut [u32], h: Held) -> usize
+    requires { ⌜ Ready [] h (now out) ⌝ }
+    ensures { λ r. ⌜ Flushes h (now (out .entry)) r (now (out .exit)) ⌝ }
+{
+    let at = h.at;
+    if h.count == 0 {
+        return at;
+    }
+    if h.count == 1 {
+        out[at] = 0xE100_0000 + h.value;
+        return at + 1;
+    }
+    out[at] = 0xE200_0000 + h.value;
+    at + 1
+}
+
+// The text of the source, token by token.
+fn put_source_text(out: &mut [u32], t: &[u8], rows: usize) -> usize
+    requires { ⌜ Unescapes (now t) rows × (length (textWords (sourceAt (now t) rows)) ≤ length (now out)) ⌝ }
+    ensures { λ r. ⌜ Put (textWords (sourceAt (now (t .entry)) rows)) (now (out .entry)) r (now (out .exit)) ⌝ }
+{
+    let mut h = Held {
+        at: 0,
+        count: 0,
+        value: 0,
+    };
+    let mut cur = Source {
+        at: 0,
+        end: 0,
+        next: rows,
+    };
+    loop {
+        let token = next_token(t, cur);
+        match token {
+            Token::Plain(b, d) => {
+                h = push(out, h, b);
+                cur = d;
+            }
+            Token::Scalar(v, d) => {
+                h = push_scalar(out, h, v);
+                cur = d;
+            }
+            Token::Bad => {
+                return 0;
+            }
+            Token::Done => {
+                return flush(out, h);
+            }
+        }
+    }
+}
+
+// How many bytes a scalar value has.
+fn scalar_length(v: u32) -> usize
+    ensures { λ r. ⌜ r ≡ length (encodeScalar v) ⌝ }
+{
+    if v < 0x80 {
+        return 1;
+    }
+    if v < 0x800 {
+        return 2;
+    }
+    if v < 0x10000 {
+        return 3;
+    }
+    4
+}
+
+// How many bytes the source has, or more than can be counted.
+enum Count {
+    Bytes(usize),
+    Many,
+}
+
+// How many bytes the source has.
+fn source_length(t: &[u8], rows: usize) -> Count
+    requires { ⌜ Unescapes (now t) rows ⌝ }
+    ensures { λ r. ⌜ Counted (length (sourceAt (now (t .entry)) rows)) r ⌝ }
+{
+    let mut n: usize = 0;
+    let mut cur = Source {
+        at: 0,
+        end: 0,
+        next: rows,
+    };
+    loop {
+        if 0xFFFF_FFFF_FFFF_FFF0 < n {
+            return Count::Many;
+        }
+        let token = next_token(t, cur);
+        match token {
+            Token::Plain(_, d) => {
+                n += 1;
+                cur = d;
+            }
+            Token::Scalar(v, d) => {
+                n += scalar_length(v);
+                cur = d;
+            }
+            Token::Bad => {
+                return Count::Bytes(0);
+            }
+            Token::Done => {
+                return Count::Bytes(n);
+            }
+        }
+    }
+}
+
+// The room after n words.
+fn take_room(room: usize, n: usize) -> Room
+    ensures { λ r. ⌜ roomOf r ≡ roomFor n room ⌝ }
+{
+    if room < n {
+        return Room::Short;
+    }
+    Room::Left(room - n)
+}
+
+// The room, less than 2^62 words, after the source; a buffer of words is never longer.
+fn source_room(t: &[u8], sourced: bool, rows: usize, room: usize) -> Room
+    requires { ⌜ (sourced ≡ true → Unescapes (now t) rows) × (room < 2 ^ 62) ⌝ }
+    ensures { λ r. ⌜ roomOf r ≡ roomAfter (sourceParts sourced (now (t .entry)) rows) room ⌝ }
+{
+    if !sourced {
+        return Room::Left(room);
+    }
+    match source_length(t, rows) {
+        Count::Many => Room::Short,
+        Count::Bytes(n) => take_room(room, 1 + n / 3 + (n % 3 + 2) / 3),
+    }
+}
+
+// The room after the line blocks, if there are rows of lines.
+fn lines_room(t: &[u8], sourced: bool, rows: usize, room: usize) -> Room
+    ensures { λ r. ⌜ roomOf r ≡ roomAfter (lineParts sourced (now (t .entry)) rows) room ⌝ }
+{
+    if !sourced {
+        return Room::Left(room);
+    }
+    line_blocks_room(t, rows, room)
+}
+
+// The room after the relocations, if they are kept.
+fn relocations_room(u: &[u8], kept: bool, room: usize) -> Room
+    ensures { λ r. ⌜ roomOf r ≡ roomAfter (relocationParts kept (now (u .entry))) room ⌝ }
+{
+    if !kept {
+        return Room::Left(room);
+    }
+    rows_room(u, 2, room)
+}
+
+// The line blocks, if there are rows of lines.
+fn put_lines(out: &mut [u32], t: &[u8], sourced: bool, rows: usize) -> usize
+    ensures { λ r. ⌜ PutEach (lineParts sourced (now (t .entry)) rows) (now (out .entry)) r (now (out .exit)) ⌝ }
+{
+    if !sourced {
+        return 0;
+    }
+    put_line_blocks(out, t, rows)
+}
+
+// The source, if there is one.
+fn put_source(out: &mut [u32], t: &[u8], sourced: bool, rows: usize) -> usize
+    requires { ⌜ (sourced ≡ true → Unescapes (now t) rows) × (length (joined (sourceParts sourced (now t) rows)) ≤ length (now out)) ⌝ }
+    ensures { λ r. ⌜ Put (joined (sourceParts sourced (now (t .entry)) rows)) (now (out .entry)) r (now (out .exit)) ⌝ }
+{
+    if !sourced {
+        return 0;
+    }
+    let mut at = 0;
+    at += put_word(&mut out[at..], 0x8000_0000);
+    at += put_source_text(&mut out[at..], t, rows);
+    at
+}
+
+// The relocations, if they are kept.
+fn put_relocations(out: &mut [u32], u: &[u8], kept: bool) -> usize
+    ensures { λ r. ⌜ PutEach (relocationParts kept (now (u .entry))) (now (out .entry)) r (now (out .exit)) ⌝ }
+{
+    if !kept {
+        return 0;
+    }
+    put_rows(out, u, 2)
+}
+
+// "No label and no source: relocations are dropped", by how many words the labels have.
+fn keeps_relocations(sourced: bool, labels: usize) -> bool
+    ensures { λ r. ⌜ r ≡ (sourced || not (eqb labels 0)) ⌝ }
+{
+    if sourced {
+        return true;
+    }
+    labels != 0
+}
+
+// The room, less than 2^62 words, after the five parts.
+fn object_room(u: &[u8], t: &[u8], sourced: bool, rows: usize, room: usize) -> Room
+    requires { ⌜ (sourced ≡ true → Unescapes (now t) rows) × (room < 2 ^ 62) ⌝ }
+    ensures { λ r. ⌜ roomOf r ≡ roomAfter (objectParts (now (u .entry)) (now (t .entry)) sourced rows) room ⌝ }
+{
+    let Room::Left(a) = rows_room(u, 0, room) else {
+        return Room::Short;
+    };
+    let Room::Left(b) = labels_room(u, a) else {
+        return Room::Short;
+    };
+    let Room::Left(c) = lines_room(t, sourced, rows, b) else {
+        return Room::Short;
+    };
+    let Room::Left(d) = source_room(t, sourced, rows, c) else {
+        return Room::Short;
+    };
+    relocations_room(u, keeps_relocations(sourced, a - b), d)
+}
+
+// The five parts, one after the other.
+fn put_object(out: &mut [u32], u: &[u8], t: &[u8], sourced: bool, rows: usize) -> usize
+    requires { ⌜ (sourced ≡ true → Unescapes (now t) rows)
+        × (length (joined (objectParts (now u) (now t) sourced rows)) ≤ length (now out)) ⌝ }
+    ensures { λ r. ⌜ Put (joined (objectParts (now (u .entry)) (now (t .entry)) sourced rows)) (now (out .entry)) r (now (out .exit)) ⌝ }
+{
+    let mut at = 0;
+    at += put_rows(&mut out[at..], u, 0);
+    let n = put_labels(&mut out[at..], u);
+    at += n;
+    at += put_lines(&mut out[at..], t, sourced, rows);
+    at += put_source(&mut out[at..], t, sourced, rows);
+    let kept = keeps_relocations(sourced, n);
+    at += put_relocations(&mut out[at..], u, kept);
+    at
+}
+
+// The words of a text file, or the number of the first question that is answered no, 20 to 31; 3 where the buffer is too short.
+pub fn read_text(s: &[u8], out: &mut [u32]) -> Filled
+    ensures { λ r. ⌜ filledOf r (now (out .exit)) ≡ fill (readText (now (s .entry))) (now (out .entry)) ⌝ }
+{
+    let scanned = scan_text(s);
+    if scanned.number != 0 {
+        return Filled::refused(scanned.number);
+    }
+    let w = trim(s, 0, s.len());
+    let from = w.start;
+    let to = w.end;
+    let end = scanned.end;
+    let Room::Left(_) = object_room(
+        &s[from..to],
+        &s[0..end],
+        scanned.sourced,
+        scanned.rows,
+        out.len(),
+    ) else {
+        return Filled::refused(3);
+    };
+    let n = put_object(out, &s[from..to], &s[0..end], scanned.sourced, scanned.rows);
+    Filled::given(n)
+}
