@@ -4,7 +4,7 @@
 set -eu
 here=$(cd "$(dirname "$0")" && pwd)
 "$here/build.sh"
-for list in queries binary; do
+for list in queries binary text; do
     "$here/target/release/differential" vectors $list > "$here/vectors-$list.txt"
 done
 wc -l "$here"/vectors-*.txt

@@ -10,7 +10,6 @@ use std::collections::{BTreeMap, BTreeSet};
 
 use crate::gen;
 use crate::numbers::query::{Query, Values};
-use crate::numbers::Excluded;
 use crate::object::encode;
 use crate::parts::{Label, Parts};
 use crate::prng::Prng;
@@ -69,11 +68,10 @@ impl Kept {
         }
     }
 
-    /// A call that fills a buffer, where it is in the runs.
+    /// A call that fills a buffer, where it is in the runs, or refused: a number is document 01's, also where the crate isn't asked.
     fn fills<T, U>(&mut self, r: &mut Prng, call: char, (input, show): (&[T], fn(&[T]) -> String), a: &Answer<Vec<U>>, out: fn(&[U]) -> String) {
         held(a);
-        let unasked = matches!(a.excluded, Some(Excluded::IllFormed | Excluded::NotUtf8));
-        if a.excluded.is_none() || unasked {
+        if a.excluded.is_none() || a.number != 0 {
             let filled = a.value.as_deref().map(out).unwrap_or_default();
             self.offer(r, call, a.number, show(input), format!("{:02X} {filled}", a.number));
         }

@@ -10,7 +10,7 @@ fn is_right(text: &[u8]) -> bool {
     let call = line::byte_at(text, 0);
     let end = line::field_end(text, 2);
     match call {
-        b'B' | b'b' => files::agrees(text, call, end),
+        b'B' | b'b' | b'T' | b't' => files::agrees(text, call, end),
         _ => queries::agrees(text, call, end),
     }
 }

@@ -3,12 +3,14 @@ use mathlib.Core.Path.{_≡_}
 use mathlib.Core.List.{List, [], _∷_, map}
 use Prim.Native.Nat.{ℕ, min}
 use lib.ListN.{length}
-use Rattle.format.specs.Trips.{Form, binary, Trip, LogEntry}
+use lib.Dec.{eqb}
+use Rattle.format.specs.Basics.{if_then_else_}
+use Rattle.format.specs.Trips.{Form, binary, text, Trip, LogEntry}
 use Rattle.round_trips.specs.Steps.{StepsMade}
 
--- a form by its number in a row; there is one whose calls are here
+-- a form by its number in a row: 1 is text
 abbrev pub formOf : ℕ → Form
-formOf n = binary
+formOf n = if eqb n 1 then text else binary
 
 -- the form of a trip, and how many bytes and words it is lent
 pub record TripRow : Type 0 where

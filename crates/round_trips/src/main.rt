@@ -6,11 +6,12 @@ ghost use mathlib.Core.Path.{_≡_};
 ghost use mathlib.Core.List.{[], _∷_};
 ghost use Prim.Native.Nat.{_≤_, min};
 ghost use lib.ListN.{length, take};
-ghost use Rattle.format.specs.Trips.{binary};
+ghost use Rattle.format.specs.Trips.{binary, text};
 ghost use Rattle.io.specs.Counts.{Counts};
 ghost use Rattle.round_trips.specs.Steps.{Step};
 ghost use Rattle.round_trips.specs.Rows.{formOf, row, rows, Ran};
 use binary_format::BinaryFormat;
+use text_format::TextFormat;
 
 // The trip's number; and how many words were filled, 0 where it was refused.
 struct Made {
@@ -39,10 +40,33 @@ fn binary_trip(object: &[u32], bytes: &mut [u8], words: &mut [u32]) -> Made
     }
 }
 
-// The form of a trip in a list.
+// A text trip: the same in the text form.
+fn text_trip(object: &[u32], bytes: &mut [u8], words: &mut [u32]) -> Made
+    ensures { λ r. ⌜ Step text (now (object .entry)) (now (bytes .entry)) (now (words .entry)) r (now (words .exit)) ⌝ }
+    ensures { λ r. ⌜ Counts (r .len) (now (words .exit)) ⌝ }
+{
+    let format = TextFormat::new();
+    let written = format.serialize(object, bytes);
+    if written.number != 0 {
+        return Made {
+            number: written.number,
+            len: 0,
+        };
+    }
+    let filled = written.len;
+    let read = format.deserialize(&bytes[..filled], words);
+    Made {
+        number: read.number,
+        len: read.len,
+    }
+}
+
+// The forms of trips in a list.
 const BINARY: u16 = 0;
 
-// Document 01's 18 words; 77 bytes in binary.
+const TEXT: u16 = 1;
+
+// Document 01's 18 words; 77 bytes in binary, 297 in text.
 const PAPER: [u32; 18] = [
     0x00003000,
     0x20011234,
@@ -64,7 +88,8 @@ const PAPER: [u32; 18] = [
     0xE1000041,
 ];
 
-// A block, a source, and two relocations whose order byte-swapping changes: 8 words; 51 bytes in binary.
+// A block, a source, and two relocations whose order byte-swapping changes: 8 words; 51 bytes in
+// binary, 206 in text.
 const TURNED: [u32; 8] = [
     0x00004000,
     0x2001F025,
@@ -81,6 +106,10 @@ fn trip(form: u16, object: &[u32], bytes: &mut [u8], words: &mut [u32]) -> Made
     ensures { λ r. ⌜ Step (formOf form) (now (object .entry)) (now (bytes .entry)) (now (words .entry)) r (now (words .exit)) ⌝ }
     ensures { λ r. ⌜ Counts (r .len) (now (words .exit)) ⌝ }
 {
+    if form == TEXT {
+        io::write_all(1, b"text ");
+        return text_trip(object, bytes, words);
+    }
     io::write_all(1, b"binary ");
     binary_trip(object, bytes, words)
 }
@@ -164,31 +193,30 @@ fn show(object: &[u32], list: &[u16])
     print::words(&stands[..m]);
 }
 
-fn main() {
+// Lists from document 01's words: an even number of completed binary trips, and an odd one, with text trips and refused ones among them.
+fn show_paper() {
     let paper = PAPER;
-    let turned = TURNED;
-    let refused = [BINARY, 76, 64, BINARY, 77, 17, BINARY, 0, 0];
+    let refused = [BINARY, 76, 64, BINARY, 77, 17, TEXT, 296, 64, TEXT, 297, 17, TEXT, 0, 0];
     show(&paper, &refused[..0]);
     show(&paper, &refused);
-    let odd = [
-        BINARY,
-        76,
-        18,
-        BINARY,
-        77,
-        18,
-        BINARY,
-        77,
-        17,
-        BINARY,
-        1024,
-        0,
-    ];
+    let odd = [TEXT, 297, 18, BINARY, 77, 18, TEXT, 1024, 64, BINARY, 77, 17, TEXT, 297, 0];
     show(&paper, &odd);
-    let even = [BINARY, 1024, 64, BINARY, 77, 17, BINARY, 77, 18];
+    let even = [BINARY, 1024, 64, TEXT, 296, 18, TEXT, 297, 18, BINARY, 77, 18];
     show(&paper, &even);
-    let odd = [BINARY, 50, 64, BINARY, 51, 8, BINARY, 51, 7];
+    let text = [TEXT, 1024, 18, TEXT, 297, 64];
+    show(&paper, &text);
+}
+
+// Lists from an object whose relocations change places.
+fn show_turned() {
+    let turned = TURNED;
+    let odd = [BINARY, 50, 64, BINARY, 51, 8, TEXT, 206, 8, BINARY, 51, 7];
     show(&turned, &odd);
-    let even = [BINARY, 51, 64, BINARY, 1024, 7, BINARY, 1024, 8];
+    let even = [BINARY, 51, 64, TEXT, 205, 8, TEXT, 206, 7, TEXT, 1024, 64, BINARY, 1024, 8];
     show(&turned, &even);
+}
+
+fn main() {
+    show_paper();
+    show_turned();
 }

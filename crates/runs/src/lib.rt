@@ -1,10 +1,11 @@
 // Exports for the differential runs: test-only, never linked by the host, so it may go beyond byte slices and numbers. Each is one call.
 ghost use mathlib.Core.Path.{_≡_};
 ghost use Rattle.format.specs.Calls.{checked, queryCountLines, queryRawLineSpan, queryLineSpan, queryPosPair, queryGet, queryFind};
-ghost use Rattle.format.specs.Calls.{fairAnswer, measured, readBinary, ReadsBinary, WritesBinary};
+ghost use Rattle.format.specs.Calls.{fairAnswer, measured, readBinary, ReadsBinary, WritesBinary, readText, ReadsText, WritesText};
 ghost use Rattle.format.specs.Words.{objectOf};
 ghost use Rattle.runs.specs.Answers.{valueOf, spanOf, positionOf, fairOf, measuredOf, filledOf};
 use binary_format::BinaryFormat;
+use text_format::TextFormat;
 use units::Address;
 use units::ByteIndex;
 use units::Line;
@@ -185,6 +186,42 @@ pub extern "C" fn runs_binary_write(object: &[u32], out: &mut [u8]) -> Filled
     ensures { λ r. ⌜ WritesBinary (now (object .entry)) (now (out .entry)) (filledOf r (now (out .exit))) ⌝ }
 {
     let r = BinaryFormat::new().serialize(object, out);
+    Filled {
+        number: r.number,
+        len: r.len,
+    }
+}
+
+// Does this read as text? Number, and length in words.
+#[no_mangle]
+pub extern "C" fn runs_text_length(bytes: &[u8]) -> Measured
+    ensures { λ r. ⌜ measuredOf r ≡ measured (readText (now (bytes .entry))) ⌝ }
+{
+    let r = TextFormat::new().length(bytes);
+    Measured {
+        number: r.number,
+        len: r.len,
+    }
+}
+
+// Text read.
+#[no_mangle]
+pub extern "C" fn runs_text_read(bytes: &[u8], out: &mut [u32]) -> Filled
+    ensures { λ r. ⌜ ReadsText (now (bytes .entry)) (now (out .entry)) (filledOf r (now (out .exit))) ⌝ }
+{
+    let r = TextFormat::new().deserialize(bytes, out);
+    Filled {
+        number: r.number,
+        len: r.len,
+    }
+}
+
+// Text write.
+#[no_mangle]
+pub extern "C" fn runs_text_write(object: &[u32], out: &mut [u8]) -> Filled
+    ensures { λ r. ⌜ WritesText (now (object .entry)) (now (out .entry)) (filledOf r (now (out .exit))) ⌝ }
+{
+    let r = TextFormat::new().serialize(object, out);
     Filled {
         number: r.number,
         len: r.len,

@@ -10,17 +10,14 @@ refused-requires c κs = search needs
 returns : tie.Need-returns
 returns c = search needs
 
-new-requires : tie.Need-new-requires
-new-requires c κs = search needs
+slice-relend-prefix-read : tie.Need-slice-relend-prefix-read
+slice-relend-prefix-read c = search needs
 
-slice-relend-prefix-deserialize : tie.Need-slice-relend-prefix-deserialize
-slice-relend-prefix-deserialize c = search needs
+slice-aggregate-read : tie.Need-slice-aggregate-read
+slice-aggregate-read c = sym (length-take-le _ _ (c .before .before .if1 .left))
 
-slice-aggregate-deserialize : tie.Need-slice-aggregate-deserialize
-slice-aggregate-deserialize c = sym (length-take-le _ _ (c .before .before .if1 .left))
-
-deserialize-requires : tie.Need-deserialize-requires
-deserialize-requires c κs = search needs
+read-requires : tie.Need-read-requires
+read-requires c κs = search needs
 
 same-length : tie.Need-same-length
 same-length c = search needs
@@ -34,9 +31,8 @@ read-front-spec =
     (tie.spec
     refused-requires
     returns
-    new-requires
-    slice-relend-prefix-deserialize
-    slice-aggregate-deserialize
-    deserialize-requires
+    slice-relend-prefix-read
+    slice-aggregate-read
+    read-requires
     same-length
     returns-2)

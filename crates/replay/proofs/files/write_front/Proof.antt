@@ -10,17 +10,14 @@ refused-requires c κs = search needs
 returns : tie.Need-returns
 returns c = search needs
 
-new-requires : tie.Need-new-requires
-new-requires c κs = search needs
+slice-relend-prefix-write : tie.Need-slice-relend-prefix-write
+slice-relend-prefix-write c = search needs
 
-slice-relend-prefix-serialize : tie.Need-slice-relend-prefix-serialize
-slice-relend-prefix-serialize c = search needs
+slice-aggregate-write : tie.Need-slice-aggregate-write
+slice-aggregate-write c = sym (length-take-le _ _ (c .before .before .if1 .left))
 
-slice-aggregate-serialize : tie.Need-slice-aggregate-serialize
-slice-aggregate-serialize c = sym (length-take-le _ _ (c .before .before .if1 .left))
-
-serialize-requires : tie.Need-serialize-requires
-serialize-requires c κs = search needs
+write-requires : tie.Need-write-requires
+write-requires c κs = search needs
 
 same-length : tie.Need-same-length
 same-length c = search needs
@@ -34,9 +31,8 @@ write-front-spec =
     (tie.spec
     refused-requires
     returns
-    new-requires
-    slice-relend-prefix-serialize
-    slice-aggregate-serialize
-    serialize-requires
+    slice-relend-prefix-write
+    slice-aggregate-write
+    write-requires
     same-length
     returns-2)
