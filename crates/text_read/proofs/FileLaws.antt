@@ -78,10 +78,12 @@ module _ (s t : List ℕ) (r : Scanned) (h : ObjectFile) (e : textObject s ≡ g
   labels-are = gives (PartsOf u) (textObject s) h (text-parts s) e .labels
 
   lines-words : flatMap recordWords (map lineBlock (h .lineBlocks)) ≡ joined (lineParts (r .sourced) t (r .rows))
-  lines-words = records-joined (map lineBlock (h .lineBlocks)) ∙ ap (λ (xs : List LineBlock). joined (map recordWords (map lineBlock xs))) lines-are
+  lines-words =
+      records-joined (map lineBlock (h .lineBlocks)) ∙ ap (λ (xs : List LineBlock). joined (map recordWords (map lineBlock xs))) lines-are
 
   source-words : flatMap recordWords (sourceRecords (h .source)) ≡ joined (sourceParts (r .sourced) t (r .rows))
-  source-words = records-joined (sourceRecords (h .source)) ∙ ap (λ (o : Option (List ℕ)). joined (map recordWords (sourceRecords o))) source-is
+  source-words =
+      records-joined (sourceRecords (h .source)) ∙ ap (λ (o : Option (List ℕ)). joined (map recordWords (sourceRecords o))) source-is
 
   relocation-words : flatMap recordWords (map relocation (h .relocations)) ≡ joined (from4 u t (r .sourced) (r .rows))
   relocation-words =
@@ -95,7 +97,8 @@ module _ (s t : List ℕ) (r : Scanned) (h : ObjectFile) (e : textObject s ≡ g
   unfolding wordsOf recordsOf
   file-words =
       ap (flatMap recordWords)
-      (regroup (map block (h .blocks)) (map label (h .labels)) (map lineBlock (h .lineBlocks)) (sourceRecords (h .source)) (map relocation (h .relocations)))
+      (regroup (map block (h .blocks)) (map label (h .labels)) (map lineBlock (h .lineBlocks)) (sourceRecords (h .source))
+      (map relocation (h .relocations)))
       ∙ flatMap-append recordWords (map block (h .blocks)) _
       ∙ ap₂ (λ (a b : List ℕ). a ++ b) (text-words s h e .blocks)
       (flatMap-append recordWords (map label (h .labels)) _
@@ -126,11 +129,13 @@ pub read-refused : (s t : List ℕ) (r : Scanned) (buffer : List ℕ) → Scans 
 unfolding readText fill
 read-refused s t r buffer q z = go (textObject s) q
   where
-    go : (o : Outcome ObjectFile) → Scans t o r → record { number = r .number; len = 0; buffer = buffer } ≡ fill (o >>= λ h. given (wordsOf h)) buffer
+    go : (o : Outcome ObjectFile) → Scans t o r
+        → record { number = r .number; len = 0; buffer = buffer } ≡ fill (o >>= λ h. given (wordsOf h)) buffer
     go (refused n) q = ap (λ (x : Scanned). record { number = x .number; len = 0; buffer = buffer }) (q .0)
     go (given h) q = absurd (z (q .yes))
 
-pub read-given : (s t : List ℕ) (r : Scanned) → Scans t (textObject s) r → r .number ≡ 0 → (h : ObjectFile) × (textObject s ≡ given h) × Read t r h
+pub read-given : (s t : List ℕ) (r : Scanned) → Scans t (textObject s) r → r .number ≡ 0
+    → (h : ObjectFile) × (textObject s ≡ given h) × Read t r h
 read-given s t r q z = go (textObject s) refl q
   where
     go : (o : Outcome ObjectFile) → textObject s ≡ o → Scans t o r → (h : ObjectFile) × (textObject s ≡ given h) × Read t r h

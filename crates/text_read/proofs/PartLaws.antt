@@ -25,7 +25,8 @@ use Rattle.text_words.proofs.RoomLaws.{room-one, rooms-short, rooms-on, room-is
 use Rattle.text_words.proofs.PutLaws.{put-fits}
 use Rattle.text_read.specs.Runs.{blockWords}
 use Rattle.text_read.specs.SourceText.{sourceAt}
-use Rattle.text_read.specs.Parts.{joined, rowParts, labelParts, lineParts, sourceParts, relocationParts, keepsRelocations, objectParts}
+use Rattle.text_read.specs.Parts.{joined, rowParts, labelParts, lineParts, sourceParts, relocationParts}
+use Rattle.text_read.specs.Parts.{keepsRelocations, objectParts}
 
 module _ (sourced : Bool) (t : List ℕ) (rows : ℕ) where
   pub lines-none : sourced ≡ false → lineParts sourced t rows ≡ []
@@ -64,9 +65,11 @@ module _ (ps : List (List ℕ)) (room : List ℕ) (e : ps ≡ []) where
 
   pub none-put : Put (joined ps) room 0 room
   unfolding flatMap
-  none-put = put-fits ps room 0 room (let z : length (joined ps) ≡ 0 = ap (λ (x : List (List ℕ)). length (joined x)) e in omega arith) none-each
+  none-put =
+      put-fits ps room 0 room (let z : length (joined ps) ≡ 0 = ap (λ (x : List (List ℕ)). length (joined x)) e in omega arith) none-each
 
-pub same-each : (ps qs : List (List ℕ)) (room : List ℕ) (r : ℕ) (after : List ℕ) → PutEach ps room r after → ps ≡ qs → PutEach qs room r after
+pub same-each : (ps qs : List (List ℕ)) (room : List ℕ) (r : ℕ) (after : List ℕ) → PutEach ps room r after → ps ≡ qs
+    → PutEach qs room r after
 same-each ps qs room r after w e = w ∙ ap (λ (x : List (List ℕ)). putEach x 0 room) e
 
 pub same-room : (ps qs : List (List ℕ)) (room : ℕ) (o : Option ℕ) → o ≡ roomAfter ps room → ps ≡ qs → o ≡ roomAfter qs room
@@ -82,7 +85,9 @@ module _ (sourced : Bool) (t : List ℕ) (rows : ℕ) (e : sourced ≡ true) (ro
   source-counted n q o w =
       let m : ℕ = length (sourceAt t rows) in
       let z : 1 + (n + 2) / 3 ≡ suc ((m + 2) / 3) = omega (arith, q) in
-      same-room _ _ room o (room-one (0x8000_0000 ∷ textWords (sourceAt t rows)) room o (w ∙ ap (λ (k : ℕ). roomFor k room) (z ∙ sym size))) (sym (source-some sourced t rows e))
+      same-room _ _ room o
+      (room-one (0x8000_0000 ∷ textWords (sourceAt t rows)) room o (w ∙ ap (λ (k : ℕ). roomFor k room) (z ∙ sym size)))
+      (sym (source-some sourced t rows e))
 
 -- RELOCATIONS are kept where there are words of labels, or a source
 labels-words : (ls : List Label) → isEmpty ls ≡ eqb (length (joined (map recordWords (map label ls)))) 0
@@ -90,7 +95,8 @@ unfolding isEmpty flatMap recordWords
 labels-words [] = refl
 labels-words (l ∷ ls) = sym (ne-eqb (length (joined (map recordWords (map label (l ∷ ls))))) 0 (λ z. omega (arith, z)))
 
-pub keeps-is : (sourced : Bool) (u : List ℕ) (n : ℕ) → n ≡ length (joined (labelParts u)) → (sourced || not (eqb n 0)) ≡ keepsRelocations sourced u
+pub keeps-is : (sourced : Bool) (u : List ℕ) (n : ℕ) → n ≡ length (joined (labelParts u))
+    → (sourced || not (eqb n 0)) ≡ keepsRelocations sourced u
 unfolding keepsRelocations
 keeps-is true u n e = sym (ap not (and-false (isEmpty (labelsOf u))))
   where

@@ -73,11 +73,13 @@ returns-5 c =
     let d = c .before .before .before in
     let x = to-c d in
     let b = to-b x in
-    on3 _ _ _ _ _ _ (left0 (to-a b)) _ (left1 b) _ (left2 x) _ (left3 d) _ (c .before .keeps-relocations .ensures) _ (c .relocations-room .ensures)
+    on3 _ _ _ _ _ _ (left0 (to-a b)) _ (left1 b) _ (left2 x) _ (left3 d) _ (c .before .keeps-relocations .ensures) _
+    (c .relocations-room .ensures)
 
 pub object-room-spec : {M : Type 1} → statement M
 object-room-spec =
     tie.close
-    (tie.spec (λ c κs. search needs) (λ c. search needs) (λ c. search needs) returns (λ c κs. search needs) (λ c. search needs) (λ c. search needs) returns-2
-    (λ c κs. search needs) (λ c. search needs) (λ c. search needs) returns-3 source-room-requires (λ c. search needs) (λ c. search needs) returns-4
+    (tie.spec (λ c κs. search needs) (λ c. search needs) (λ c. search needs) returns (λ c κs. search needs) (λ c. search needs)
+    (λ c. search needs) returns-2 (λ c κs. search needs) (λ c. search needs) (λ c. search needs) returns-3 source-room-requires
+    (λ c. search needs) (λ c. search needs) returns-4
     sub-keeps-relocations (λ c κs. search needs) (λ c κs. search needs) returns-5)

@@ -68,7 +68,8 @@ returns-2 c =
     let o = d .before .before in
     let w = o .before .before .before in
     ap (λ x. filledOf x (room w)) (c .refused2 .ensures)
-    ∙ read-short (bytes w) _ _ (room w) (scan w .scan-text .ensures) (w .before .if1 .left) (sym (ap roomOf (d .enum-told2 .given .1)) ∙ fits o)
+    ∙ read-short (bytes w) _ _ (room w) (scan w .scan-text .ensures) (w .before .if1 .left)
+    (sym (ap roomOf (d .enum-told2 .given .1)) ∙ fits o)
 
 put-object-requires : tie.Need-put-object-requires
 put-object-requires c κs =
@@ -77,7 +78,8 @@ put-object-requires c κs =
     let w = o .before .before .before in (
       λ q. countable w q .0,
       subst (λ (ps : List (List ℕ)). length (joined ps) ≤ length (room w)) (sym (parts-are w))
-          (read-fits (bytes w) _ _ (room w) (scan w .scan-text .ensures) (w .before .if1 .left) _ (sym (ap roomOf (d .enum-told .given .1)) ∙ fits o)),
+          (read-fits (bytes w) _ _ (room w) (scan w .scan-text .ensures) (w .before .if1 .left) _
+          (sym (ap roomOf (d .enum-told .given .1)) ∙ fits o)),
     )
 
 returns-3 : tie.Need-returns-3
@@ -87,8 +89,10 @@ returns-3 c =
     let o = d .before .before in
     let w = o .before .before .before in
     ap (λ x. filledOf x (p .put-object .last .0)) (c .given .ensures)
-    ∙ read-put (bytes w) _ _ (room w) (scan w .scan-text .ensures) (w .before .if1 .left) _ (sym (ap roomOf (d .enum-told .given .1)) ∙ fits o)
-    _ _ (subst (λ (ps : List (List ℕ)). Put (joined ps) (room w) (p .put-object .result) (p .put-object .last .0)) (parts-are w) (p .put-object .ensures))
+    ∙ read-put (bytes w) _ _ (room w) (scan w .scan-text .ensures) (w .before .if1 .left) _
+    (sym (ap roomOf (d .enum-told .given .1)) ∙ fits o) _ _
+    (subst (λ (ps : List (List ℕ)). Put (joined ps) (room w) (p .put-object .result) (p .put-object .last .0)) (parts-are w)
+    (p .put-object .ensures))
 
 object-room-requires : tie.Need-object-room-requires
 object-room-requires c κs = countable (c .before .before)
@@ -96,7 +100,8 @@ object-room-requires c κs = countable (c .before .before)
 pub read-text-spec : {M : Type 1} → statement M
 read-text-spec =
     tie.close
-    (tie.spec (λ c κs. search needs) (λ c κs. search needs) returns (λ c κs. search needs) (λ c. search needs) (λ c. search needs) (λ c. search needs)
-    (λ c. search needs) (λ c. search needs) (λ c. omega (arith, inside (c .before))) object-room-requires (λ c. search needs) (λ c. search needs)
-    (λ c κs. search needs) returns-2 (λ c. search needs) (λ c. search needs) (λ c. search needs) (λ c. search needs) (λ c. search needs)
-    (λ c. omega (arith, inside (c .before .before .before .before .before .before .before))) put-object-requires (λ c κs. search needs) (λ c. search needs) returns-3)
+    (tie.spec (λ c κs. search needs) (λ c κs. search needs) returns (λ c κs. search needs) (λ c. search needs) (λ c. search needs)
+    (λ c. search needs) (λ c. search needs) (λ c. search needs) (λ c. omega (arith, inside (c .before))) object-room-requires
+    (λ c. search needs) (λ c. search needs) (λ c κs. search needs) returns-2 (λ c. search needs) (λ c. search needs) (λ c. search needs)
+    (λ c. search needs) (λ c. search needs) (λ c. omega (arith, inside (c .before .before .before .before .before .before .before)))
+    put-object-requires (λ c κs. search needs) (λ c. search needs) returns-3)
