@@ -128,16 +128,21 @@ fn write_front(text: bool, object: &[u32], out: &mut [u8], room: usize) -> Fille
     write(text, object, &mut out[..room])
 }
 
-// Is the file wanted at the front, or in binary one of the same records?
-fn file_at_front(text: bool, want: &[u8], out: &[u8]) -> bool {
+// Is the binary file wanted at the front, or one of the same records?
+fn file_at_front(want: &[u8], out: &[u8]) -> bool {
     let n = want.len();
     if out.len() < n {
         return false;
     }
+    bytes_at_front(want, out) || same_records(&out[..n], want)
+}
+
+// The file wanted: a text file byte for byte.
+fn is_written(text: bool, want: &[u8], out: &[u8]) -> bool {
     if text {
         return bytes_at_front(want, out);
     }
-    bytes_at_front(want, out) || same_records(&out[..n], want)
+    file_at_front(want, out)
 }
 
 // A write with so much room.
@@ -147,7 +152,9 @@ fn writes(text: bool, object: &[u32], room: usize, number: u8, want: &[u8]) -> b
     if room < want.len() {
         return told(r, number, want.len(), room) && fresh_bytes(&out, 0);
     }
-    told(r, number, want.len(), room) && fresh_bytes(&out, want.len()) && file_at_front(text, want, &out)
+    told(r, number, want.len(), room)
+        && fresh_bytes(&out, want.len())
+        && is_written(text, want, &out)
 }
 
 // One less, or none of none.
@@ -185,7 +192,13 @@ fn write_agrees(text: bool, l: &[u8], end: usize) -> bool {
     writes(text, object, 0, number, want)
         && writes(text, object, one_less(k), number, want)
         && writes(text, object, k, number, want)
-        && writes(text, object, std::num::wrapping_add_usize(k, 9), number, want)
+        && writes(
+            text,
+            object,
+            std::num::wrapping_add_usize(k, 9),
+            number,
+            want,
+        )
 }
 
 // Does the call's answer agree with the line?

@@ -196,12 +196,57 @@ fn show(object: &[u32], list: &[u16])
 // Lists from document 01's words: an even number of completed binary trips, and an odd one, with text trips and refused ones among them.
 fn show_paper() {
     let paper = PAPER;
-    let refused = [BINARY, 76, 64, BINARY, 77, 17, TEXT, 296, 64, TEXT, 297, 17, TEXT, 0, 0];
+    let refused = [
+        BINARY,
+        76,
+        64,
+        BINARY,
+        77,
+        17,
+        TEXT,
+        296,
+        64,
+        TEXT,
+        297,
+        17,
+        TEXT,
+        0,
+        0,
+    ];
     show(&paper, &refused[..0]);
     show(&paper, &refused);
-    let odd = [TEXT, 297, 18, BINARY, 77, 18, TEXT, 1024, 64, BINARY, 77, 17, TEXT, 297, 0];
+    let odd = [
+        TEXT,
+        297,
+        18,
+        BINARY,
+        77,
+        18,
+        TEXT,
+        1024,
+        64,
+        BINARY,
+        77,
+        17,
+        TEXT,
+        297,
+        0,
+    ];
     show(&paper, &odd);
-    let even = [BINARY, 1024, 64, TEXT, 296, 18, TEXT, 297, 18, BINARY, 77, 18];
+    let even = [
+        BINARY,
+        1024,
+        64,
+        TEXT,
+        296,
+        18,
+        TEXT,
+        297,
+        18,
+        BINARY,
+        77,
+        18,
+    ];
     show(&paper, &even);
     let text = [TEXT, 1024, 18, TEXT, 297, 64];
     show(&paper, &text);
@@ -212,7 +257,23 @@ fn show_turned() {
     let turned = TURNED;
     let odd = [BINARY, 50, 64, BINARY, 51, 8, TEXT, 206, 8, BINARY, 51, 7];
     show(&turned, &odd);
-    let even = [BINARY, 51, 64, TEXT, 205, 8, TEXT, 206, 7, TEXT, 1024, 64, BINARY, 1024, 8];
+    let even = [
+        BINARY,
+        51,
+        64,
+        TEXT,
+        205,
+        8,
+        TEXT,
+        206,
+        7,
+        TEXT,
+        1024,
+        64,
+        BINARY,
+        1024,
+        8,
+    ];
     show(&turned, &even);
 }
 

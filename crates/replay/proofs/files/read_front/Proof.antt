@@ -14,7 +14,7 @@ slice-relend-prefix-read : tie.Need-slice-relend-prefix-read
 slice-relend-prefix-read c = search needs
 
 slice-aggregate-read : tie.Need-slice-aggregate-read
-slice-aggregate-read c = sym (length-take-le _ _ (c .before .before .if1 .left))
+slice-aggregate-read c = sym (length-take-le _ _ (c .before .if1 .left))
 
 read-requires : tie.Need-read-requires
 read-requires c κs = search needs

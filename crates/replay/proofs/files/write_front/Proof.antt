@@ -14,7 +14,7 @@ slice-relend-prefix-write : tie.Need-slice-relend-prefix-write
 slice-relend-prefix-write c = search needs
 
 slice-aggregate-write : tie.Need-slice-aggregate-write
-slice-aggregate-write c = sym (length-take-le _ _ (c .before .before .if1 .left))
+slice-aggregate-write c = sym (length-take-le _ _ (c .before .if1 .left))
 
 write-requires : tie.Need-write-requires
 write-requires c κs = search needs
