@@ -1,4 +1,5 @@
 //! Times of each call on inputs that grow, ours beside the crate's: a table for each input, a picture for each call.
+use std::collections::BTreeSet;
 use std::hint::black_box;
 use std::io;
 use std::path::Path;
@@ -137,7 +138,7 @@ fn measure(input: &Input, times: impl Fn(&Parts) -> Vec<Time>) -> Vec<Row> {
     rows
 }
 
-/// A table of one input; its last column is how the time grew for the size, first to last: 1 if linear.
+/// A table of one input.
 fn print_table(input: &Input, rows: &[Row]) {
     let [first, .., last] = input.sizes;
     println!("\n{}: {}\n", input.name, input.unit);
@@ -164,8 +165,20 @@ fn notes(call: &str) -> [&'static str; 2] {
     }
 }
 
+/// A picture of a call: a panel for each input that it was timed on.
+fn draw(call: &str, grown: &[(&Input, Vec<Row>)]) -> String {
+    let points = |input: &Input, row: &Row| input.sizes.iter().map(|n| *n as f64).zip(row.ns.iter().copied()).collect();
+    let panels = grown.iter().filter(|(_, rows)| rows.iter().any(|r| r.call == call)).map(|(input, rows)| Panel {
+        title: input.name,
+        unit: input.unit,
+        lines: rows.iter().filter(|r| r.call == call).map(|r| points(input, r)).collect(),
+    });
+    picture::svg(call, &panels.collect::<Vec<_>>(), &notes(call))
+}
+
 /// The tables on standard output, and the pictures in a folder, if one is named.
 pub fn print(calls: &Calls, pictures: Option<&Path>) -> io::Result<()> {
+    println!("\ntime / size: from the first size to the last, how much more time for how much more of the input; 1 is linear");
     let mut grown = vec![(&OBJECTS, measure(&OBJECTS, |p| queries(calls, p)))];
     grown.extend(FILES.iter().map(|input| (input, measure(input, |p| forms(calls, p, &binary_file(p))))));
     for (input, rows) in &grown {
@@ -173,18 +186,6 @@ pub fn print(calls: &Calls, pictures: Option<&Path>) -> io::Result<()> {
     }
     let Some(folder) = pictures else { return Ok(()) };
     std::fs::create_dir_all(folder)?;
-    let mut names: Vec<&str> = grown.iter().flat_map(|(_, rows)| rows).map(|r| r.call).collect();
-    names.sort();
-    names.dedup();
-    for call in names {
-        let points = |input: &Input, row: &Row| input.sizes.iter().map(|n| *n as f64).zip(row.ns.iter().copied()).collect();
-        let panels = grown.iter().filter(|(_, rows)| rows.iter().any(|r| r.call == call)).map(|(input, rows)| Panel {
-            title: input.name,
-            unit: input.unit,
-            lines: rows.iter().filter(|r| r.call == call).map(|r| points(input, r)).collect(),
-        });
-        let svg = picture::svg(call, &panels.collect::<Vec<_>>(), &notes(call));
-        std::fs::write(folder.join(call.replace(' ', "_") + ".svg"), svg)?;
-    }
-    Ok(())
+    let calls: BTreeSet<&str> = grown.iter().flat_map(|(_, rows)| rows).map(|r| r.call).collect();
+    calls.into_iter().try_for_each(|call| std::fs::write(folder.join(call.replace(' ', "_") + ".svg"), draw(call, &grown)))
 }
