@@ -24,15 +24,17 @@ struct Input {
     unit: &'static str,
     sizes: [usize; 4],
     parts: fn(usize) -> Parts,
+    times: fn(&Calls, &Parts) -> Vec<Time>,
 }
 
-const OBJECTS: Input = Input { name: "objects", unit: "words of the object", sizes: [1_000, 10_000, 100_000, 1_000_000], parts: mixed };
+const DECADES: [usize; 4] = [1_000, 10_000, 100_000, 1_000_000];
 
-const FILES: [Input; 4] = [
-    Input { name: "labels, rising", unit: "labels", sizes: [1_000, 10_000, 100_000, 1_000_000], parts: |n| labels((0..n).collect()) },
-    Input { name: "labels, random", unit: "labels", sizes: [1_024, 4_096, 16_384, 65_536], parts: |n| labels(shuffled(n)) },
-    Input { name: "a source with lines", unit: "bytes of source", sizes: [1_000, 10_000, 100_000, 1_000_000], parts: source },
-    Input { name: "one block", unit: "words of the block", sizes: [1_000, 4_000, 16_000, 65_535], parts: block },
+const INPUTS: [Input; 5] = [
+    Input { name: "objects", unit: "words of the object", sizes: DECADES, parts: mixed, times: queries },
+    Input { name: "labels, rising", unit: "labels", sizes: DECADES, parts: |n| labels((0..n).collect()), times: files },
+    Input { name: "labels, random", unit: "labels", sizes: [1_024, 4_096, 16_384, 65_536], parts: |n| labels(shuffled(n)), times: files },
+    Input { name: "a source with lines", unit: "bytes of source", sizes: DECADES, parts: source, times: files },
+    Input { name: "one block", unit: "words of the block", sizes: [1_000, 4_000, 16_000, 65_535], parts: block, times: files },
 ];
 
 /// A fair object of so many words: a quarter labels, a quarter line blocks, half source.
@@ -80,13 +82,13 @@ fn block(words: usize) -> Parts {
     Parts { blocks: vec![(0, (0..words).map(|_| (!r.once_in(16)).then(|| r.next() as u16)).collect())], ..Parts::default() }
 }
 
-/// A binary file of the parts, its labels by address, as the text form has them.
-fn binary_file(p: &Parts) -> Vec<u8> {
+/// Both forms' calls, on a binary file with its labels by address, as the text form has them.
+fn files(calls: &Calls, p: &Parts) -> Vec<Time> {
     let Outcome::Given(file) = binary::write(p) else { unreachable!("the line blocks are short") };
     let mut list = records::records(&file).expect("it was written");
     let address = |record: &[u8]| if record[0] == 1 { u16::from_le_bytes([record[1], record[2]]) } else { 0 };
     list.sort_by_key(|record| (record[0], address(record)));
-    [&file[..7], &list.concat()].concat()
+    forms(calls, p, &[&file[..7], &list.concat()].concat())
 }
 
 /// `check`, `is_fair` and the queries, which ask for what lies last.
@@ -122,10 +124,10 @@ struct Row {
 }
 
 /// Every call's times on an input, our side before the crate's. A call that isn't linked is left out.
-fn measure(input: &Input, times: impl Fn(&Parts) -> Vec<Time>) -> Vec<Row> {
+fn measure(calls: &Calls, input: &Input) -> Vec<Row> {
     let mut rows: Vec<Row> = vec![];
     for size in input.sizes {
-        for t in times(&(input.parts)(size)).iter().filter(|t| t.ours.is_some()) {
+        for t in (input.times)(calls, &(input.parts)(size)).iter().filter(|t| t.ours.is_some()) {
             for (ours, ns) in [(true, t.ours), (false, t.theirs)] {
                 let Some(ns) = ns else { continue };
                 match rows.iter_mut().find(|r| r.call == t.call && r.ours == ours) {
@@ -166,7 +168,7 @@ fn notes(call: &str) -> [&'static str; 2] {
 }
 
 /// A picture of a call: a panel for each input that it was timed on.
-fn draw(call: &str, grown: &[(&Input, Vec<Row>)]) -> String {
+fn draw(call: &str, grown: &[(Input, Vec<Row>)]) -> String {
     let points = |input: &Input, row: &Row| input.sizes.iter().map(|n| *n as f64).zip(row.ns.iter().copied()).collect();
     let panels = grown.iter().filter(|(_, rows)| rows.iter().any(|r| r.call == call)).map(|(input, rows)| Panel {
         title: input.name,
@@ -179,11 +181,11 @@ fn draw(call: &str, grown: &[(&Input, Vec<Row>)]) -> String {
 /// The tables on standard output, and the pictures in a folder, if one is named.
 pub fn print(calls: &Calls, pictures: Option<&Path>) -> io::Result<()> {
     println!("\ntime / size: from the first size to the last, how much more time for how much more of the input; 1 is linear");
-    let mut grown = vec![(&OBJECTS, measure(&OBJECTS, |p| queries(calls, p)))];
-    grown.extend(FILES.iter().map(|input| (input, measure(input, |p| forms(calls, p, &binary_file(p))))));
-    for (input, rows) in &grown {
-        print_table(input, rows);
-    }
+    let grown = INPUTS.map(|input| {
+        let rows = measure(calls, &input);
+        print_table(&input, &rows);
+        (input, rows)
+    });
     let Some(folder) = pictures else { return Ok(()) };
     std::fs::create_dir_all(folder)?;
     let calls: BTreeSet<&str> = grown.iter().flat_map(|(_, rows)| rows).map(|r| r.call).collect();

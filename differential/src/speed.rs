@@ -58,26 +58,19 @@ pub fn block() -> Parts {
     Parts { blocks: vec![(0, (0..60_000).map(|_| (!r.once_in(16)).then(|| r.next() as u16)).collect())], ..Parts::default() }
 }
 
-/// The best of nine batches, each of about 50 milliseconds; of fewer where one call takes long.
+/// The best of up to 300 batches of about a millisecond, short enough that a busy machine seldom comes between; of three long calls.
 pub fn best<T>(mut f: impl FnMut() -> T) -> f64 {
-    let once = Instant::now();
-    black_box(f());
-    let once = once.elapsed().as_nanos().max(1);
-    let times = (50_000_000 / once).clamp(1, 100_000) as u32;
-    let batches = match once {
-        ..=200_000_000 => 9,
-        ..=5_000_000_000 => 3,
-        _ => 1,
+    let mut batch = |times: u32| {
+        let start = Instant::now();
+        for _ in 0..times {
+            black_box(f());
+        }
+        start.elapsed().as_nanos() as f64 / f64::from(times)
     };
-    (0..batches)
-        .map(|_| {
-            let start = Instant::now();
-            for _ in 0..times {
-                black_box(f());
-            }
-            start.elapsed().as_nanos() as f64 / f64::from(times)
-        })
-        .fold(f64::INFINITY, f64::min)
+    let once = (0..3).map(|_| batch(1)).fold(f64::INFINITY, f64::min).max(1.0);
+    let times = (1e6 / once).clamp(1.0, 1e5) as u32;
+    let batches = (3e8 / (once * f64::from(times))) as u32;
+    (0..batches).map(|_| batch(times)).fold(once, f64::min)
 }
 
 /// The time of a call, in nanoseconds, on each side that has it.
