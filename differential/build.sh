@@ -1,6 +1,6 @@
 #!/bin/sh
 # build.sh [CARGO WORDS..]: takes the source text of lc3-ensemble 0.10.0, unchanged, and builds the comparison for release.
-# Exit status 3, and one line that says why, where cargo or the source text isn't at hand.
+# Exit status 3, and one line that says why, where cargo or the source text isn't at hand; build.sh --at-hand looks for them and no more.
 #
 # The text is in the folder that LC3_SOURCE names, else in ../shared/docs/src beside this repository; src/asm.rs and
 # src/asm/encoding.rs stand below it. Of these, src/asm/encoding.rs here becomes a copy, and src/asm.rs whole line ranges. Neither is
@@ -14,6 +14,7 @@ encoding=$source/src/asm/encoding.rs
 
 command -v cargo > /dev/null || { echo "cargo isn't on the path"; exit 3; }
 [ -f "$asm" ] && [ -f "$encoding" ] || { echo "no source text of lc3-ensemble in $source (LC3_SOURCE may name its folder)"; exit 3; }
+[ "${1:-}" != --at-hand ] || exit 0
 
 # The line ranges below are those of this very text.
 same() { # FILE SHA256

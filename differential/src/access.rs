@@ -46,6 +46,12 @@ pub fn take_apart(o: &ObjectFile) -> Parts {
     p
 }
 
+/// The line and the column of an index into a source.
+pub fn source_position(source: &str, index: u64) -> (u64, u64) {
+    let (l, c) = SourceInfo::from_string(source.into()).get_pos_pair(index as usize);
+    (l as u64, c as u64)
+}
+
 /// The crate's source and line tables of an object with a source.
 pub struct Tables<'a>(&'a DebugSymbols);
 

@@ -1,5 +1,5 @@
-//! The exports of the Rattle library `runs`, by group, with safe wrappers. A slice is two C parameters, its start and its count of
-//! elements; answers are structs of numbers. Each group is a feature, so that this builds while the library has only some of them.
+//! The exports of the Rattle libraries `runs` and `host`, by group, with safe wrappers. A slice is two C parameters, its start and its
+//! count of elements; answers are structs of numbers. Each group is a feature, so that this builds while there are only some of them.
 use crate::under::Calls;
 
 #[repr(C)]
@@ -48,7 +48,7 @@ pub struct FairAnswer {
     pub fair: u8,
 }
 
-/// The groups that are linked, by name; none where the library isn't.
+/// The groups that are linked, by name; none where no library is.
 pub const LINKED: &[&str] = &[
     #[cfg(feature = "queries")]
     "queries",
@@ -58,9 +58,11 @@ pub const LINKED: &[&str] = &[
     "text",
     #[cfg(feature = "fair")]
     "fair",
+    #[cfg(feature = "host")]
+    "host",
 ];
 
-/// The library's calls.
+/// The libraries' calls.
 pub fn calls() -> Calls {
     Calls {
         #[cfg(feature = "queries")]
@@ -71,6 +73,8 @@ pub fn calls() -> Calls {
         text: Some(text::CALLS),
         #[cfg(feature = "fair")]
         is_fair: Some(fair::is_fair),
+        #[cfg(feature = "host")]
+        host: Some(host::CALLS),
         ..Calls::default()
     }
 }
@@ -172,4 +176,43 @@ mod fair {
         let f = unsafe { runs_is_fair(object.as_ptr(), object.len()) };
         (f.number, f.fair)
     }
+}
+
+#[cfg(feature = "host")]
+mod host {
+    use super::Measured;
+    use crate::numbers::query::Values;
+    use crate::under::{Filled, Host};
+
+    #[repr(C)]
+    struct Position {
+        line: u64,
+        column: u64,
+    }
+
+    extern "C" {
+        fn lc3_binary_length(bytes: *const u8, len: usize) -> Measured;
+        fn lc3_text_length(bytes: *const u8, len: usize) -> Measured;
+        fn lc3_get_pos_pair(source: *const u8, len: usize, index: u64) -> Position;
+    }
+
+    fn binary_length(bytes: &[u8]) -> Filled {
+        // SAFETY: start and count are those of a slice, which the call reads.
+        let m = unsafe { lc3_binary_length(bytes.as_ptr(), bytes.len()) };
+        (m.number, m.len)
+    }
+
+    fn text_length(bytes: &[u8]) -> Filled {
+        // SAFETY: as above.
+        let m = unsafe { lc3_text_length(bytes.as_ptr(), bytes.len()) };
+        (m.number, m.len)
+    }
+
+    fn get_pos_pair(source: &[u8], index: u64) -> Values {
+        // SAFETY: as above.
+        let p = unsafe { lc3_get_pos_pair(source.as_ptr(), source.len(), index) };
+        (p.line, p.column)
+    }
+
+    pub const CALLS: Host = Host { binary_length, text_length, get_pos_pair };
 }

@@ -6,16 +6,20 @@
 //! - [`numbers`]: document 01's checks, written from the document alone, and what each call gives.
 //! - [`reference`]: the answer that a call must give, from both.
 //! - [`gen`]: cases. [`under`]: the calls under test, compared. [`ffi`]: those of the Rattle library. [`table`]: what a run saw.
-//! - [`marked`], [`vectors`], [`speed`]: the cases marked M, a list to replay, times of the crate.
+//! - [`marked`], [`vectors`]: the cases marked M, lists to replay.
+//! - [`speed`], [`growth`]: times beside the crate's. [`figures`], [`picture`]: how they are shown.
 
 pub mod asm;
 pub mod ffi;
+pub mod figures;
 pub mod gen;
+pub mod growth;
 pub mod hex;
 pub mod marked;
 pub mod numbers;
 pub mod object;
 pub mod parts;
+pub mod picture;
 pub mod prng;
 pub mod records;
 pub mod reference;

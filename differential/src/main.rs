@@ -1,5 +1,6 @@
 //! The driver. README.md has the commands.
 use std::io::{stdin, Read};
+use std::path::Path;
 use std::process::exit;
 use std::time::Instant;
 
@@ -7,7 +8,7 @@ use lc3_differential::gen::Depth;
 use lc3_differential::numbers::query::{Query, Values};
 use lc3_differential::reference::{self, Answer, Object};
 use lc3_differential::under::{self, Plan};
-use lc3_differential::{ffi, hex, marked, rust, speed, vectors};
+use lc3_differential::{ffi, growth, hex, marked, rust, speed, vectors};
 
 const USAGE: &str = "\
 differential run [--cases N] [--seed S] [--short none|quick|full] [--long N] [--many N] [--strict]
@@ -16,8 +17,8 @@ differential write-binary | write-text               an object's words in hex
 differential count_lines | raw_line_span N | line_span N | get_pos_pair N | get N | find N | is_fair    the same
 differential marked                                  document 01's cases marked M
 differential vectors queries | binary | text         the lists for the test programs
-differential speed                                   times of the crate, and of the library's binary calls beside them
-differential growth                                  times of the library's calls on objects and files that grow";
+differential speed                                   times of the library's calls beside the crate's, with their bars
+differential growth [FOLDER]                         the same on inputs that grow; pictures in the folder";
 
 fn stop(why: &str) -> ! {
     eprintln!("differential: {why}\n{USAGE}");
@@ -122,13 +123,7 @@ fn main() {
             _ => stop("queries, binary or text?"),
         },
         "speed" => speed::print(&ffi::calls()),
-        "growth" => match (ffi::calls().queries, ffi::calls().binary) {
-            (None, None) => println!("growth: the library isn't linked"),
-            (queries, binary) => {
-                queries.iter().for_each(speed::growth);
-                binary.iter().for_each(speed::binary_growth);
-            }
-        },
+        "growth" => growth::print(&ffi::calls(), args.get(1).map(Path::new)).unwrap_or_else(|e| stop(&e.to_string())),
         _ => stop("what?"),
     }
 }

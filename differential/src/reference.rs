@@ -1,7 +1,7 @@
 //! What a call must answer. Two sides are asked, the crate and document 01's numbers, and held against each other: in the runs
 //! they must say the same, and outside them the crate must do what document 01 says that it does.
 use crate::asm::{access, ObjectFile};
-use crate::numbers::query::{ask, equal_neighbours, Query, Values};
+use crate::numbers::query::{ask, equal_neighbours, get_pos_pair, Query, Values};
 use crate::numbers::{binary, text, text_write, Excluded, Outcome};
 use crate::object::{decode, encode, fair, swapped};
 use crate::parts::Parts;
@@ -59,6 +59,15 @@ pub fn read_binary(file: &[u8]) -> Answer<Vec<u32>> {
 
 pub fn read_text(file: &[u8]) -> Answer<Vec<u32>> {
     read(text::read(file), rust::read_text(file))
+}
+
+/// `get_pos_pair` on source bytes, which never refuses. The crate's sources are UTF-8.
+pub fn source_position(source: &[u8], index: u64) -> Answer<Values> {
+    let paper = get_pos_pair(source, index);
+    let did = std::str::from_utf8(source).ok().map(|s| access::source_position(s, index));
+    let difference = did.filter(|d| *d != paper).map(|d| format!("document 01: {paper:?} | crate: {d:?}"));
+    let (excluded, crate_did) = if did.is_some() { (None, "gave") } else { (Some(Excluded::NotUtf8), "unasked") };
+    Answer { number: 0, value: Some(paper), excluded, crate_did, difference }
 }
 
 /// Words to ask about, with the crate's object of them if they are well formed.
@@ -173,7 +182,7 @@ fn wide(p: &Parts) -> bool {
 }
 
 /// The crate's answer to a query, as document 01 numbers it.
-fn ask_crate(o: &ObjectFile, q: Query) -> Result<Values, u8> {
+pub fn ask_crate(o: &ObjectFile, q: Query) -> Result<Values, u8> {
     let t = access::tables(o).ok_or(4)?;
     match q {
         Query::CountLines => Ok((t.count_lines(), 0)),

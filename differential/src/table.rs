@@ -23,8 +23,10 @@ pub enum Call {
     TextLength,
     TextRead,
     TextWrite,
-    /// `get_pos_pair` on source bytes.
-    SourcePosition,
+    /// The host's.
+    HostBinary,
+    HostText,
+    HostPosition,
 }
 
 impl Call {
@@ -46,13 +48,13 @@ impl Call {
             Call::CountLines | Call::GetPosPair => &[0, 1, 4],
             Call::RawLineSpan | Call::LineSpan => &[0, 1, 4, 5],
             Call::Get | Call::Find => &[0, 1, 4, 6],
-            Call::BinaryLength => &[0, 10, 11, 12, 13, 14, 15],
+            Call::BinaryLength | Call::HostBinary => &[0, 10, 11, 12, 13, 14, 15],
             Call::BinaryRead => &[0, 3, 10, 11, 12, 13, 14, 15],
             Call::BinaryWrite => &[0, 1, 2, 3],
-            Call::TextLength => &[0, 20, 21, 22, 23, 24, 25, 26, 27, 28, 29, 30, 31],
+            Call::TextLength | Call::HostText => &[0, 20, 21, 22, 23, 24, 25, 26, 27, 28, 29, 30, 31],
             Call::TextRead => &[0, 3, 20, 21, 22, 23, 24, 25, 26, 27, 28, 29, 30, 31],
             Call::TextWrite => &[0, 1, 3],
-            Call::SourcePosition => &[0],
+            Call::HostPosition => &[0],
         }
     }
 }

@@ -3,7 +3,7 @@ use crate::gen;
 use crate::gen::Depth;
 use crate::hex;
 use crate::marked::{self, Input};
-use crate::numbers::query::{get_pos_pair, Query, Values};
+use crate::numbers::query::{Query, Values};
 use crate::object::encode;
 use crate::prng::Prng;
 use crate::records;
@@ -30,6 +30,16 @@ pub struct Queries {
     pub query: fn(&[u32], Query) -> (u8, u64, u64),
 }
 
+/// The host's calls.
+#[derive(Clone, Copy)]
+pub struct Host {
+    /// Number and length in words of what the bytes read as.
+    pub binary_length: fn(&[u8]) -> Filled,
+    pub text_length: fn(&[u8]) -> Filled,
+    /// On source bytes.
+    pub get_pos_pair: fn(&[u8], u64) -> Values,
+}
+
 /// The calls by group. A group that is None isn't compared, and the crate still is.
 #[derive(Default, Clone, Copy)]
 pub struct Calls {
@@ -38,8 +48,7 @@ pub struct Calls {
     pub text: Option<Form>,
     /// Number, and 1 if fair.
     pub is_fair: Option<fn(&[u32]) -> (u8, u8)>,
-    /// `get_pos_pair` on source bytes.
-    pub source_position: Option<fn(&[u8], u64) -> Values>,
+    pub host: Option<Host>,
 }
 
 /// How much to compare.
@@ -140,22 +149,46 @@ impl Run<'_> {
         }
     }
 
-    fn file(&mut self, form: Option<Form>, length: Call, read: Call, file: &[u8], want: Answer<Vec<u32>>) {
-        let input = || hex::bytes(file);
-        self.case(read, &input, &want);
-        let Some(form) = form else { return };
-        self.table.case(length, want.excluded.map(|why| (why, want.crate_did)));
+    /// A length without a buffer.
+    fn length(&mut self, call: Call, file: &[u8], want: &Answer<Vec<u32>>, ask: fn(&[u8]) -> Filled) {
+        self.table.case(call, want.excluded.map(|why| (why, want.crate_did)));
         let words = want.value.as_ref().map_or(0, Vec::len);
-        self.call(length, &input, want.number, (want.number, words), (form.length)(file));
-        self.fills(read, &input, &want, &|out| (form.read)(file, out), &|w| w.to_vec());
+        self.call(call, &|| hex::bytes(file), want.number, (want.number, words), ask(file));
+    }
+
+    fn file(&mut self, form: Option<Form>, length: Call, read: Call, file: &[u8], want: &Answer<Vec<u32>>) {
+        let input = || hex::bytes(file);
+        self.case(read, &input, want);
+        self.position(file);
+        let Some(form) = form else { return };
+        self.length(length, file, want, form.length);
+        self.fills(read, &input, want, &|out| (form.read)(file, out), &|w| w.to_vec());
     }
 
     fn binary_file(&mut self, file: &[u8]) {
-        self.file(self.calls.binary, Call::BinaryLength, Call::BinaryRead, file, reference::read_binary(file));
+        let want = reference::read_binary(file);
+        self.file(self.calls.binary, Call::BinaryLength, Call::BinaryRead, file, &want);
+        if let Some(host) = self.calls.host {
+            self.length(Call::HostBinary, file, &want, host.binary_length);
+        }
     }
 
     fn text_file(&mut self, file: &[u8]) {
-        self.file(self.calls.text, Call::TextLength, Call::TextRead, file, reference::read_text(file));
+        let want = reference::read_text(file);
+        self.file(self.calls.text, Call::TextLength, Call::TextRead, file, &want);
+        if let Some(host) = self.calls.host {
+            self.length(Call::HostText, file, &want, host.text_length);
+        }
+    }
+
+    /// The host's `get_pos_pair`, on the bytes of sources and of files.
+    fn position(&mut self, source: &[u8]) {
+        let Some(host) = self.calls.host else { return };
+        let i = gen::query::index(&mut self.buffers, source);
+        let input = || format!("{} at {i}", hex::bytes(source));
+        let want = reference::source_position(source, i);
+        self.case(Call::HostPosition, &input, &want);
+        self.call(Call::HostPosition, &input, 0, want.value, Some((host.get_pos_pair)(source, i)));
     }
 
     /// Every call on an object; of the queries one each.
@@ -170,10 +203,8 @@ impl Run<'_> {
         for q in gen::query::one_of_each(&mut self.rng, object.parts()) {
             self.query(&object, q);
         }
-        if let (Some(ask), Some(source)) = (self.calls.source_position, object.parts().and_then(|p| p.source.as_ref())) {
-            let i = gen::query::index(&mut self.buffers, source);
-            self.table.case(Call::SourcePosition, None);
-            self.call(Call::SourcePosition, &|| format!("{} at {i}", hex::bytes(source)), 0, get_pos_pair(source, i), ask(source, i));
+        if let Some(source) = object.parts().and_then(|p| p.source.as_ref()) {
+            self.position(source);
         }
     }
 
@@ -280,7 +311,7 @@ pub fn run(calls: &Calls, plan: &Plan) -> Table {
 
 /// Document 01's numbers as calls under test, for where the library isn't at hand. A run must find no difference.
 pub mod paper {
-    use super::{Calls, Filled, Form, Queries};
+    use super::{Calls, Filled, Form, Host, Queries};
     use crate::numbers::query::{ask, get_pos_pair, Query};
     use crate::numbers::{binary, text, text_write, Outcome};
     use crate::object::{decode, encode, fair};
@@ -325,6 +356,6 @@ pub mod paper {
             write: |w, out| written(w, |p| Outcome::Given(text_write::write(p)), out),
         }),
         is_fair: Some(|w| decode(w).map_or((1, 0), |p| (0, fair(&p).into()))),
-        source_position: Some(get_pos_pair),
+        host: Some(Host { binary_length: |f| length(binary::read(f)), text_length: |f| length(text::read(f)), get_pos_pair }),
     };
 }

@@ -2,13 +2,14 @@
 use lc3_differential::gen::Depth;
 use lc3_differential::numbers::query::Query;
 use lc3_differential::rust;
-use lc3_differential::under::{paper, run, Calls, Form, Plan, Queries};
+use lc3_differential::under::{paper, run, Calls, Form, Host, Plan, Queries};
 
 const FEW: Plan = Plan { seed: 5, cases: 2000, depth: Depth::None, long: 0, many: 0 };
 
 const BINARY: Form = paper::CALLS.binary.unwrap();
 const TEXT: Form = paper::CALLS.text.unwrap();
 const QUERIES: Queries = paper::CALLS.queries.unwrap();
+const HOST: Host = paper::CALLS.host.unwrap();
 
 fn binary(form: Form) -> Calls {
     Calls { binary: Some(form), ..Calls::default() }
@@ -18,6 +19,9 @@ fn text(form: Form) -> Calls {
 }
 fn query(f: fn(&[u32], Query) -> (u8, u64, u64)) -> Calls {
     Calls { queries: Some(Queries { query: f, ..QUERIES }), ..Calls::default() }
+}
+fn host(host: Host) -> Calls {
+    Calls { host: Some(host), ..Calls::default() }
 }
 
 #[test]
@@ -30,7 +34,7 @@ fn no_difference_in_the_numbers() {
 #[test]
 fn wrong_calls_are_found() {
     rust::quiet();
-    let wrong: [(&str, Calls); 14] = [
+    let wrong: [(&str, Calls); 17] = [
         ("a reader that refuses all", binary(Form { read: |_, _| (10, 0), ..BINARY })),
         ("a length told over untouched buffers", text(Form { write: |w, out| (TEXT.write)(w, &mut out.to_vec()), ..TEXT })),
         (
@@ -135,6 +139,21 @@ fn wrong_calls_are_found() {
                 },
                 ..BINARY
             }),
+        ),
+        (
+            "a host's binary that doesn't look at line blocks",
+            host(Host {
+                binary_length: |f| match (HOST.binary_length)(f) {
+                    (15, _) => (0, 0),
+                    r => r,
+                },
+                ..HOST
+            }),
+        ),
+        ("a host's text that gives the file's length", host(Host { text_length: |f| ((HOST.text_length)(f).0, f.len()), ..HOST })),
+        (
+            "a host's position past the end within the last line",
+            host(Host { get_pos_pair: |s, i| (HOST.get_pos_pair)(s, i.min(s.len() as u64)), ..HOST }),
         ),
         ("a check that says yes to all", Calls { queries: Some(Queries { check: |_| 0, ..QUERIES }), ..Calls::default() }),
         ("a test that says fair of all", Calls { is_fair: Some(|w| ((QUERIES.check)(w), 1 - (QUERIES.check)(w))), ..Calls::default() }),
