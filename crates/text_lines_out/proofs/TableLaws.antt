@@ -13,7 +13,8 @@ use Rattle.format.specs.ObjectFile.{ObjectFile, LineBlock, lineEnd}
 use Rattle.format.specs.Records.{Record, placed, emptyObject}
 use Rattle.format.specs.Calls.{checked}
 use Rattle.format.specs.Source.{lineCount}
-use Rattle.format.specs.TextWriter.{Row, decimal, widest, plainRows, addRows, addBlocks, lineRows, lineWidth, lineHeader, lineTable, textLine}
+use Rattle.format.specs.TextWriter.{Row, decimal, widest, plainRows, addRows, addBlocks, lineRows, lineWidth, lineHeader, lineTable}
+use Rattle.format.specs.TextWriter.{textLine}
 use Rattle.format.proofs.ListLaws.{by-test}
 use Rattle.object.specs.Bodies.{bodyAt}
 use Rattle.object.specs.Access.{addressIn, kindAt, lineBlockAt, recordAt}
@@ -246,7 +247,8 @@ wide-one l rows top low e = go (l .addresses) refl
         ≡ max (digits (if eqb (length (l .addresses)) 0 then top else top + (lastLine l - top))) 4
     go [] q =
         ap (λ (ys : List ℕ). lineWidth (addRows (l .first) ys rows)) q ∙ ap lineWidth (add-none (l .first) rows) ∙ e
-        ∙ ap (λ (c : Bool). max (digits (if c then top else top + (lastLine l - top))) 4) (sym (eq-eqb (length (l .addresses)) 0 (ap length q)))
+        ∙ ap (λ (c : Bool). max (digits (if c then top else top + (lastLine l - top))) 4)
+        (sym (eq-eqb (length (l .addresses)) 0 (ap length q)))
     go (a ∷ xs) q =
         let n : length (l .addresses) ≡ suc (length xs) = ap length q in
         let z : length xs ≡ length (l .addresses) - 1 = omega arith in

@@ -66,7 +66,8 @@ module _ (rs : List Relocation) (room left : ℕ) (e : some left ≡ lessPart ro
       let t = linker-some rs (some-length (rowsOf rs) (λ z. n (omega (arith, f .1, z)))) in
       part-fits room (rowsOf rs) (textLine linkerHeader) refl e
       ∙ ap (less room) (length-append (rowsOf rs) (textLine linkerHeader)
-      ∙ (let y : length (rowsOf rs) + length (textLine linkerHeader) ≡ length (textLine linkerHeader) + length (rowsOf rs) = omega arith in y)
+      ∙ (let y : length (rowsOf rs) + length (textLine linkerHeader) ≡ length (textLine linkerHeader) + length (rowsOf rs) = omega arith
+      in y)
       ∙ sym (length-append (textLine linkerHeader) (rowsOf rs)) ∙ ap length (sym t))
 
 pub linker-short : (rs : List Relocation) (room : ℕ) → none ≡ lessPart room (rowsOf rs) → none ≡ lessPart room (linkerTable rs)
@@ -110,7 +111,8 @@ module _ (h : ObjectFile) where
   groups-some e = rw e groups-parts
 
   pub groups-measured : (room : ℕ) → blocksOnly h ≡ false
-      → lessPart room (fixedLines ++ (symbolTable (h .labels) ++ (linkerTable (h .relocations) ++ (labelTable (h .labels) ++ sourcePart h))))
+      → lessPart room
+      (fixedLines ++ (symbolTable (h .labels) ++ (linkerTable (h .relocations) ++ (labelTable (h .labels) ++ sourcePart h))))
       ≡ lessPart room (groups h)
   unfolding nameGroups debugGroup
   groups-measured room e =

@@ -13,7 +13,8 @@ use Rattle.writing.specs.Written.{Put}
 use Rattle.writing.proofs.Parts.{State, Emits, rest, after, begin, emit, emitted, within, small}
 use Rattle.text_write.specs.Tables.{memoryLines, blockPart}
 use Rattle.text_escape.proofs.EscapeLaws.{part-room}
-use Rattle.text_write.proofs.PartLaws.{block-other, block-parts, nothing-put}
+use Rattle.text_write.proofs.PartLaws.{block-other, block-parts}
+use Rattle.text_lines_out.proofs.BlockLaws.{nothing-put}
 use Rattle.object.proofs.body_len.Reads as body-len-reads
 use Rattle.object.proofs.kind.Reads as kind-reads
 use Rattle.text_rows_out.proofs.put_address_line.Reads as put-address-line-reads

@@ -10,7 +10,7 @@ use Rattle.writing.proofs.Parts.{State, Emits, after, begin, emit, emitted, wit
 use Rattle.text_escape.proofs.EscapeLaws.{part-room}
 use Rattle.text_write.specs.Tables.{objectIn}
 use Rattle.text_write.specs.Groups.{namesText, debugText, groupsText}
-use Rattle.text_write.proofs.PartLaws.{nothing-put}
+use Rattle.text_lines_out.proofs.BlockLaws.{nothing-put}
 use Rattle.text_write.proofs.GroupLaws.{groups-none, groups-some}
 use Rattle.text_write.proofs.put_groups.Statement.{statement}
 use Rattle.text_write.proofs.put_groups.Tie as tie

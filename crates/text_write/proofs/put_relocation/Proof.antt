@@ -15,7 +15,8 @@ use Rattle.measuring.specs.Room.{less, lessPart}
 use Rattle.measuring.proofs.RoomLaws.{less-nothing}
 use Rattle.text_escape.proofs.EscapeLaws.{put-as}
 use Rattle.text_write.specs.Tables.{relocationPart}
-use Rattle.text_write.proofs.PartLaws.{relocation-other, relocation-row, nothing-put}
+use Rattle.text_write.proofs.PartLaws.{relocation-other, relocation-row}
+use Rattle.text_lines_out.proofs.BlockLaws.{nothing-put}
 use Rattle.object.proofs.body_end.Reads as body-end-reads
 use Rattle.object.proofs.kind.Reads as kind-reads
 use Rattle.object.proofs.text_len.Reads as text-len-reads

@@ -41,12 +41,12 @@ returns c = let d = c .before .before .before in
     let e = d .before in
     let l = e .before in
     let a = l .before .before .args in
-    let s = textBytes (now (a .ws)) (a .at) (a .n) in
+    let s = textBytes (now (a .ws)) (a .t .text) (a .t .n) in
     let h = l .before .before .pre .1 in (
       sym (ap roomOf (c .before .left .given .1)) ∙ d .measure-line-row .ensures
           ∙ ap (lessPart (a .room))
-          (row-is (now (a .ws)) (a .at) (a .n) (a .width) (a .number) (a .start) (l .next-line .result) (e .smaller .result) (knownWord
-          (a .known) (a .address)) h (l .next-line .ensures) (e .smaller .ensures)),
+          (row-is (now (a .ws)) (a .t .text) (a .t .n) (a .t .width) (a .number) (a .start) (l .next-line .result)
+          (e .smaller .result) (knownWord (a .known) (a .address)) h (l .next-line .ensures) (e .smaller .ensures)),
       at-next s (a .number) (a .start) (l .next-line .result) h (l .next-line .ensures),
     )
 
@@ -58,7 +58,7 @@ returns-2 c = let d = c .before .before in
     let h = l .before .before .pre .1 in
     sym (ap roomOf (c .enum-told .given .1)) ∙ d .measure-line-row .ensures
     ∙ ap (lessPart (a .room))
-    (row-is (now (a .ws)) (a .at) (a .n) (a .width) (a .number) (a .start) (l .next-line .result) (e .smaller .result) (knownWord
+    (row-is (now (a .ws)) (a .t .text) (a .t .n) (a .t .width) (a .number) (a .start) (l .next-line .result) (e .smaller .result) (knownWord
     (a .known) (a .address)) h (l .next-line .ensures) (e .smaller .ensures))
 
 pub measure-row-spec : {M : Type 1} → statement M

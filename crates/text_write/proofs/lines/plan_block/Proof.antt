@@ -79,11 +79,11 @@ smaller-requires c κs = search needs
 larger-requires : tie.Need-larger-requires
 larger-requires c κs = search needs
 
-sub-t15 : tie.Need-sub-t15
-sub-t15 c = let s = c .before in let h = smaller-right (a s .args .wraps - l s .first) (k s) in omega (arith, skips s, h)
+sub-t16 : tie.Need-sub-t16
+sub-t16 c = let s = c .before in let h = smaller-right (a s .args .wraps - l s .first) (k s) in omega (arith, skips s, h)
 
-add-t16 : tie.Need-add-t16
-add-t16 c =
+add-t17 : tie.Need-add-t17
+add-t17 c =
     let s = c .before in
     let h = place-fits (ws s) (a s .args .at) (a s .args .wraps) (a s .args .wraps - l s .first) (k s) (s .smaller .result) (kept s)
     (skips s) (a s .pre .0) in
@@ -129,8 +129,8 @@ plan-block-spec =
     minus-requires-2
     smaller-requires
     larger-requires
-    sub-t15
-    add-t16
+    sub-t16
+    add-t17
     lines-done-requires
     larger-requires-2
     returns)

@@ -38,9 +38,10 @@ returns c = let d = c .before .before in
     let e = d .before .before in
     let l = e .before in
     let a = l .before .before .before .args in
-    let s = textBytes (now (a .ws)) (a .at) (a .n) in
+    let s = textBytes (now (a .ws)) (a .t .text) (a .t .n) in
     let h = l .before .before .before .pre .1 in (
-      put-as _ _ _ (row-is (now (a .ws)) (a .at) (a .n) (a .width) (a .number) (a .start) (l .next-line .result) (e .smaller .result)
+      put-as _ _ _ (row-is (now (a .ws)) (a .t .text) (a .t .n) (a .t .width) (a .number) (a .start) (l .next-line .result)
+          (e .smaller .result)
           (knownWord (a .known) (a .address)) h (l .next-line .ensures) (e .smaller .ensures)) (d .put-line-row .ensures),
       at-next s (a .number) (a .start) (l .next-line .result) h (l .next-line .ensures),
     )
