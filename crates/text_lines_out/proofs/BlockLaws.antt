@@ -1,27 +1,27 @@
 -- A line block in a walk along the records. Assumes nothing.
 use mathlib.Core.Path.{_≡_, refl, sym, ap, ap₂, subst, _∙_}
-use mathlib.Core.Bool.{Bool, true, false}
-use mathlib.Core.List.{List, [], _∷_, _++_, flatMap, append-nil, append-assoc}
-use Prim.Native.Nat.{ℕ, zero, suc, _+_, _-_, _^_, _≤_, _<_}
+use mathlib.Core.Bool.{Bool, false}
+use mathlib.Core.List.{List, [], _∷_, _++_, flatMap, append-assoc}
+use Prim.Native.Nat.{ℕ, _+_, _-_, _^_, _≤_, _<_}
 use native.Mathlib.Omega.{arith}
-use lib.ListN.{length, take, drop, length-append, length-take, length-drop}
+use lib.ListN.{length, drop, length-drop}
 use lib.Seq.{take-all, length-take-le}
 use lib.Dec.{leb, eqb}
-use borrow.Author.Tests.{le-leb, lt-leb, leb-true, leb-false, eq-eqb, ne-eqb, eqb-true, eqb-false}
-use Rattle.format.specs.Basics.{given, givenOr, if_then_else_}
+use borrow.Author.Tests.{le-leb, leb-true, leb-false, eq-eqb, ne-eqb, eqb-true, eqb-false}
+use Rattle.format.specs.Basics.{givenOr, if_then_else_}
 use Rattle.format.specs.ObjectFile.{ObjectFile, LineBlock, lineEnd}
-use Rattle.format.specs.Records.{Record, placed, emptyObject}
+use Rattle.format.specs.Records.{placed, emptyObject}
 use Rattle.format.specs.Source.{lineCount}
 use Rattle.format.specs.Calls.{checked}
 use Rattle.format.specs.TextWriter.{Row, plainRows, textLine, lineRow, sourceCell}
 use Rattle.format.proofs.ListLaws.{by-test}
 use Rattle.object.specs.Bodies.{bodyAt}
-use Rattle.object.specs.Access.{kindAt, lineBlockAt, recordAt}
+use Rattle.object.specs.Access.{kindAt, lineBlockAt}
 use Rattle.object.proofs.Formed.{formed}
 use Rattle.object.proofs.BodyLaws.{body-fits}
-use Rattle.source_info.proofs.RecordLaws.{Left, Here, start, finish, here, on, lines-here, lines-other}
+use Rattle.source_info.proofs.RecordLaws.{Left, start, finish, here, lines-here, lines-other}
 use Rattle.writing.specs.Written.{filled, written, Put}
-use Rattle.text_lines_out.specs.Merge.{smaller, blockRows, straight, walkFrom}
+use Rattle.text_lines_out.specs.Merge.{smaller, straight, walkFrom}
 use Rattle.text_lines_out.specs.Lines.{At, rowsText}
 use Rattle.text_lines_out.specs.Walk.{gapRows, ownRows, recordRows, recordDone, Follows, lineBlocksIn, walkRows}
 use Rattle.text_lines_out.specs.Runs.{addressFrom, runRows, rowsOf, Planned}

@@ -7,7 +7,7 @@ use Prim.Native.Nat.{ℕ, _+_, _-_, _^_, _≤_, _<_}
 use lib.ListN.{length, drop}
 use lib.Dec.{eqb}
 use Rattle.format.specs.Basics.{givenOr, andThen, if_then_else_}
-use Rattle.format.specs.ObjectFile.{ObjectFile, LineBlock, lineEnd}
+use Rattle.format.specs.ObjectFile.{LineBlock, lineEnd}
 use Rattle.format.specs.Records.{emptyObject}
 use Rattle.format.specs.Words.{objectOf}
 use Rattle.format.specs.TextWriter.{Row, plainRows, lineTable, barLine}

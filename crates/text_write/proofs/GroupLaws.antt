@@ -2,13 +2,12 @@
 use mathlib.Core.Path.{_≡_, refl, sym, ap, _∙_}
 use mathlib.Core.Bool.{Bool, true, false, not}
 use mathlib.Core.List.{List, [], _∷_, _++_, flatMap, append-assoc}
-use mathlib.Core.Option.{Option, none, some}
-use Prim.Native.Nat.{ℕ, _+_, _-_, _≤_, _<_}
+use mathlib.Core.Option.{none, some}
+use Prim.Native.Nat.{ℕ, _+_, _-_}
 use native.Mathlib.Omega.{arith}
 use lib.ListN.{length, length-append}
-use lib.Dec.{eqb}
 use borrow.Author.Tests.{eq-eqb}
-use Rattle.format.specs.Basics.{ascii, isEmpty, if_then_else_}
+use Rattle.format.specs.Basics.{ascii, isEmpty}
 use Rattle.format.specs.Digits.{digitsOf}
 use Rattle.format.specs.ObjectFile.{Relocation, ObjectFile}
 use Rattle.format.specs.TextWriter.{hex4, textLine, symbolTable, linkerHeader, linkerRow, linkerTable, labelTable, barLine, blocksOnly}

@@ -1,6 +1,6 @@
 -- The parts of each record. Assumes nothing.
 use mathlib.Core.Path.{_≡_, refl, sym, ap, _∙_}
-use mathlib.Core.Bool.{Bool, true, false}
+use mathlib.Core.Bool.{Bool, true}
 use mathlib.Core.List.{List, [], _∷_, _++_, map, flatMap, append-assoc}
 use Prim.Native.Nat.{ℕ, _+_, _-_, _*_, _≤_, _<_}
 use native.Mathlib.Omega.{arith}
@@ -8,10 +8,10 @@ use lib.ListN.{length, getD, length-append, length-map}
 use lib.Dec.{eqb}
 use borrow.Author.Tests.{eq-eqb, ne-eqb, eqb-true, eqb-false}
 use Rattle.format.specs.Basics.{if_then_else_}
-use Rattle.format.specs.ObjectFile.{ObjectFile, Block}
+use Rattle.format.specs.ObjectFile.{ObjectFile}
 use Rattle.format.specs.Records.{Record, placed, emptyObject}
 use Rattle.format.specs.Words.{isHead}
-use Rattle.format.specs.TextWriter.{numeral, hex4, decimal, memoryText, textLine, blockLines, linkerRow}
+use Rattle.format.specs.TextWriter.{hex4, decimal, memoryText, textLine, blockLines, linkerRow}
 use Rattle.format.proofs.ListLaws.{by-test, flatMap-map}
 use Rattle.writing.proofs.EachLaws.{length-flatMap}
 use Rattle.object.specs.Bodies.{bodyAt, textAt, Text}

@@ -1,12 +1,10 @@
 -- The gap's run, then the block's. Assumes nothing.
 use borrow.Author.Needs.{needs}
-use native.Mathlib.Omega.{arith}
-use mathlib.Core.Path.{_≡_, refl, sym, ap, subst, _∙_}
-use mathlib.Core.Bool.{true, false}
-use mathlib.Core.List.{List, [], _∷_, _++_}
-use mathlib.Core.Option.{Option, none, some}
-use Prim.Native.Nat.{ℕ, _+_, _-_, _*_, _^_, _≤_, _<_}
-use lib.ListN.{length, getD}
+use mathlib.Core.Path.{_≡_, sym, ap, subst, _∙_}
+use mathlib.Core.Bool.{false}
+use mathlib.Core.List.{List, _++_}
+use mathlib.Core.Option.{some}
+use Prim.Native.Nat.{ℕ, _+_, _-_, _^_, _<_}
 use denote.Ref.{now}
 use Rattle.object.specs.Texts.{textBytes}
 use Rattle.object.specs.Access.{kindAt}
@@ -17,9 +15,6 @@ use Rattle.text_lines_out.specs.Runs.{addressFrom, runRows, rowsOf, Measured}
 use Rattle.text_lines_out.specs.declared.Plan.{Plan}
 use Rattle.text_lines_out.specs.Walk.{recordText}
 use Rattle.text_lines_out.proofs.BlockLaws.{record-other, plan-done, gap-fits, own-fits, gap-passed, own-passed, two-runs, rows-none}
-use Rattle.object.proofs.kind.Reads as kind-reads
-use Rattle.text_write.proofs.lines.measure_run.Reads as measure-run-reads
-use Rattle.text_write.proofs.lines.plan_block.Reads as plan-block-reads
 use Rattle.text_write.proofs.lines.measure_line_record.Statement.{statement}
 use Rattle.text_write.proofs.lines.measure_line_record.Tie as tie
 
@@ -57,15 +52,6 @@ module _ (c : tie.After-plan-block) where
       two-runs ws (s .args .at) (s .args .t .lines) (s .args .t .wraps) (s .args .done) kind-is (s .pre .4) few low r
       (c .plan-block .ensures) text (s .pre .3) (s .args .t .width)
 
-mul-kind : tie.Need-mul-kind
-mul-kind c = search needs
-
-shared-slice-read-kind : tie.Need-shared-slice-read-kind
-shared-slice-read-kind c = search needs
-
-kind-requires : tie.Need-kind-requires
-kind-requires c κs = search needs
-
 returns : tie.Need-returns
 returns c = let s = c .before .before .before .before in
     let a = s .args in
@@ -77,9 +63,6 @@ returns c = let s = c .before .before .before .before in
       subst (λ (m : ℕ). At t m (a .start)) (sym (o .1)) (s .pre .5),
     )
 
-plan-block-requires : tie.Need-plan-block-requires
-plan-block-requires c κs = search needs
-
 measure-run-requires : tie.Need-measure-run-requires
 measure-run-requires c κs = let k = c .before in
     let a = s k .args in (
@@ -88,12 +71,6 @@ measure-run-requires c κs = let k = c .before in
           (k .plan-block .ensures) (text k) (s k .pre .3),
       s k .pre .5,
     )
-
-enum-known-rest : tie.Need-enum-known-rest
-enum-known-rest c = search needs
-
-enum-told : tie.Need-enum-told
-enum-told c = search needs
 
 returns-2 : tie.Need-returns-2
 returns-2 c =
@@ -131,12 +108,6 @@ measure-run-requires-2 c κs = let q = p c in
           (q .plan-block .ensures) (text q) (s q .pre .3) (next c) (told c .1),
     )
 
-enum-known-left : tie.Need-enum-known-left
-enum-known-left c = search needs
-
-enum-told-2 : tie.Need-enum-told-2
-enum-told-2 c = search needs
-
 returns-3 : tie.Need-returns-3
 returns-3 c = let m = c .before .before .before in
     let k = m .before in
@@ -165,17 +136,17 @@ pub measure-line-record-spec : {M : Type 1} → statement M
 measure-line-record-spec =
     tie.close
     (tie.spec
-    mul-kind
-    shared-slice-read-kind
-    kind-requires
+    (λ c. search needs)
+    (λ c. search needs)
+    (λ c κs. search needs)
     returns
-    plan-block-requires
+    (λ c κs. search needs)
     measure-run-requires
-    enum-known-rest
-    enum-told
+    (λ c. search needs)
+    (λ c. search needs)
     returns-2
     measure-run-requires-2
-    enum-known-left
-    enum-told-2
+    (λ c. search needs)
+    (λ c. search needs)
     returns-3
     returns-4)

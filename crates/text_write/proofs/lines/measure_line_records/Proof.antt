@@ -2,18 +2,17 @@
 use borrow.Author.Needs.{needs}
 use native.Mathlib.Omega.{arith}
 use mathlib.Core.Path.{_≡_, refl, sym, ap, subst, _∙_}
-use mathlib.Core.Bool.{true, false}
-use mathlib.Core.List.{List, [], _∷_, _++_}
-use mathlib.Core.Option.{Option, none, some}
-use Prim.Native.Nat.{ℕ, _+_, _-_, _*_, _^_, _≤_, _<_}
-use lib.ListN.{length, getD}
+use mathlib.Core.Bool.{false}
+use mathlib.Core.List.{List, _++_}
+use Prim.Native.Nat.{ℕ, _+_, _-_, _^_, _≤_, _<_}
+use lib.ListN.{length}
 use denote.Ref.{now}
 use Rattle.format.specs.ObjectFile.{LineBlock}
 use Rattle.object.specs.Texts.{textBytes}
 use Rattle.measuring.specs.Room.{lessPart}
 use Rattle.measuring.proofs.RoomLaws.{part-fits, part-short}
 use Rattle.text_lines_out.specs.Merge.{walkFrom}
-use Rattle.text_lines_out.specs.Lines.{At, rowsText}
+use Rattle.text_lines_out.specs.Lines.{rowsText}
 use Rattle.text_lines_out.specs.Runs.{addressFrom, runRows, Measured, sourceOf}
 use Rattle.text_lines_out.specs.Walk.{recordRows, recordDone, Passes, walkRows, lineBlocksIn}
 use Rattle.text_lines_out.proofs.BlockLaws.{
@@ -28,11 +27,6 @@ use Rattle.text_lines_out.proofs.BlockLaws.{
   walking-less,
   walk-rows,
 }
-use Rattle.object.proofs.body_end.Reads as body-end-reads
-use Rattle.text_write.proofs.lines.measure_line_record.Reads as measure-line-record-reads
-use Rattle.text_write.proofs.lines.measure_run.Reads as measure-run-reads
-use Rattle.text_lines_out.proofs.minus.Reads as minus-reads
-use Rattle.text_lines_out.proofs.smaller_line.Reads as smaller-line-reads
 use Rattle.text_write.proofs.lines.measure_line_records.Statement.{statement}
 use Rattle.text_write.proofs.lines.measure_line_records.Tie as tie
 
@@ -112,9 +106,6 @@ module _ (c : tie.After-minus Inv-loop μ-loop) where
       (o .loop .inv .0) (o .loop .inv .1) (t .args .t .width) (c .before .loop-test .left)))
       ∙ o .loop .inv .2
 
-smaller-line-requires : tie.Need-smaller-line-requires Inv-loop μ-loop
-smaller-line-requires c κs = search needs
-
 loop-holds : tie.Need-loop-holds Inv-loop μ-loop
 loop-holds c = let s = c .before .before in
     let a = s .args in
@@ -136,12 +127,6 @@ measure-line-record-requires c κs = let a = s c .args in (
   g c .here,
 )
 
-enum-known-rest : tie.Need-enum-known-rest Inv-loop μ-loop
-enum-known-rest c = search needs
-
-enum-told : tie.Need-enum-told Inv-loop μ-loop
-enum-told c = search needs
-
 returns : tie.Need-returns Inv-loop μ-loop
 returns c =
     let m = c .before .before in
@@ -155,9 +140,6 @@ returns c =
 
 add-body-end : tie.Need-add-body-end Inv-loop μ-loop
 add-body-end c = omega (arith, c .before .before .before .before .loop-test .taken)
-
-body-end-requires : tie.Need-body-end-requires Inv-loop μ-loop
-body-end-requires c κs = search needs
 
 loop-less : tie.Need-loop-less Inv-loop μ-loop
 loop-less c =
@@ -184,21 +166,12 @@ loop-again c = let r = c .before .before in
           ∙ l .before .loop .inv .2,
     )
 
-minus-requires : tie.Need-minus-requires Inv-loop μ-loop
-minus-requires c κs = search needs
-
 measure-run-requires : tie.Need-measure-run-requires Inv-loop μ-loop
 measure-run-requires c κs = (
   t c .pre .1,
   (let few : t c .args .t .lines < 2 ^ 64 = search needs in omega (arith, low c, c .minus .ensures, few)),
   o c .loop .inv .1 .here,
 )
-
-enum-known-rest-2 : tie.Need-enum-known-rest-2 Inv-loop μ-loop
-enum-known-rest-2 c = search needs
-
-enum-told-2 : tie.Need-enum-told-2 Inv-loop μ-loop
-enum-told-2 c = search needs
 
 returns-2 : tie.Need-returns-2 Inv-loop μ-loop
 returns-2 c =
@@ -224,19 +197,19 @@ measure-line-records-spec =
     (tie.spec
     Inv-loop
     μ-loop
-    smaller-line-requires
+    (λ c κs. search needs)
     loop-holds
     measure-line-record-requires
-    enum-known-rest
-    enum-told
+    (λ c. search needs)
+    (λ c. search needs)
     returns
     add-body-end
-    body-end-requires
+    (λ c κs. search needs)
     loop-less
     loop-again
-    minus-requires
+    (λ c κs. search needs)
     measure-run-requires
-    enum-known-rest-2
-    enum-told-2
+    (λ c. search needs)
+    (λ c. search needs)
     returns-2
     returns-3)

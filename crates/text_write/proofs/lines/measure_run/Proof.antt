@@ -1,24 +1,18 @@
 -- Row by row, in the room that is left. Assumes nothing.
 use borrow.Author.Needs.{needs}
 use native.Mathlib.Omega.{arith}
-use mathlib.Core.Path.{_≡_, refl, sym, ap, subst, _∙_}
+use mathlib.Core.Path.{_≡_, sym, ap, subst, _∙_}
 use mathlib.Core.List.{List, [], _∷_, _++_}
-use mathlib.Core.Option.{Option, none, some}
-use Prim.Native.Nat.{ℕ, _+_, _-_, _*_, _%_, _^_, _≤_, _<_}
-use lib.ListN.{length, getD}
+use mathlib.Core.Option.{Option}
+use Prim.Native.Nat.{ℕ, _+_, _-_, _%_, _^_, _≤_}
 use denote.Ref.{now}
-use Rattle.format.specs.TextWriter.{Row}
 use Rattle.object.specs.Texts.{textBytes}
-use Rattle.object.specs.Access.{addressIn}
 use Rattle.text_numerals.specs.Memory.{knownWord}
 use Rattle.text_lines_out.specs.Lines.{At, rowsText}
 use Rattle.text_lines_out.specs.Runs.{row, addressFrom, runRows, Measured, sourceOf, rowsOf}
 use Rattle.text_lines_out.proofs.LineLaws.{run-next, run-end}
 use Rattle.measuring.specs.Room.{lessPart}
 use Rattle.measuring.proofs.RoomLaws.{less-nothing, part-fits, part-short}
-use Rattle.text_lines_out.proofs.line_address.Reads as line-address-reads
-use Rattle.text_write.proofs.lines.measure_row.Reads as measure-row-reads
-use Rattle.units.proofs.Line.wrapping_add.Reads as wrapping-add-reads
 use Rattle.text_write.proofs.lines.measure_run.Statement.{statement}
 use Rattle.text_write.proofs.lines.measure_run.Tie as tie
 
@@ -87,20 +81,8 @@ loop-holds c = let a = c .before .args in
       subst (λ (i : ℕ). At text i (a .start)) z (c .before .pre .2),
     )
 
-wrapping-add-requires : tie.Need-wrapping-add-requires Inv-loop μ-loop
-wrapping-add-requires c κs = search needs
-
-line-address-requires : tie.Need-line-address-requires Inv-loop μ-loop
-line-address-requires c κs = search needs
-
 measure-row-requires : tie.Need-measure-row-requires Inv-loop μ-loop
 measure-row-requires c κs = (b c .pre .0, here c)
-
-enum-known-rest : tie.Need-enum-known-rest Inv-loop μ-loop
-enum-known-rest c = search needs
-
-enum-told : tie.Need-enum-told Inv-loop μ-loop
-enum-told c = search needs
 
 returns : tie.Need-returns Inv-loop μ-loop
 returns c =
@@ -146,11 +128,11 @@ measure-run-spec =
     Inv-loop
     μ-loop
     loop-holds
-    wrapping-add-requires
-    line-address-requires
+    (λ c κs. search needs)
+    (λ c κs. search needs)
     measure-row-requires
-    enum-known-rest
-    enum-told
+    (λ c. search needs)
+    (λ c. search needs)
     returns
     add-k
     loop-less

@@ -1,20 +1,19 @@
 -- The gap's run, then the block's. Assumes nothing.
 use borrow.Author.Needs.{needs}
-use native.Mathlib.Omega.{arith}
 use mathlib.Core.Path.{_≡_, refl, sym, ap, subst, _∙_}
-use mathlib.Core.Bool.{true, false}
-use mathlib.Core.List.{List, [], _∷_, _++_, append-nil}
-use Prim.Native.Nat.{ℕ, _+_, _-_, _*_, _^_, _≤_, _<_}
-use lib.ListN.{length, getD}
+use mathlib.Core.Bool.{false}
+use mathlib.Core.List.{List, [], _++_, append-nil}
+use Prim.Native.Nat.{ℕ, _+_, _-_, _^_, _<_}
+use lib.ListN.{length}
 use denote.Ref.{now}
 use Rattle.object.specs.Texts.{textBytes}
 use Rattle.object.specs.Access.{kindAt}
 use Rattle.text_escape.proofs.EscapeLaws.{part-room}
-use Rattle.writing.proofs.Parts.{State, Emits, after, begin, emit, emitted, within, small, same}
+use Rattle.writing.proofs.Parts.{State, Emits, after, begin, emit, emitted, within, small}
 use Rattle.text_lines_out.specs.Lines.{At, rowsText}
 use Rattle.text_lines_out.specs.Runs.{addressFrom, runRows, rowsOf}
 use Rattle.text_lines_out.specs.declared.Plan.{Plan}
-use Rattle.text_lines_out.specs.Walk.{recordRows, recordDone}
+use Rattle.text_lines_out.specs.Walk.{recordRows}
 use Rattle.text_lines_out.proofs.BlockLaws.{
   record-other,
   plan-done,
@@ -26,9 +25,6 @@ use Rattle.text_lines_out.proofs.BlockLaws.{
   rows-none,
   nothing-put,
 }
-use Rattle.object.proofs.kind.Reads as kind-reads
-use Rattle.text_write.proofs.lines.put_run.Reads as put-run-reads
-use Rattle.text_write.proofs.lines.plan_block.Reads as plan-block-reads
 use Rattle.text_write.proofs.lines.put_line_record.Statement.{statement}
 use Rattle.text_write.proofs.lines.put_line_record.Tie as tie
 
@@ -98,15 +94,6 @@ module _ (c : tie.After-put-run2) where
   emits2 : Emits (all (p q)) (now (s (p q) .args .out)) [] state2
   emits2 = emit (emits1 q) (own (p q)) [] (sym (append-nil (own (p q)))) (c .put-run2 .ensures .0)
 
-mul-kind : tie.Need-mul-kind
-mul-kind c = search needs
-
-shared-slice-read-kind : tie.Need-shared-slice-read-kind
-shared-slice-read-kind c = search needs
-
-kind-requires : tie.Need-kind-requires
-kind-requires c κs = search needs
-
 returns : tie.Need-returns
 returns c = let s = c .before .before .before .before .before in
     let a = s .args in
@@ -118,18 +105,6 @@ returns c = let s = c .before .before .before .before .before in
       subst (λ (m : ℕ). At t m (a .start)) (sym (o .1)) (s .pre .5),
     )
 
-plan-block-requires : tie.Need-plan-block-requires
-plan-block-requires c κs = search needs
-
-sub-put-run : tie.Need-sub-put-run
-sub-put-run c = search needs
-
-part-put-run-start : tie.Need-part-put-run-start
-part-put-run-start c = search needs
-
-part-put-run-end : tie.Need-part-put-run-end
-part-put-run-end c = search needs
-
 put-run-requires : tie.Need-put-run-requires
 put-run-requires c κs = let k = c .before .before in
     let a = s k .args in (
@@ -140,17 +115,11 @@ put-run-requires c κs = let k = c .before .before in
       part-room (emits0 k) (gap k) (own k) (whole k),
     )
 
-add-len : tie.Need-add-len
-add-len c = search needs
-
 sub-put-run-2 : tie.Need-sub-put-run-2
 sub-put-run-2 c = within (emits1 (c .before .before .before))
 
 part-put-run-start-2 : tie.Need-part-put-run-start-2
 part-put-run-start-2 c = within (emits1 (c .before .before .before))
-
-part-put-run-end-2 : tie.Need-part-put-run-end-2
-part-put-run-end-2 c = search needs
 
 put-run-requires-2 : tie.Need-put-run-requires-2
 put-run-requires-2 c κs = let g = c .before .before .before .before in
@@ -167,9 +136,6 @@ put-run-requires-2 c κs = let g = c .before .before .before .before in
 add-len-2 : tie.Need-add-len-2
 add-len-2 c = let e = c .before .before .before in small (emits2 e) (short (p (q e)))
 
-same-length : tie.Need-same-length
-same-length c = search needs
-
 returns-2 : tie.Need-returns-2
 returns-2 c = let e = c .before .before .before in
     let k = p (q e) in
@@ -185,20 +151,20 @@ pub put-line-record-spec : {M : Type 1} → statement M
 put-line-record-spec =
     tie.close
     (tie.spec
-    mul-kind
-    shared-slice-read-kind
-    kind-requires
+    (λ c. search needs)
+    (λ c. search needs)
+    (λ c κs. search needs)
     returns
-    plan-block-requires
-    sub-put-run
-    part-put-run-start
-    part-put-run-end
+    (λ c κs. search needs)
+    (λ c. search needs)
+    (λ c. search needs)
+    (λ c. search needs)
     put-run-requires
-    add-len
+    (λ c. search needs)
     sub-put-run-2
     part-put-run-start-2
-    part-put-run-end-2
+    (λ c. search needs)
     put-run-requires-2
     add-len-2
-    same-length
+    (λ c. search needs)
     returns-2)

@@ -2,18 +2,18 @@
 use borrow.Author.Needs.{needs}
 use native.Mathlib.Omega.{arith}
 use mathlib.Core.Path.{_≡_, refl, sym, ap, subst, _∙_}
-use mathlib.Core.Bool.{true, false}
-use mathlib.Core.List.{List, [], _∷_, _++_, append-nil}
-use Prim.Native.Nat.{ℕ, _+_, _-_, _*_, _^_, _≤_, _<_}
-use lib.ListN.{length, getD}
+use mathlib.Core.Bool.{false}
+use mathlib.Core.List.{List, [], _++_, append-nil}
+use Prim.Native.Nat.{ℕ, _+_, _-_, _^_, _≤_, _<_}
+use lib.ListN.{length}
 use denote.Ref.{now}
 use Rattle.format.specs.ObjectFile.{LineBlock}
 use Rattle.format.specs.TextWriter.{Row}
 use Rattle.object.specs.Texts.{textBytes}
 use Rattle.text_escape.proofs.EscapeLaws.{part-room}
-use Rattle.writing.proofs.Parts.{State, Emits, after, begin, emit, emitted, within, small, same}
+use Rattle.writing.proofs.Parts.{Emits, after, begin, emit, emitted, within, small, same}
 use Rattle.text_lines_out.specs.Merge.{walkFrom}
-use Rattle.text_lines_out.specs.Lines.{At, rowsText}
+use Rattle.text_lines_out.specs.Lines.{rowsText}
 use Rattle.text_lines_out.specs.Runs.{addressFrom, runRows, sourceOf}
 use Rattle.text_lines_out.specs.Walk.{recordRows, recordDone, walkRows, lineBlocksIn}
 use Rattle.text_lines_out.proofs.BlockLaws.{
@@ -28,11 +28,6 @@ use Rattle.text_lines_out.proofs.BlockLaws.{
   walking-less,
   walk-rows,
 }
-use Rattle.object.proofs.body_end.Reads as body-end-reads
-use Rattle.text_write.proofs.lines.put_line_record.Reads as put-line-record-reads
-use Rattle.text_write.proofs.lines.put_run.Reads as put-run-reads
-use Rattle.text_lines_out.proofs.minus.Reads as minus-reads
-use Rattle.text_lines_out.proofs.smaller_line.Reads as smaller-line-reads
 use Rattle.text_write.proofs.lines.put_line_records.Statement.{statement}
 use Rattle.text_write.proofs.lines.put_line_records.Tie as tie
 
@@ -139,9 +134,6 @@ emitted-all :
     (c .put-run .last .0))
 emitted-all c = let m = c .before .before in emit (o m .loop .inv .2) (last m) [] (last-is m) (c .put-run .ensures .0)
 
-smaller-line-requires : tie.Need-smaller-line-requires Inv-loop μ-loop
-smaller-line-requires c κs = search needs
-
 loop-holds : tie.Need-loop-holds Inv-loop μ-loop
 loop-holds c = let s = c .before .before .before in
     let a = s .args in
@@ -160,9 +152,6 @@ sub-put-line-record c = within (c .before .loop .inv .2)
 
 part-put-line-record-start : tie.Need-part-put-line-record-start Inv-loop μ-loop
 part-put-line-record-start c = within (c .before .loop .inv .2)
-
-part-put-line-record-end : tie.Need-part-put-line-record-end Inv-loop μ-loop
-part-put-line-record-end c = search needs
 
 put-line-record-requires : tie.Need-put-line-record-requires Inv-loop μ-loop
 put-line-record-requires c κs = let l = c .before in
@@ -184,9 +173,6 @@ add-len c = let e = c .before .before .before in small (emits e) (short (e .befo
 add-body-end : tie.Need-add-body-end Inv-loop μ-loop
 add-body-end c = omega (arith, c .before .before .before .before .before .loop-test .taken)
 
-body-end-requires : tie.Need-body-end-requires Inv-loop μ-loop
-body-end-requires c κs = search needs
-
 loop-less : tie.Need-loop-less Inv-loop μ-loop
 loop-less c =
     let l = c .before .before .before .before .before .before in
@@ -207,17 +193,11 @@ loop-again c = let e = c .before .before .before .before in
       emits e,
     )
 
-minus-requires : tie.Need-minus-requires Inv-loop μ-loop
-minus-requires c κs = search needs
-
 sub-put-run : tie.Need-sub-put-run Inv-loop μ-loop
 sub-put-run c = within (o c .loop .inv .2)
 
 part-put-run-start : tie.Need-part-put-run-start Inv-loop μ-loop
 part-put-run-start c = within (o c .loop .inv .2)
-
-part-put-run-end : tie.Need-part-put-run-end Inv-loop μ-loop
-part-put-run-end c = search needs
 
 put-run-requires : tie.Need-put-run-requires Inv-loop μ-loop
 put-run-requires c κs = let m = c .before in (
@@ -242,21 +222,21 @@ put-line-records-spec =
     (tie.spec
     Inv-loop
     μ-loop
-    smaller-line-requires
+    (λ c κs. search needs)
     loop-holds
     sub-put-line-record
     part-put-line-record-start
-    part-put-line-record-end
+    (λ c. search needs)
     put-line-record-requires
     add-len
     add-body-end
-    body-end-requires
+    (λ c κs. search needs)
     loop-less
     loop-again
-    minus-requires
+    (λ c κs. search needs)
     sub-put-run
     part-put-run-start
-    part-put-run-end
+    (λ c. search needs)
     put-run-requires
     add-len-2
     same-length

@@ -1,23 +1,17 @@
 -- Row by row. Assumes nothing.
 use borrow.Author.Needs.{needs}
 use native.Mathlib.Omega.{arith}
-use mathlib.Core.Path.{_≡_, refl, sym, ap, subst, _∙_}
+use mathlib.Core.Path.{_≡_, sym, ap, subst, _∙_}
 use mathlib.Core.List.{List, [], _∷_, _++_}
-use mathlib.Core.Option.{Option, none, some}
-use Prim.Native.Nat.{ℕ, _+_, _-_, _*_, _%_, _^_, _≤_, _<_}
-use lib.ListN.{length, getD}
+use mathlib.Core.Option.{Option}
+use Prim.Native.Nat.{ℕ, _+_, _-_, _%_, _^_, _≤_}
 use denote.Ref.{now}
-use Rattle.format.specs.TextWriter.{Row}
 use Rattle.object.specs.Texts.{textBytes}
-use Rattle.object.specs.Access.{addressIn}
 use Rattle.text_numerals.specs.Memory.{knownWord}
 use Rattle.text_lines_out.specs.Lines.{At, rowsText}
 use Rattle.text_lines_out.specs.Runs.{row, addressFrom, runRows, sourceOf, rowsOf}
 use Rattle.text_lines_out.proofs.LineLaws.{run-next, run-end}
-use Rattle.writing.proofs.Parts.{State, Emits, after, begin, emit, emitted, within, small, same}
-use Rattle.text_lines_out.proofs.line_address.Reads as line-address-reads
-use Rattle.text_write.proofs.lines.put_row.Reads as put-row-reads
-use Rattle.units.proofs.Line.wrapping_add.Reads as wrapping-add-reads
+use Rattle.writing.proofs.Parts.{Emits, after, begin, emit, emitted, within, small, same}
 use Rattle.text_write.proofs.lines.put_run.Statement.{statement}
 use Rattle.text_write.proofs.lines.put_run.Tie as tie
 
@@ -97,20 +91,11 @@ loop-holds c = let a = c .before .before .args in
       subst (λ (i : ℕ). At text i (a .start)) z (c .before .before .pre .2),
     )
 
-wrapping-add-requires : tie.Need-wrapping-add-requires Inv-loop μ-loop
-wrapping-add-requires c κs = search needs
-
-line-address-requires : tie.Need-line-address-requires Inv-loop μ-loop
-line-address-requires c κs = search needs
-
 sub-put-row : tie.Need-sub-put-row Inv-loop μ-loop
 sub-put-row c = within (l c .before .before .loop .inv .1)
 
 part-put-row-start : tie.Need-part-put-row-start Inv-loop μ-loop
 part-put-row-start c = within (l c .before .before .loop .inv .1)
-
-part-put-row-end : tie.Need-part-put-row-end Inv-loop μ-loop
-part-put-row-end c = search needs
 
 put-row-requires : tie.Need-put-row-requires Inv-loop μ-loop
 put-row-requires c κs = let r = c .before in (b r .pre .0, here r)
@@ -152,11 +137,11 @@ put-run-spec =
     Inv-loop
     μ-loop
     loop-holds
-    wrapping-add-requires
-    line-address-requires
+    (λ c κs. search needs)
+    (λ c κs. search needs)
     sub-put-row
     part-put-row-start
-    part-put-row-end
+    (λ c. search needs)
     put-row-requires
     add-len
     add-k
