@@ -1,30 +1,30 @@
 -- A line block in a walk along the records. Assumes nothing.
 use mathlib.Core.Path.{_≡_, refl, sym, ap, ap₂, subst, _∙_}
-use mathlib.Core.Bool.{Bool, true, false}
-use mathlib.Core.List.{List, [], _∷_, _++_, flatMap, append-nil, append-assoc}
-use Prim.Native.Nat.{ℕ, zero, suc, _+_, _-_, _^_, _≤_, _<_}
+use mathlib.Core.Bool.{Bool, false}
+use mathlib.Core.List.{List, [], _∷_, _++_, flatMap, append-assoc}
+use Prim.Native.Nat.{ℕ, _+_, _-_, _^_, _≤_, _<_}
 use native.Mathlib.Omega.{arith}
-use lib.ListN.{length, take, drop, length-append, length-take, length-drop}
+use lib.ListN.{length, drop, length-drop}
 use lib.Seq.{take-all, length-take-le}
 use lib.Dec.{leb, eqb}
-use borrow.Author.Tests.{le-leb, lt-leb, leb-true, leb-false, eq-eqb, ne-eqb, eqb-true, eqb-false}
-use Rattle.format.specs.Basics.{given, givenOr, if_then_else_}
+use borrow.Author.Tests.{le-leb, leb-true, leb-false, eq-eqb, ne-eqb, eqb-true, eqb-false}
+use Rattle.format.specs.Basics.{givenOr, if_then_else_}
 use Rattle.format.specs.ObjectFile.{ObjectFile, LineBlock, lineEnd}
-use Rattle.format.specs.Records.{Record, placed, emptyObject}
+use Rattle.format.specs.Records.{placed, emptyObject}
 use Rattle.format.specs.Source.{lineCount}
 use Rattle.format.specs.Calls.{checked}
 use Rattle.format.specs.TextWriter.{Row, plainRows, textLine, lineRow, sourceCell}
 use Rattle.format.proofs.ListLaws.{by-test}
 use Rattle.object.specs.Bodies.{bodyAt}
-use Rattle.object.specs.Access.{kindAt, lineBlockAt, recordAt}
+use Rattle.object.specs.Access.{kindAt, lineBlockAt}
 use Rattle.object.proofs.Formed.{formed}
 use Rattle.object.proofs.BodyLaws.{body-fits}
-use Rattle.source_info.proofs.RecordLaws.{Left, Here, start, finish, here, on, lines-here, lines-other}
+use Rattle.source_info.proofs.RecordLaws.{Left, start, finish, here, lines-here, lines-other}
 use Rattle.writing.specs.Written.{filled, written, Put}
-use Rattle.text_lines_out.specs.Merge.{smaller, blockRows, straight, walkFrom}
+use Rattle.text_lines_out.specs.Merge.{smaller, straight, walkFrom}
 use Rattle.text_lines_out.specs.Lines.{At, rowsText}
 use Rattle.text_lines_out.specs.Walk.{gapRows, ownRows, recordRows, recordDone, Follows, lineBlocksIn, walkRows}
-use Rattle.text_lines_out.specs.Runs.{addressFrom, runRows, Planned}
+use Rattle.text_lines_out.specs.Runs.{addressFrom, runRows, rowsOf, Planned}
 use Rattle.text_lines_out.specs.declared.Plan.{Plan}
 use Rattle.text_lines_out.proofs.MergeLaws.{Apart, past-done, lines-apart}
 use Rattle.text_lines_out.proofs.LineLaws.{at-beyond, at-back, run-plain, smaller-right}
@@ -105,7 +105,9 @@ module _ (ws : List ℕ) (at lines wraps done e : ℕ) (ls : List LineBlock) whe
     pub past : ℕ
     pub others : List LineBlock
     pub follows : Follows ws at lines wraps done
-    pub rows : walkFrom lines wraps done ls ≡ recordRows ws at lines wraps done ++ walkFrom lines wraps (recordDone ws at lines wraps done) others
+    pub rows :
+        walkFrom lines wraps done ls
+        ≡ recordRows ws at lines wraps done ++ walkFrom lines wraps (recordDone ws at lines wraps done) others
     pub apart : Apart past others
     pub done-is : recordDone ws at lines wraps done ≡ smaller (wraps + (past - wraps)) lines
     pub left : (n : ℕ) → n ≡ at + 1 + length (bodyAt ws (at + 1)) → Left ws n (λ (h : ObjectFile). h .lineBlocks) others
@@ -180,7 +182,7 @@ module _ (ws : List ℕ) (at lines wraps done : ℕ) where
     pub plan-done : r .done ≡ recordDone ws at lines wraps done
     plan-done = p .past ∙ sym record-done
 
-    gap-sum : done + r .gap ≡ smaller (r .first) lines
+    gap-sum : done + r .gap ≡ smaller (r .own .first) lines
     gap-sum =
         let q = fs k in
         ap (λ (x : ℕ). done + x) (p .gap)
@@ -189,19 +191,19 @@ module _ (ws : List ℕ) (at lines wraps done : ℕ) where
         ∙ ap (λ (x : ℕ). smaller x lines) (sym (p .first))
 
     pub gap-fits : done + r .gap ≤ 2 ^ 64
-    gap-fits = let h = smaller-right (r .first) lines in omega (arith, gap-sum, h)
+    gap-fits = let h = smaller-right (r .own .first) lines in omega (arith, gap-sum, h)
 
-    pub own-fits : r .first + r .count ≤ 2 ^ 64
+    pub own-fits : r .own .first + r .own .count ≤ 2 ^ 64
     own-fits =
         let h = block-below lines wraps l (fs k .2) (let z : lines ≤ 2 ^ 64 = omega arith in z) low in
         subst (λ (x : ℕ). x ≤ 2 ^ 64) (sym (ap₂ (λ (x y : ℕ). x + y) (p .first) (p .size))) h
 
-    pub gap-passed : (x : ℕ) → At s (done + r .gap) x → At s (r .first) x
+    pub gap-passed : (x : ℕ) → At s (done + r .gap) x → At s (r .own .first) x
     gap-passed x a =
-        at-beyond s (r .first) x
-        (subst (λ (m : ℕ). At s m x) (gap-sum ∙ ap (smaller (r .first)) counted) a)
+        at-beyond s (r .own .first) x
+        (subst (λ (m : ℕ). At s m x) (gap-sum ∙ ap (smaller (r .own .first)) counted) a)
 
-    own-sum : smaller (r .first + r .count) lines ≡ recordDone ws at lines wraps done
+    own-sum : smaller (r .own .first + r .own .count) lines ≡ recordDone ws at lines wraps done
     own-sum =
         let q = fs k in
         let up : q .0 ≤ lineEnd l = (let z : q .0 ≤ l .first = q .1 in omega arith) in
@@ -210,21 +212,22 @@ module _ (ws : List ℕ) (at lines wraps done : ℕ) where
         ∙ past-done lines wraps (q .0) (lineEnd l) up
         ∙ sym (ap (λ (x : ℕ). x + (smaller (lineEnd l) lines - x)) (q .3)) ∙ sym record-done
 
-    pub own-passed : (x : ℕ) → At s (r .first + r .count) x → At s (recordDone ws at lines wraps done) x
+    pub own-passed : (x : ℕ) → At s (r .own .first + r .own .count) x → At s (recordDone ws at lines wraps done) x
     own-passed x a =
-        subst (λ (m : ℕ). At s m x) (sym (ap (smaller (r .first + r .count)) counted) ∙ own-sum) (at-back s (r .first + r .count) x a)
+        subst (λ (m : ℕ). At s m x) (sym (ap (smaller (r .own .first + r .own .count)) counted) ∙ own-sum)
+        (at-back s (r .own .first + r .own .count) x a)
 
     pub two-runs :
         (width : ℕ)
         → rowsText width s (recordRows ws at lines wraps done)
         ≡ rowsText width s (runRows done (addressFrom false ws 0) 0 (r .gap)) ++ rowsText width s
-        (runRows (r .first) (addressFrom true ws (r .place)) 0 (r .count))
+        (rowsOf ws (r .own))
     two-runs width =
         ap (rowsText width s)
         (record-rows
         ∙ ap₂ (λ (x y : List Row). x ++ y) (sym (run-plain done ws 0 (r .gap) ∙ ap (plainRows done) (p .gap))) (sym (p .rows)))
         ∙ rows-append width s (runRows done (addressFrom false ws 0) 0 (r .gap))
-        (runRows (r .first) (addressFrom true ws (r .place)) 0 (r .count))
+        (rowsOf ws (r .own))
 
 -- a part of no bytes
 pub nothing-put : {part : List ℕ} (room : List ℕ) → part ≡ [] → Put part room 0 room

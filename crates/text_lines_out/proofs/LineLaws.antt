@@ -1,6 +1,6 @@
 -- A source line by line. Assumes nothing.
 use mathlib.Core.Path.{_≡_, refl, sym, ap, ap₂, subst, _∙_}
-use mathlib.Core.Bool.{Bool, true, false}
+use mathlib.Core.Bool.{true, false}
 use mathlib.Core.List.{List, [], _∷_, _++_, map, flatMap, append-nil, append-assoc}
 use mathlib.Core.Option.{Option, none, some}
 use Prim.Native.Nat.{ℕ, zero, suc, _+_, _-_, _^_, _≤_, _<_}
@@ -10,7 +10,7 @@ use lib.ListN.{length, take, drop, getD, length-append, length-map, length-drop,
 use lib.Seq.{drop-drop, getD-drop, take-all, drop-cons, take-at, drop-at, length-take-le}
 use lib.Dec.{leb}
 use borrow.Author.Tests.{le-leb, lt-leb, leb-true, leb-false, le-ltb}
-use Rattle.format.specs.Basics.{Outcome, refused, given, givenOr, _>>=_, andThen, isSome, if_then_else_, ascii}
+use Rattle.format.specs.Basics.{Outcome, refused, given, givenOr, _>>=_, andThen, isSome, ascii}
 use Rattle.format.specs.Utf8.{charAt, scalarsFrom, isUtf8, characters}
 use Rattle.format.specs.ObjectFile.{LineBlock}
 use Rattle.format.specs.Source.{Span, lineCount, rawLineSpan, spanBytes}

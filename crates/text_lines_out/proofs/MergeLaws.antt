@@ -1,16 +1,16 @@
 -- The rows of the line table in the order of their numbers. Assumes nothing.
 use mathlib.Core.Path.{_≡_, refl, sym, ap, ap₂, subst, _∙_}
-use mathlib.Core.Bool.{Bool, true, false, _&&_, _||_}
+use mathlib.Core.Bool.{Bool, true, _&&_, _||_}
 use mathlib.Core.List.{List, [], _∷_, _++_, flatMap, append-nil, append-assoc}
 use mathlib.Core.Option.{Option, none, some}
 use Prim.Native.Nat.{ℕ, zero, suc, _+_, _-_, _%_, _^_, _≤_, _<_, compare, Ordering, Ordering·lt, Ordering·eq, Ordering·gt}
 use native.Mathlib.Omega.{arith}
-use lib.ListN.{length, take, drop, length-append, length-take, length-drop, take-append-drop, drop-of-length-le}
+use lib.ListN.{length, drop, length-take, take-append-drop, drop-of-length-le}
 use lib.Seq.{take-all, drop-drop, length-take-le}
-use lib.Dec.{leb, ltb}
-use borrow.Author.Tests.{le-leb, lt-leb, leb-true, leb-false, ltb-true, ltb-false}
-use Rattle.format.specs.Basics.{given, isEmpty, isSome, every, if_then_else_, keep, chain, All}
-use Rattle.format.specs.Sorted.{order, byOrdering, thenBy, upsert}
+use lib.Dec.{leb}
+use borrow.Author.Tests.{le-leb, lt-leb, leb-true, leb-false}
+use Rattle.format.specs.Basics.{given, isEmpty, isSome, every, keep, chain, All}
+use Rattle.format.specs.Sorted.{order, upsert}
 use Rattle.format.specs.ObjectFile.{ObjectFile, LineBlock, lineEnd, apart, neverFall, namesOf, sourceText, consistent}
 use Rattle.format.specs.Words.{objectOf}
 use Rattle.format.specs.Utf8.{isUtf8}

@@ -1,22 +1,23 @@
 -- The addresses whose lines wrap, and the width of the line table, in a walk along the records. Assumes nothing.
 use mathlib.Core.Path.{_≡_, refl, sym, ap, ap₂, subst, _∙_}
-use mathlib.Core.Bool.{Bool, true, false}
+use mathlib.Core.Bool.{Bool, true}
 use mathlib.Core.List.{List, [], _∷_, _++_, map, flatMap, append-nil}
 use Prim.Native.Nat.{ℕ, zero, suc, _+_, _-_, _^_, _≤_, _<_, max}
 use native.Mathlib.Omega.{arith}
-use lib.ListN.{length, take, drop, getD, length-map, length-drop, drop-of-length-le, take-append-drop}
+use lib.ListN.{length, take, drop, getD, length-map, length-drop, take-append-drop}
 use lib.Seq.{getD-drop, length-take-le}
 use lib.Dec.{leb, ltb, eqb}
-use borrow.Author.Tests.{le-leb, lt-leb, leb-true, leb-false, ltb-true, ltb-false, eq-eqb, ne-eqb, eqb-true, eqb-false}
+use borrow.Author.Tests.{leb-true, leb-false, ltb-true, ltb-false, eq-eqb, ne-eqb, eqb-true, eqb-false}
 use Rattle.format.specs.Basics.{givenOr, if_then_else_}
-use Rattle.format.specs.ObjectFile.{ObjectFile, LineBlock, lineEnd}
-use Rattle.format.specs.Records.{Record, placed, emptyObject}
+use Rattle.format.specs.ObjectFile.{LineBlock, lineEnd}
+use Rattle.format.specs.Records.{placed, emptyObject}
 use Rattle.format.specs.Calls.{checked}
 use Rattle.format.specs.Source.{lineCount}
-use Rattle.format.specs.TextWriter.{Row, decimal, widest, plainRows, addRows, addBlocks, lineRows, lineWidth, lineHeader, lineTable, textLine}
+use Rattle.format.specs.TextWriter.{Row, decimal, widest, plainRows, addRows, addBlocks, lineRows, lineWidth, lineHeader, lineTable}
+use Rattle.format.specs.TextWriter.{textLine}
 use Rattle.format.proofs.ListLaws.{by-test}
 use Rattle.object.specs.Bodies.{bodyAt}
-use Rattle.object.specs.Access.{addressIn, kindAt, lineBlockAt, recordAt}
+use Rattle.object.specs.Access.{addressIn, kindAt, lineBlockAt}
 use Rattle.object.proofs.Formed.{formed}
 use Rattle.object.proofs.BodyLaws.{body-fits}
 use Rattle.object.proofs.ByteLaws.{body-word}
@@ -28,7 +29,7 @@ use Rattle.text_lines_out.specs.Walk.{lineBlocksIn, walkRows, wrappedAt,
 use Rattle.text_lines_out.specs.declared.Wrapped.{Wrapped}
 use Rattle.text_lines_out.proofs.MergeLaws.{Apart, lines-apart, line-walk, add-append, wrapped-cons}
 use Rattle.text_lines_out.proofs.LineLaws.{run-block, map-at-place, at-back}
-use Rattle.text_lines_out.proofs.WidthLaws.{decimal-rises, wide, wide-block, wide-wrapped}
+use Rattle.text_lines_out.proofs.WidthLaws.{decimal-rises, wide-block, wide-wrapped}
 use Rattle.text_lines_out.proofs.BlockLaws.{lineBlocksOf, rows-append}
 
 -- A RECORD of a walk along the line blocks
@@ -246,7 +247,8 @@ wide-one l rows top low e = go (l .addresses) refl
         ≡ max (digits (if eqb (length (l .addresses)) 0 then top else top + (lastLine l - top))) 4
     go [] q =
         ap (λ (ys : List ℕ). lineWidth (addRows (l .first) ys rows)) q ∙ ap lineWidth (add-none (l .first) rows) ∙ e
-        ∙ ap (λ (c : Bool). max (digits (if c then top else top + (lastLine l - top))) 4) (sym (eq-eqb (length (l .addresses)) 0 (ap length q)))
+        ∙ ap (λ (c : Bool). max (digits (if c then top else top + (lastLine l - top))) 4)
+        (sym (eq-eqb (length (l .addresses)) 0 (ap length q)))
     go (a ∷ xs) q =
         let n : length (l .addresses) ≡ suc (length xs) = ap length q in
         let z : length xs ≡ length (l .addresses) - 1 = omega arith in

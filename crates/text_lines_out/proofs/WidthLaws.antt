@@ -1,15 +1,13 @@
 -- The width of the column of line numbers: that of the largest number that is set in. Assumes nothing.
-use mathlib.Core.Path.{_≡_, refl, sym, ap, _∙_}
+use mathlib.Core.Path.{_≡_, refl, ap, _∙_}
 use mathlib.Core.List.{List, [], _∷_}
 use mathlib.Core.Option.{some}
 use Prim.Native.Nat.{ℕ, zero, suc, _+_, _-_, _/_, _%_, _^_, _≤_, _<_, max, compare, Ordering, Ordering·lt, Ordering·eq, Ordering·gt}
 use native.Mathlib.Omega.{arith}
 use lib.ListN.{length}
 use lib.Dec.{ltb}
-use borrow.Author.Tests.{lt-ltb, le-ltb, ltb-true, ltb-false}
-use Rattle.format.specs.Basics.{if_then_else_}
+use borrow.Author.Tests.{le-ltb, ltb-false}
 use Rattle.format.specs.Sorted.{order, byOrdering, thenBy, upsert}
-use Rattle.format.specs.ObjectFile.{LineBlock}
 use Rattle.format.specs.TextWriter.{lowerDigit, numeral, decimal, widest, Row, rowKey, addRows}
 use Rattle.format.proofs.SortedLaws.{eq-of-compare}
 use Rattle.format.proofs.ListLaws.{by-test}

@@ -2,7 +2,7 @@
 -- definition is said in proofs/MergeLaws. Where numbers are compared, p + (q - p) is the larger of two, and q - (q - p) the smaller.
 -- Assumes nothing.
 use mathlib.Core.List.{List, [], _∷_, _++_, flatMap}
-use mathlib.Core.Option.{none, some}
+use mathlib.Core.Option.{some}
 use Prim.Native.Nat.{ℕ, suc, _+_, _-_, _^_}
 use lib.ListN.{take, drop}
 use Rattle.format.specs.ObjectFile.{LineBlock, lineEnd}

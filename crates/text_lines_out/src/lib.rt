@@ -22,6 +22,24 @@ pub fn smaller(a: usize, b: usize) -> usize
     b
 }
 
+// What is the same for all rows of a table: the source of `n` bytes and so many lines in the words from `text` on, the width of the
+// column of line numbers, and how many rows wrapped.
+pub struct Table {
+    pub text: usize,
+    pub n: usize,
+    pub width: usize,
+    pub lines: u64,
+    pub wraps: u64,
+}
+
+// The rows of `count` lines from line `first` on: with the addresses from a place on if they are known, else with none.
+pub struct Run {
+    pub first: u64,
+    pub count: usize,
+    pub known: bool,
+    pub place: usize,
+}
+
 // What is left of the room after rows, and where the line of the next row starts.
 pub enum Rows {
     Left(usize, usize),
@@ -101,13 +119,10 @@ pub fn lines_done(first: u64, count: usize, lines: u64) -> u64
     first + count as u64
 }
 
-// The rows of a line block: so many of the source before it; then its own, from a line on, with the addresses from a place on. And how
-// many of the source's lines are done then.
+// The rows of a line block: so many of the source before it, and its own. And how many of the source's lines are done then.
 pub struct Plan {
     pub gap: usize,
-    pub first: u64,
-    pub count: usize,
-    pub place: usize,
+    pub own: Run,
     pub done: u64,
 }
 
@@ -142,29 +157,6 @@ pub fn last_line(first: u64, count: usize) -> u64
     0xFFFF_FFFF_FFFF_FFFF
 }
 
-// What stands in the header's first column, and what follows it.
-const LINE: [u8; 4] = [0x4C, 0x49, 0x4E, 0x45];
-
-const ADDR_SOURCE: [u8; 17] = [
-    0x20,
-    0x7C,
-    0x20,
-    0x41,
-    0x44,
-    0x44,
-    0x52,
-    0x20,
-    0x7C,
-    0x20,
-    0x53,
-    0x4F,
-    0x55,
-    0x52,
-    0x43,
-    0x45,
-    0x0A,
-];
-
 // The header of the line table, for a column of this width.
 pub fn put_line_header(out: &mut [u8], width: usize) -> usize
     ensures { λ r. ⌜ Put (textLine (lineHeader width)) (now (out .entry)) r (now (out .exit)) ⌝ }
@@ -176,12 +168,10 @@ pub fn put_line_header(out: &mut [u8], width: usize) -> usize
     if out.len() - 21 < fill {
         return 0;
     }
-    let name = LINE;
-    let rest = ADDR_SOURCE;
     let mut k = 0;
-    k += put_bytes(&mut out[k..], &name);
+    k += put_bytes(&mut out[k..], b"LINE");
     k += put_spaces(&mut out[k..], fill);
-    k += put_bytes(&mut out[k..], &rest);
+    k += put_bytes(&mut out[k..], b" | ADDR | SOURCE\n");
     k
 }
 

@@ -2,13 +2,12 @@
 use mathlib.Core.Path.{_≡_, refl, sym, ap, _∙_}
 use mathlib.Core.Bool.{Bool, true, false, not}
 use mathlib.Core.List.{List, [], _∷_, _++_, flatMap, append-assoc}
-use mathlib.Core.Option.{Option, none, some}
-use Prim.Native.Nat.{ℕ, _+_, _-_, _≤_, _<_}
+use mathlib.Core.Option.{none, some}
+use Prim.Native.Nat.{ℕ, _+_, _-_}
 use native.Mathlib.Omega.{arith}
 use lib.ListN.{length, length-append}
-use lib.Dec.{eqb}
 use borrow.Author.Tests.{eq-eqb}
-use Rattle.format.specs.Basics.{ascii, isEmpty, if_then_else_}
+use Rattle.format.specs.Basics.{ascii, isEmpty}
 use Rattle.format.specs.Digits.{digitsOf}
 use Rattle.format.specs.ObjectFile.{Relocation, ObjectFile}
 use Rattle.format.specs.TextWriter.{hex4, textLine, symbolTable, linkerHeader, linkerRow, linkerTable, labelTable, barLine, blocksOnly}
@@ -66,7 +65,8 @@ module _ (rs : List Relocation) (room left : ℕ) (e : some left ≡ lessPart ro
       let t = linker-some rs (some-length (rowsOf rs) (λ z. n (omega (arith, f .1, z)))) in
       part-fits room (rowsOf rs) (textLine linkerHeader) refl e
       ∙ ap (less room) (length-append (rowsOf rs) (textLine linkerHeader)
-      ∙ (let y : length (rowsOf rs) + length (textLine linkerHeader) ≡ length (textLine linkerHeader) + length (rowsOf rs) = omega arith in y)
+      ∙ (let y : length (rowsOf rs) + length (textLine linkerHeader) ≡ length (textLine linkerHeader) + length (rowsOf rs) = omega arith
+      in y)
       ∙ sym (length-append (textLine linkerHeader) (rowsOf rs)) ∙ ap length (sym t))
 
 pub linker-short : (rs : List Relocation) (room : ℕ) → none ≡ lessPart room (rowsOf rs) → none ≡ lessPart room (linkerTable rs)
@@ -110,7 +110,8 @@ module _ (h : ObjectFile) where
   groups-some e = rw e groups-parts
 
   pub groups-measured : (room : ℕ) → blocksOnly h ≡ false
-      → lessPart room (fixedLines ++ (symbolTable (h .labels) ++ (linkerTable (h .relocations) ++ (labelTable (h .labels) ++ sourcePart h))))
+      → lessPart room
+      (fixedLines ++ (symbolTable (h .labels) ++ (linkerTable (h .relocations) ++ (labelTable (h .labels) ++ sourcePart h))))
       ≡ lessPart room (groups h)
   unfolding nameGroups debugGroup
   groups-measured room e =

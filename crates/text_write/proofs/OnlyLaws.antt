@@ -1,13 +1,13 @@
 -- Whether an object has blocks only, record by record. Assumes nothing.
 use mathlib.Core.Path.{_≡_, refl, sym, ap, subst, _∙_}
 use mathlib.Core.Bool.{Bool, true, false, _&&_, _||_, not}
-use mathlib.Core.List.{List, [], _∷_}
+use mathlib.Core.List.{List, _∷_}
 use Prim.Native.Nat.{ℕ, _+_, _≤_, _<_}
 use native.Mathlib.Omega.{arith}
-use lib.ListN.{length, getD}
+use lib.ListN.{length}
 use lib.Dec.{eqb}
-use borrow.Author.Tests.{eq-eqb, ne-eqb, eqb-true, eqb-false}
-use Rattle.format.specs.Basics.{givenOr, isEmpty, isSome, if_then_else_}
+use borrow.Author.Tests.{eq-eqb, ne-eqb, eqb-true}
+use Rattle.format.specs.Basics.{givenOr, isEmpty, isSome}
 use Rattle.format.specs.ObjectFile.{ObjectFile}
 use Rattle.format.specs.Records.{Record, placed, emptyObject}
 use Rattle.format.specs.Calls.{checked}

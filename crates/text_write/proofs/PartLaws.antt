@@ -1,19 +1,18 @@
 -- The parts of each record. Assumes nothing.
 use mathlib.Core.Path.{_≡_, refl, sym, ap, _∙_}
-use mathlib.Core.Bool.{Bool, true, false}
+use mathlib.Core.Bool.{Bool, true}
 use mathlib.Core.List.{List, [], _∷_, _++_, map, flatMap, append-assoc}
 use Prim.Native.Nat.{ℕ, _+_, _-_, _*_, _≤_, _<_}
 use native.Mathlib.Omega.{arith}
 use lib.ListN.{length, getD, length-append, length-map}
 use lib.Dec.{eqb}
-use borrow.Author.Tests.{eq-eqb, ne-eqb, eqb-true, eqb-false, le-leb}
+use borrow.Author.Tests.{eq-eqb, ne-eqb, eqb-true, eqb-false}
 use Rattle.format.specs.Basics.{if_then_else_}
-use Rattle.format.specs.ObjectFile.{ObjectFile, Block}
+use Rattle.format.specs.ObjectFile.{ObjectFile}
 use Rattle.format.specs.Records.{Record, placed, emptyObject}
 use Rattle.format.specs.Words.{isHead}
-use Rattle.format.specs.TextWriter.{numeral, hex4, decimal, memoryText, textLine, blockLines, linkerRow}
+use Rattle.format.specs.TextWriter.{hex4, decimal, memoryText, textLine, blockLines, linkerRow}
 use Rattle.format.proofs.ListLaws.{by-test, flatMap-map}
-use Rattle.writing.specs.Written.{filled, written, Put}
 use Rattle.writing.proofs.EachLaws.{length-flatMap}
 use Rattle.object.specs.Bodies.{bodyAt, textAt, Text}
 use Rattle.object.specs.Texts.{textLen, textBytes}
@@ -135,8 +134,3 @@ pub relocation-name : {A : Type 0} (ws : List ℕ) (F : ObjectFile → A) (at : 
     → kindAt ws at ≡ 5
     → Text (bodyAt ws (at + 1))
 relocation-name ws F at v h l e = relocation-is ws at (recordAt ws at) (here ws F at v h l .head) e .1
-
--- a part of no bytes
-pub nothing-put : {part : List ℕ} (room : List ℕ) → part ≡ [] → Put part room 0 room
-unfolding filled written
-nothing-put room e = rw e (rw (le-leb 0 (length room) (omega arith)) refl, rw (le-leb 0 (length room) (omega arith)) refl)

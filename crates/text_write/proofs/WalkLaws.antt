@@ -5,16 +5,16 @@ use mathlib.Core.List.{List, [], _∷_, _++_}
 use Prim.Native.Nat.{ℕ, _+_, _≤_, _<_}
 use native.Mathlib.Omega.{arith}
 use lib.ListN.{length, getD}
-use Rattle.format.specs.Basics.{given, givenOr}
+use Rattle.format.specs.Basics.{givenOr}
 use Rattle.format.specs.ObjectFile.{ObjectFile}
 use Rattle.format.specs.Records.{Record, placed, emptyObject}
-use Rattle.format.specs.Words.{isHead, objectOf}
+use Rattle.format.specs.Words.{isHead}
 use Rattle.format.specs.Calls.{checked}
 use Rattle.object.specs.Bodies.{bodyAt}
 use Rattle.object.specs.Access.{recordAt}
 use Rattle.object.proofs.Formed.{formed}
 use Rattle.object.proofs.BodyLaws.{body-fits, head-at}
-use Rattle.source_info.proofs.RecordLaws.{Left, Here, start, finish, here, on}
+use Rattle.source_info.proofs.RecordLaws.{Left, Here, start, finish, here}
 use Rattle.text_write.specs.Tables.{objectIn}
 
 -- a table F of which every record has a part

@@ -1,14 +1,12 @@
 -- The parts of the text form by the words of an object. Assumes nothing.
-use mathlib.Core.List.{List, [], _++_, map, flatMap}
-use Prim.Native.Nat.{ℕ, _+_}
-use lib.ListN.{getD}
+use mathlib.Core.List.{List, [], flatMap}
+use Prim.Native.Nat.{ℕ}
 use lib.Dec.{eqb}
 use Rattle.format.specs.Basics.{givenOr, if_then_else_}
 use Rattle.format.specs.ObjectFile.{ObjectFile}
 use Rattle.format.specs.Records.{emptyObject}
 use Rattle.format.specs.Words.{objectOf}
 use Rattle.format.specs.TextWriter.{memoryText, textLine, blockLines, linkerRow}
-use Rattle.object.specs.Bodies.{textAt}
 use Rattle.object.specs.Access.{memoryIn, kindAt, blockAt, relocationAt}
 
 -- the object of well formed words; an empty one of others, which no caller has

@@ -15,6 +15,8 @@ use text_lines_out::Passed;
 use text_lines_out::Plan;
 use text_lines_out::Progress;
 use text_lines_out::Rows;
+use text_lines_out::Run;
+use text_lines_out::Table;
 use text_lines_out::Wrapped;
 use text_lines_out::Written;
 use text_lines_out::larger;
@@ -45,8 +47,9 @@ ghost use Rattle.text_numerals.specs.Memory.{knownWord};
 ghost use Rattle.measuring.specs.Room.{roomOf, lessPart};
 ghost use Rattle.text_lines_out.specs.Lines.{At, Next, rowsText};
 ghost use Rattle.text_lines_out.specs.Merge.{smaller, wrapped};
-ghost use Rattle.text_lines_out.specs.Runs.{row, Measured, addressFrom, runRows, Planned};
-ghost use Rattle.text_lines_out.specs.Walk.{recordRows, recordDone, Follows, Passes, walkRows, lineBlocksIn, wrappedAt, Wraps, topAt, sourceTable};
+ghost use Rattle.text_lines_out.specs.Runs.{row, Measured, Planned, sourceOf, rowsOf};
+ghost use Rattle.text_lines_out.specs.Walk.{recordRows, recordText, recordDone, Follows, Passes, walkRows};
+ghost use Rattle.text_lines_out.specs.Walk.{lineBlocksIn, wrappedAt, Wraps, topAt, sourceTable};
 
 // Where the line after the one that starts at byte `start` of a source of `n` bytes starts; past the last line, one byte past the
 // source.
@@ -68,20 +71,28 @@ fn next_line(ws: &[u32], at: usize, n: usize, start: usize) -> usize
 fn measure_row(
     room: usize,
     ws: &[u32],
-    at: usize,
-    n: usize,
-    width: usize,
+    t: Table,
     number: u64,
     known: bool,
     address: u16,
     start: usize,
 ) -> Rows
-    requires { ⌜ (n ≤ 3 * length (now ws)) × At (textBytes (now ws) at n) number start ⌝ }
-    ensures { λ r. ⌜ Measured room (textBytes (now (ws .entry)) at n) width (row number (knownWord known address) ∷ []) (number + 1) r ⌝ }
+    requires { ⌜ (t .n ≤ 3 * length (now ws)) × At (sourceOf (now ws) t) number start ⌝ }
+    ensures { λ r. ⌜ Measured room (sourceOf (now (ws .entry)) t) (t .width) (row number (knownWord known address) ∷ []) (number + 1) r ⌝ }
 {
-    let next = next_line(ws, at, n, start);
-    let end = smaller(next, n);
-    match measure_line_row(room, width, number, known, address, ws, at, start, end) {
+    let next = next_line(ws, t.text, t.n, start);
+    let end = smaller(next, t.n);
+    match measure_line_row(
+        room,
+        t.width,
+        number,
+        known,
+        address,
+        ws,
+        t.text,
+        start,
+        end,
+    ) {
         Room::Left(left) => Rows::Left(left, next),
         Room::Short => Rows::Short,
     }
@@ -91,60 +102,36 @@ fn measure_row(
 fn put_row(
     out: &mut [u8],
     ws: &[u32],
-    at: usize,
-    n: usize,
-    width: usize,
+    t: Table,
     number: u64,
     known: bool,
     address: u16,
     start: usize,
 ) -> Written
-    requires { ⌜ (n ≤ 3 * length (now ws)) × At (textBytes (now ws) at n) number start ⌝ }
-    ensures { λ r. ⌜ Put (rowsText width (textBytes (now (ws .entry)) at n) (row number (knownWord known address) ∷ []))
+    requires { ⌜ (t .n ≤ 3 * length (now ws)) × At (sourceOf (now ws) t) number start ⌝ }
+    ensures { λ r. ⌜ Put (rowsText (t .width) (sourceOf (now (ws .entry)) t) (row number (knownWord known address) ∷ []))
         (now (out .entry)) (r .len) (now (out .exit))
-        × At (textBytes (now (ws .entry)) at n) (number + 1) (r .start) ⌝ }
+        × At (sourceOf (now (ws .entry)) t) (number + 1) (r .start) ⌝ }
 {
-    let next = next_line(ws, at, n, start);
-    let end = smaller(next, n);
-    let len = put_line_row(out, width, number, known, address, ws, at, start, end);
+    let next = next_line(ws, t.text, t.n, start);
+    let end = smaller(next, t.n);
+    let len = put_line_row(out, t.width, number, known, address, ws, t.text, start, end);
     Written { len, start: next }
 }
 
-// The room that rows of `count` lines leave, from line `first` on: with the addresses from a place on if they are known, else with
-// none.
-fn measure_run(
-    room: usize,
-    ws: &[u32],
-    at: usize,
-    n: usize,
-    width: usize,
-    first: u64,
-    count: usize,
-    known: bool,
-    place: usize,
-    start: usize,
-) -> Rows
-    requires { ⌜ (n ≤ 3 * length (now ws)) × (first + count ≤ 2 ^ 64) × At (textBytes (now ws) at n) first start ⌝ }
-    ensures { λ r. ⌜ Measured room (textBytes (now (ws .entry)) at n) width
-        (runRows first (addressFrom known (now (ws .entry)) place) 0 count) (first + count) r ⌝ }
+// The room that a run of rows leaves.
+fn measure_run(room: usize, ws: &[u32], t: Table, run: Run, start: usize) -> Rows
+    requires { ⌜ (t .n ≤ 3 * length (now ws)) × (run .first + run .count ≤ 2 ^ 64) × At (sourceOf (now ws) t) (run .first) start ⌝ }
+    ensures { λ r. ⌜ Measured room (sourceOf (now (ws .entry)) t) (t .width) (rowsOf (now (ws .entry)) run) (run .first + run .count) r ⌝ }
 {
     let mut left = room;
     let mut next = start;
     let mut k = 0;
-    while k < count {
-        let line = Line(first).wrapping_add(k as u64);
-        let address = line_address(ws, place, k);
-        let Rows::Left(rest, after) = measure_row(
-            left,
-            ws,
-            at,
-            n,
-            width,
-            line.0,
-            known,
-            address,
-            next,
-        ) else {
+    while k < run.count {
+        let line = Line(run.first).wrapping_add(k as u64);
+        let address = line_address(ws, run.place, k);
+        let Rows::Left(rest, after) = measure_row(left, ws, t, line.0, run.known, address, next)
+        else {
             return Rows::Short;
         };
         left = rest;
@@ -155,42 +142,20 @@ fn measure_run(
 }
 
 // They, written into a room that suffices.
-fn put_run(
-    out: &mut [u8],
-    ws: &[u32],
-    at: usize,
-    n: usize,
-    width: usize,
-    first: u64,
-    count: usize,
-    known: bool,
-    place: usize,
-    start: usize,
-) -> Written
-    requires { ⌜ (n ≤ 3 * length (now ws)) × (first + count ≤ 2 ^ 64) × At (textBytes (now ws) at n) first start
-        × (length (rowsText width (textBytes (now ws) at n) (runRows first (addressFrom known (now ws) place) 0 count))
-        ≤ length (now out)) ⌝ }
-    ensures { λ r. ⌜ Put (rowsText width (textBytes (now (ws .entry)) at n)
-        (runRows first (addressFrom known (now (ws .entry)) place) 0 count)) (now (out .entry)) (r .len) (now (out .exit))
-        × At (textBytes (now (ws .entry)) at n) (first + count) (r .start) ⌝ }
+fn put_run(out: &mut [u8], ws: &[u32], t: Table, run: Run, start: usize) -> Written
+    requires { ⌜ (t .n ≤ 3 * length (now ws)) × (run .first + run .count ≤ 2 ^ 64) × At (sourceOf (now ws) t) (run .first) start
+        × (length (rowsText (t .width) (sourceOf (now ws) t) (rowsOf (now ws) run)) ≤ length (now out)) ⌝ }
+    ensures { λ r. ⌜ Put (rowsText (t .width) (sourceOf (now (ws .entry)) t) (rowsOf (now (ws .entry)) run))
+        (now (out .entry)) (r .len) (now (out .exit))
+        × At (sourceOf (now (ws .entry)) t) (run .first + run .count) (r .start) ⌝ }
 {
     let mut len = 0;
     let mut next = start;
     let mut k = 0;
-    while k < count {
-        let line = Line(first).wrapping_add(k as u64);
-        let address = line_address(ws, place, k);
-        let row = put_row(
-            &mut out[len..],
-            ws,
-            at,
-            n,
-            width,
-            line.0,
-            known,
-            address,
-            next,
-        );
+    while k < run.count {
+        let line = Line(run.first).wrapping_add(k as u64);
+        let address = line_address(ws, run.place, k);
+        let row = put_row(&mut out[len..], ws, t, line.0, run.known, address, next);
         len += row.len;
         next = row.start;
         k += 1;
@@ -210,11 +175,15 @@ fn plan_block(ws: &[u32], at: usize, lines: u64, wraps: u64, done: u64) -> Plan
     let gap = minus(smaller_line(first, lines), done) as usize;
     let kept = straight_count(first, count);
     let skip = smaller(minus(wraps, first) as usize, kept);
-    Plan {
-        gap,
+    let own = Run {
         first: larger(wraps, first),
         count: kept - skip,
+        known: true,
         place: words + skip,
+    };
+    Plan {
+        gap,
+        own,
         done: larger(done, lines_done(first, count, lines)),
     }
 }
@@ -224,50 +193,31 @@ fn measure_line_record(
     room: usize,
     ws: &[u32],
     at: usize,
-    text: usize,
-    n: usize,
-    width: usize,
-    lines: u64,
-    wraps: u64,
+    t: Table,
     done: u64,
     start: usize,
 ) -> Passed
-    requires { ⌜ (at < length (now ws)) × (n ≤ 3 * length (now ws)) × (lines ≤ 3 * length (now ws) + 1)
-        × (lines ≡ lineCount (textBytes (now ws) text n)) × Follows (now ws) at lines wraps done
-        × At (textBytes (now ws) text n) done start ⌝ }
-    ensures { λ r. ⌜ Passes room (textBytes (now (ws .entry)) text n) width (recordRows (now (ws .entry)) at lines wraps done)
-        (recordDone (now (ws .entry)) at lines wraps done) r ⌝ }
+    requires { ⌜ (at < length (now ws)) × (t .n ≤ 3 * length (now ws)) × (t .lines ≤ 3 * length (now ws) + 1)
+        × (t .lines ≡ lineCount (sourceOf (now ws) t)) × Follows (now ws) at (t .lines) (t .wraps) done
+        × At (sourceOf (now ws) t) done start ⌝ }
+    ensures { λ r. ⌜ Passes room (sourceOf (now (ws .entry)) t) (t .width) (recordRows (now (ws .entry)) at (t .lines) (t .wraps) done)
+        (recordDone (now (ws .entry)) at (t .lines) (t .wraps) done) r ⌝ }
 {
     if kind(ws[at]) != 3 {
         return Passed::Left(room, start, done);
     }
-    let plan = plan_block(ws, at, lines, wraps, done);
-    let Rows::Left(rest, next) = measure_run(
-        room,
-        ws,
-        text,
-        n,
-        width,
-        done,
-        plan.gap,
-        false,
-        0,
-        start,
-    ) else {
+    let plan = plan_block(ws, at, t.lines, t.wraps, done);
+    let gap = Run {
+        first: done,
+        count: plan.gap,
+        known: false,
+        place: 0,
+    };
+    let own = plan.own;
+    let Rows::Left(rest, next) = measure_run(room, ws, t, gap, start) else {
         return Passed::Short;
     };
-    match measure_run(
-        rest,
-        ws,
-        text,
-        n,
-        width,
-        plan.first,
-        plan.count,
-        true,
-        plan.place,
-        next,
-    ) {
+    match measure_run(rest, ws, t, own, next) {
         Rows::Left(left, last) => Passed::Left(left, last, plan.done),
         Rows::Short => Passed::Short,
     }
@@ -278,98 +228,55 @@ fn put_line_record(
     out: &mut [u8],
     ws: &[u32],
     at: usize,
-    text: usize,
-    n: usize,
-    width: usize,
-    lines: u64,
-    wraps: u64,
+    t: Table,
     done: u64,
     start: usize,
 ) -> Progress
-    requires { ⌜ (at < length (now ws)) × (n ≤ 3 * length (now ws)) × (lines ≤ 3 * length (now ws) + 1)
-        × (lines ≡ lineCount (textBytes (now ws) text n)) × Follows (now ws) at lines wraps done
-        × At (textBytes (now ws) text n) done start
-        × (length (rowsText width (textBytes (now ws) text n) (recordRows (now ws) at lines wraps done)) ≤ length (now out)) ⌝ }
-    ensures { λ r. ⌜ Put (rowsText width (textBytes (now (ws .entry)) text n) (recordRows (now (ws .entry)) at lines wraps done))
-        (now (out .entry)) (r .len) (now (out .exit))
-        × (r .done ≡ recordDone (now (ws .entry)) at lines wraps done)
-        × At (textBytes (now (ws .entry)) text n) (recordDone (now (ws .entry)) at lines wraps done) (r .start) ⌝ }
+    requires { ⌜ (at < length (now ws)) × (t .n ≤ 3 * length (now ws)) × (t .lines ≤ 3 * length (now ws) + 1)
+        × (t .lines ≡ lineCount (sourceOf (now ws) t)) × Follows (now ws) at (t .lines) (t .wraps) done
+        × At (sourceOf (now ws) t) done start × (length (recordText (now ws) at t done) ≤ length (now out)) ⌝ }
+    ensures { λ r. ⌜ Put (recordText (now (ws .entry)) at t done) (now (out .entry)) (r .len) (now (out .exit))
+        × (r .done ≡ recordDone (now (ws .entry)) at (t .lines) (t .wraps) done)
+        × At (sourceOf (now (ws .entry)) t) (recordDone (now (ws .entry)) at (t .lines) (t .wraps) done) (r .start) ⌝ }
 {
     if kind(ws[at]) != 3 {
-        return Progress {
-            len: 0,
-            start,
-            done,
-        };
+        let len = 0;
+        return Progress { len, start, done };
     }
-    let plan = plan_block(ws, at, lines, wraps, done);
+    let plan = plan_block(ws, at, t.lines, t.wraps, done);
+    let gap = Run {
+        first: done,
+        count: plan.gap,
+        known: false,
+        place: 0,
+    };
+    let own = plan.own;
     let mut len = 0;
-    let gap = put_run(
-        &mut out[len..],
-        ws,
-        text,
-        n,
-        width,
-        done,
-        plan.gap,
-        false,
-        0,
-        start,
-    );
-    len += gap.len;
-    let own = put_run(
-        &mut out[len..],
-        ws,
-        text,
-        n,
-        width,
-        plan.first,
-        plan.count,
-        true,
-        plan.place,
-        gap.start,
-    );
-    len += own.len;
+    let before = put_run(&mut out[len..], ws, t, gap, start);
+    len += before.len;
+    let block = put_run(&mut out[len..], ws, t, own, before.start);
+    len += block.len;
     Progress {
         len,
-        start: own.start,
+        start: block.start,
         done: plan.done,
     }
 }
 
 // The room that the rows of all records leave, and of the source's lines past them.
-fn measure_line_records(
-    room: usize,
-    ws: &[u32],
-    text: usize,
-    n: usize,
-    width: usize,
-    lines: u64,
-    wraps: u64,
-    start: usize,
-) -> Room
-    requires { ⌜ (checked (now ws) ≡ 0) × (n ≤ 3 * length (now ws)) × (lines ≤ 3 * length (now ws) + 1)
-        × (lines ≡ lineCount (textBytes (now ws) text n)) × At (textBytes (now ws) text n) (smaller wraps lines) start ⌝ }
+fn measure_line_records(room: usize, ws: &[u32], t: Table, start: usize) -> Room
+    requires { ⌜ (checked (now ws) ≡ 0) × (t .n ≤ 3 * length (now ws)) × (t .lines ≤ 3 * length (now ws) + 1)
+        × (t .lines ≡ lineCount (sourceOf (now ws) t)) × At (sourceOf (now ws) t) (smaller (t .wraps) (t .lines)) start ⌝ }
     ensures { λ r. ⌜ roomOf r
-        ≡ lessPart room (rowsText width (textBytes (now (ws .entry)) text n) (walkRows (now (ws .entry)) lines wraps)) ⌝ }
+        ≡ lessPart room (rowsText (t .width) (sourceOf (now (ws .entry)) t) (walkRows (now (ws .entry)) (t .lines) (t .wraps))) ⌝ }
 {
     let mut left = room;
     let mut next = start;
-    let mut done = smaller_line(wraps, lines);
+    let mut done = smaller_line(t.wraps, t.lines);
     let mut at = 0;
     while at < ws.len() {
-        let Passed::Left(rest, after, past) = measure_line_record(
-            left,
-            ws,
-            at,
-            text,
-            n,
-            width,
-            lines,
-            wraps,
-            done,
-            next,
-        ) else {
+        let Passed::Left(rest, after, past) = measure_line_record(left, ws, at, t, done, next)
+        else {
             return Room::Short;
         };
         left = rest;
@@ -377,65 +284,44 @@ fn measure_line_records(
         done = past;
         at = body_end(ws, at + 1);
     }
-    let count = minus(lines, done) as usize;
-    match measure_run(left, ws, text, n, width, done, count, false, 0, next) {
+    let others = Run {
+        first: done,
+        count: minus(t.lines, done) as usize,
+        known: false,
+        place: 0,
+    };
+    match measure_run(left, ws, t, others, next) {
         Rows::Left(rest, _) => Room::Left(rest),
         Rows::Short => Room::Short,
     }
 }
 
 // They, written into a room that suffices.
-fn put_line_records(
-    out: &mut [u8],
-    ws: &[u32],
-    text: usize,
-    n: usize,
-    width: usize,
-    lines: u64,
-    wraps: u64,
-    start: usize,
-) -> usize
-    requires { ⌜ (checked (now ws) ≡ 0) × (n ≤ 3 * length (now ws)) × (lines ≤ 3 * length (now ws) + 1)
-        × (lines ≡ lineCount (textBytes (now ws) text n)) × At (textBytes (now ws) text n) (smaller wraps lines) start
-        × (length (rowsText width (textBytes (now ws) text n) (walkRows (now ws) lines wraps)) ≤ length (now out)) ⌝ }
-    ensures { λ r. ⌜ Put (rowsText width (textBytes (now (ws .entry)) text n) (walkRows (now (ws .entry)) lines wraps))
+fn put_line_records(out: &mut [u8], ws: &[u32], t: Table, start: usize) -> usize
+    requires { ⌜ (checked (now ws) ≡ 0) × (t .n ≤ 3 * length (now ws)) × (t .lines ≤ 3 * length (now ws) + 1)
+        × (t .lines ≡ lineCount (sourceOf (now ws) t)) × At (sourceOf (now ws) t) (smaller (t .wraps) (t .lines)) start
+        × (length (rowsText (t .width) (sourceOf (now ws) t) (walkRows (now ws) (t .lines) (t .wraps))) ≤ length (now out)) ⌝ }
+    ensures { λ r. ⌜ Put (rowsText (t .width) (sourceOf (now (ws .entry)) t) (walkRows (now (ws .entry)) (t .lines) (t .wraps)))
         (now (out .entry)) r (now (out .exit)) ⌝ }
 {
     let mut len = 0;
     let mut next = start;
-    let mut done = smaller_line(wraps, lines);
+    let mut done = smaller_line(t.wraps, t.lines);
     let mut at = 0;
     while at < ws.len() {
-        let rows = put_line_record(
-            &mut out[len..],
-            ws,
-            at,
-            text,
-            n,
-            width,
-            lines,
-            wraps,
-            done,
-            next,
-        );
+        let rows = put_line_record(&mut out[len..], ws, at, t, done, next);
         len += rows.len;
         next = rows.start;
         done = rows.done;
         at = body_end(ws, at + 1);
     }
-    let count = minus(lines, done) as usize;
-    let last = put_run(
-        &mut out[len..],
-        ws,
-        text,
-        n,
-        width,
-        done,
-        count,
-        false,
-        0,
-        next,
-    );
+    let others = Run {
+        first: done,
+        count: minus(t.lines, done) as usize,
+        known: false,
+        place: 0,
+    };
+    let last = put_run(&mut out[len..], ws, t, others, next);
     len += last.len;
     len
 }
@@ -520,24 +406,26 @@ fn measure_line_table(room: usize, ws: &[u32], text: usize, n: usize, lines: u64
 {
     let width = line_width(ws, lines);
     let wrapped = find_wrapped(ws);
-    let Room::Left(left) = measure_line_header(room, width) else {
-        return Room::Short;
-    };
-    let Rows::Left(rest, next) = measure_run(
-        left,
-        ws,
+    let t = Table {
         text,
         n,
         width,
-        0,
-        wrapped.count,
-        true,
-        wrapped.place,
-        0,
-    ) else {
+        lines,
+        wraps: wrapped.count as u64,
+    };
+    let early = Run {
+        first: 0,
+        count: wrapped.count,
+        known: true,
+        place: wrapped.place,
+    };
+    let Room::Left(left) = measure_line_header(room, width) else {
         return Room::Short;
     };
-    measure_line_records(rest, ws, text, n, width, lines, wrapped.count as u64, next)
+    let Rows::Left(rest, next) = measure_run(left, ws, t, early, 0) else {
+        return Room::Short;
+    };
+    measure_line_records(rest, ws, t, next)
 }
 
 // It, written into a room that suffices.
@@ -550,31 +438,24 @@ fn put_line_table(out: &mut [u8], ws: &[u32], text: usize, n: usize, lines: u64)
 {
     let width = line_width(ws, lines);
     let wrapped = find_wrapped(ws);
-    let mut len = 0;
-    len += put_line_header(&mut out[len..], width);
-    let rows = put_run(
-        &mut out[len..],
-        ws,
-        text,
-        n,
-        width,
-        0,
-        wrapped.count,
-        true,
-        wrapped.place,
-        0,
-    );
-    len += rows.len;
-    len += put_line_records(
-        &mut out[len..],
-        ws,
+    let t = Table {
         text,
         n,
         width,
         lines,
-        wrapped.count as u64,
-        rows.start,
-    );
+        wraps: wrapped.count as u64,
+    };
+    let early = Run {
+        first: 0,
+        count: wrapped.count,
+        known: true,
+        place: wrapped.place,
+    };
+    let mut len = 0;
+    len += put_line_header(&mut out[len..], width);
+    let rows = put_run(&mut out[len..], ws, t, early, 0);
+    len += rows.len;
+    len += put_line_records(&mut out[len..], ws, t, rows.start);
     len
 }
 
@@ -598,31 +479,6 @@ pub(crate) fn measure_source(room: usize, ws: &[u32]) -> Room
     Room::Left(left - 21)
 }
 
-// The divider line.
-const BAR_LINE: [u8; 21] = [
-    0x3D,
-    0x3D,
-    0x3D,
-    0x3D,
-    0x3D,
-    0x3D,
-    0x3D,
-    0x3D,
-    0x3D,
-    0x3D,
-    0x3D,
-    0x3D,
-    0x3D,
-    0x3D,
-    0x3D,
-    0x3D,
-    0x3D,
-    0x3D,
-    0x3D,
-    0x3D,
-    0x0A,
-];
-
 // They, written into a room that suffices.
 pub(crate) fn put_source(out: &mut [u8], ws: &[u32]) -> usize
     requires { ⌜ (checked (now ws) ≡ 0) × (length (sourceTable (now ws)) ≤ length (now out)) ⌝ }
@@ -634,9 +490,8 @@ pub(crate) fn put_source(out: &mut [u8], ws: &[u32]) -> usize
     let end = body_end(ws, at);
     let n = text_len(ws, at, end);
     let lines = count_newlines(ws, at, n) + 1;
-    let bar = BAR_LINE;
     let mut len = 0;
     len += put_line_table(&mut out[len..], ws, at, n, lines);
-    len += put_bytes(&mut out[len..], &bar);
+    len += put_bytes(&mut out[len..], b"====================\n");
     len
 }

@@ -1,17 +1,13 @@
 use borrow.Author.Needs.{needs}
 use native.Mathlib.Omega.{arith}
-use mathlib.Core.Path.{_≡_, refl, sym, ap, _∙_}
-use mathlib.Core.Option.{Option, none, some}
-use Prim.Native.Nat.{ℕ, _+_, _-_, _≤_, _<_}
+use mathlib.Core.Path.{_≡_, sym, ap, _∙_}
+use mathlib.Core.Option.{some}
+use Prim.Native.Nat.{_+_, _-_}
 use Rattle.measuring.specs.Room.{less}
 use Rattle.measuring.proofs.RoomLaws.{less-some, less-none}
 use Rattle.text_lines_out.proofs.LineLaws.{header-length}
-use Rattle.text_lines_out.proofs.minus.Reads as minus-reads
 use Rattle.text_lines_out.proofs.measure_line_header.Statement.{statement}
 use Rattle.text_lines_out.proofs.measure_line_header.Tie as tie
-
-minus-requires : tie.Need-minus-requires
-minus-requires c κs = search needs
 
 returns : tie.Need-returns
 returns c =
@@ -34,4 +30,4 @@ returns-3 c =
     ∙ ap (less (a .room)) (sym (header-length (a .width)))
 
 pub measure-line-header-spec : {M : Type 1} → statement M
-measure-line-header-spec = tie.close (tie.spec minus-requires returns returns-2 returns-3)
+measure-line-header-spec = tie.close (tie.spec (λ c κs. search needs) returns returns-2 returns-3)

@@ -1,10 +1,9 @@
 -- Three parts. Assumes nothing.
 use borrow.Author.Needs.{needs}
 use native.Mathlib.Omega.{arith}
-use mathlib.Core.Path.{_≡_, refl, sym, ap, subst, _∙_}
-use mathlib.Core.List.{List, [], _∷_, _++_, append-nil}
-use Prim.Native.Nat.{ℕ, _+_, _-_, _≤_, _<_}
-use lib.ListN.{length}
+use mathlib.Core.Path.{refl, sym, subst}
+use mathlib.Core.List.{List, [], _++_, append-nil}
+use Prim.Native.Nat.{ℕ, _+_, _-_}
 use denote.Ref.{now}
 use Rattle.writing.specs.Written.{Put}
 use Rattle.writing.proofs.WriteLaws.{too-short}
@@ -12,9 +11,6 @@ use Rattle.writing.proofs.Parts.{State, Emits, rest, after, begin, emit, emitte
 use Rattle.format.specs.Basics.{ascii}
 use Rattle.format.specs.TextWriter.{spaces, textLine, lineHeader}
 use Rattle.text_lines_out.proofs.LineLaws.{afterName, header-parts, header-length}
-use Rattle.text_lines_out.proofs.minus.Reads as minus-reads
-use Rattle.text_numerals.proofs.put_spaces.Reads as put-spaces-reads
-use Rattle.writing.proofs.put_bytes.Reads as put-bytes-reads
 use Rattle.text_lines_out.proofs.put_line_header.Statement.{statement}
 use Rattle.text_lines_out.proofs.put_line_header.Tie as tie
 
@@ -89,49 +85,19 @@ emits3 c =
     let t = start3 c in
     emit (emits2 (c .before .before .before .before .before)) (afterName) (left3 t) (sym (append-nil _)) (c .put-bytes2 .ensures)
 
-minus-requires : tie.Need-minus-requires
-minus-requires c κs = search needs
-
 returns : tie.Need-returns
 returns c = let a = c .before .before .before .args in too-short _ _ _ (header-length (a .width)) (omega (arith, c .if1 .taken))
-
-sub-if2 : tie.Need-sub-if2
-sub-if2 c = search needs
 
 returns-2 : tie.Need-returns-2
 returns-2 c =
     let a = c .before .before .before .before .args in
     too-short _ _ _ (header-length (a .width)) (omega (arith, c .before .if1 .left, c .if2 .taken, c .before .before .minus .ensures))
 
-sub-put-bytes : tie.Need-sub-put-bytes
-sub-put-bytes c = search needs
-
-part-put-bytes-start : tie.Need-part-put-bytes-start
-part-put-bytes-start c = search needs
-
-part-put-bytes-end : tie.Need-part-put-bytes-end
-part-put-bytes-end c = search needs
-
-slice-aggregate-put-bytes : tie.Need-slice-aggregate-put-bytes
-slice-aggregate-put-bytes c = search needs
-
-put-bytes-requires : tie.Need-put-bytes-requires
-put-bytes-requires c κs = search needs
-
-add-k : tie.Need-add-k
-add-k c = search needs
-
 sub-put-spaces : tie.Need-sub-put-spaces
 sub-put-spaces c = within (emits1 (c .before .before))
 
 part-put-spaces-start : tie.Need-part-put-spaces-start
 part-put-spaces-start c = within (emits1 (c .before .before))
-
-part-put-spaces-end : tie.Need-part-put-spaces-end
-part-put-spaces-end c = search needs
-
-put-spaces-requires : tie.Need-put-spaces-requires
-put-spaces-requires c κs = search needs
 
 add-k-2 : tie.Need-add-k-2
 add-k-2 c = small (emits2 (c .before .before)) (omega arith)
@@ -142,20 +108,8 @@ sub-put-bytes-2 c = within (emits2 (c .before .before))
 part-put-bytes-start-2 : tie.Need-part-put-bytes-start-2
 part-put-bytes-start-2 c = within (emits2 (c .before .before))
 
-part-put-bytes-end-2 : tie.Need-part-put-bytes-end-2
-part-put-bytes-end-2 c = search needs
-
-slice-aggregate-put-bytes-2 : tie.Need-slice-aggregate-put-bytes-2
-slice-aggregate-put-bytes-2 c = search needs
-
-put-bytes-requires-2 : tie.Need-put-bytes-requires-2
-put-bytes-requires-2 c κs = search needs
-
 add-k-3 : tie.Need-add-k-3
 add-k-3 c = small (emits3 (c .before .before)) (omega arith)
-
-same-length : tie.Need-same-length
-same-length c = search needs
 
 returns-3 : tie.Need-returns-3
 returns-3 c = emitted (emits3 (c .before .before)) refl
@@ -164,26 +118,26 @@ pub put-line-header-spec : {M : Type 1} → statement M
 put-line-header-spec =
     tie.close
     (tie.spec
-    minus-requires
+    (λ c κs. search needs)
     returns
-    sub-if2
+    (λ c. search needs)
     returns-2
-    sub-put-bytes
-    part-put-bytes-start
-    part-put-bytes-end
-    slice-aggregate-put-bytes
-    put-bytes-requires
-    add-k
+    (λ c. search needs)
+    (λ c. search needs)
+    (λ c. search needs)
+    (λ c. search needs)
+    (λ c κs. search needs)
+    (λ c. search needs)
     sub-put-spaces
     part-put-spaces-start
-    part-put-spaces-end
-    put-spaces-requires
+    (λ c. search needs)
+    (λ c κs. search needs)
     add-k-2
     sub-put-bytes-2
     part-put-bytes-start-2
-    part-put-bytes-end-2
-    slice-aggregate-put-bytes-2
-    put-bytes-requires-2
+    (λ c. search needs)
+    (λ c. search needs)
+    (λ c κs. search needs)
     add-k-3
-    same-length
+    (λ c. search needs)
     returns-3)

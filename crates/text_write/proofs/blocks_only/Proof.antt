@@ -1,10 +1,10 @@
 -- Record by record. Assumes nothing.
 use borrow.Author.Needs.{needs}
 use native.Mathlib.Omega.{arith}
-use mathlib.Core.Path.{_≡_, refl, sym, ap, subst, _∙_}
-use mathlib.Core.Bool.{Bool, true, false, not, _||_}
+use mathlib.Core.Path.{_≡_, sym, ap, _∙_}
+use mathlib.Core.Bool.{not, _||_}
 use mathlib.Core.List.{List}
-use Prim.Native.Nat.{ℕ, _+_, _-_, _≤_, _<_}
+use Prim.Native.Nat.{ℕ, _-_}
 use lib.ListN.{length}
 use lib.Dec.{eqb}
 use denote.Ref.{now}
@@ -13,9 +13,6 @@ use Rattle.object.specs.Access.{kindAt}
 use Rattle.source_info.proofs.RecordLaws.{Left}
 use Rattle.text_write.specs.Tables.{objectIn}
 use Rattle.text_write.proofs.OnlyLaws.{only-start, only-end, only-not, only-on, only-less}
-use Rattle.object.proofs.body_end.Reads as body-end-reads
-use Rattle.object.proofs.kind.Reads as kind-reads
-use Rattle.text_write.proofs.is_symbolic.Reads as is-symbolic-reads
 use Rattle.text_write.proofs.blocks_only.Statement.{statement}
 use Rattle.text_write.proofs.blocks_only.Tie as tie
 

@@ -1,22 +1,18 @@
 -- Address, count, and five bytes for each word. Assumes nothing.
 use borrow.Author.Needs.{needs}
 use native.Mathlib.Omega.{arith}
-use mathlib.Core.Path.{_≡_, refl, sym, ap, subst, _∙_}
-use mathlib.Core.List.{List, [], _∷_, _++_}
-use Prim.Native.Nat.{ℕ, _+_, _-_, _*_, _%_, _≤_, _<_}
-use lib.ListN.{length, getD}
+use mathlib.Core.Path.{_≡_, sym, ap, _∙_}
+use Prim.Native.Nat.{ℕ, _+_, _-_, _*_}
+use lib.ListN.{length}
 use denote.Ref.{now}
 use Rattle.object.specs.Bodies.{bodyAt}
 use mathlib.Core.Option.{some}
 use Rattle.format.specs.TextWriter.{decimal}
 use Rattle.object.specs.Access.{kindAt}
-use Rattle.measuring.specs.Room.{less, lessPart}
+use Rattle.measuring.specs.Room.{lessPart}
 use Rattle.measuring.proofs.RoomLaws.{less-some, less-none, less-nothing}
 use Rattle.text_write.specs.Tables.{blockPart}
 use Rattle.text_write.proofs.PartLaws.{block-other, block-size, decimal-short}
-use Rattle.object.proofs.body_len.Reads as body-len-reads
-use Rattle.object.proofs.kind.Reads as kind-reads
-use Rattle.text_numerals.proofs.count_digits.Reads as count-digits-reads
 use Rattle.text_write.proofs.measure_block.Statement.{statement}
 use Rattle.text_write.proofs.measure_block.Tie as tie
 
@@ -33,30 +29,12 @@ size c =
     ∙ ap (λ (k : ℕ). length (decimal k)) n in
     omega (arith, block-size (now (a .ws)) (a .at) e, n, d)
 
-mul-kind : tie.Need-mul-kind
-mul-kind c = search needs
-
-shared-slice-read-kind : tie.Need-shared-slice-read-kind
-shared-slice-read-kind c = search needs
-
-kind-requires : tie.Need-kind-requires
-kind-requires c κs = search needs
-
 returns : tie.Need-returns
 returns c =
     let s = c .before .before .before .before in
     less-nothing (s .args .room)
     ∙ ap (lessPart (s .args .room))
     (sym (block-other (now (s .args .ws)) (s .args .at) (λ z. c .if1 .taken (c .before .kind .ensures ∙ z))))
-
-add-body-len : tie.Need-add-body-len
-add-body-len c = search needs
-
-body-len-requires : tie.Need-body-len-requires
-body-len-requires c κs = search needs
-
-count-digits-requires : tie.Need-count-digits-requires
-count-digits-requires c κs = search needs
 
 add-head : tie.Need-add-head
 add-head c = record { fits = omega (arith, c .count-digits .ensures, decimal-short (c .before .body-len .result)) }
@@ -66,12 +44,6 @@ returns-2 c = less-none _ _ (omega (arith, size (c .before), c .if2 .taken))
 
 returns-3 : tie.Need-returns-3
 returns-3 c = less-none _ _ (omega (arith, size (c .before .before), c .before .if2 .left, c .if3 .taken))
-
-mul-t8 : tie.Need-mul-t8
-mul-t8 c = search needs
-
-sub-t13 : tie.Need-sub-t13
-sub-t13 c = search needs
 
 returns-4 : tie.Need-returns-4
 returns-4 c = let d = c .before .before in
@@ -85,16 +57,16 @@ pub measure-block-spec : {M : Type 1} → statement M
 measure-block-spec =
     tie.close
     (tie.spec
-    mul-kind
-    shared-slice-read-kind
-    kind-requires
+    (λ c. search needs)
+    (λ c. search needs)
+    (λ c κs. search needs)
     returns
-    add-body-len
-    body-len-requires
-    count-digits-requires
+    (λ c. search needs)
+    (λ c κs. search needs)
+    (λ c κs. search needs)
     add-head
     returns-2
     returns-3
-    mul-t8
-    sub-t13
+    (λ c. search needs)
+    (λ c. search needs)
     returns-4)

@@ -1,20 +1,17 @@
 -- Record by record. Assumes nothing.
 use borrow.Author.Needs.{needs}
 use native.Mathlib.Omega.{arith}
-use mathlib.Core.Path.{_≡_, refl, sym, ap, subst, _∙_}
-use mathlib.Core.List.{List, [], _∷_, _++_}
-use Prim.Native.Nat.{ℕ, _+_, _-_, _*_, _%_, _≤_, _<_}
-use lib.ListN.{length, getD}
+use mathlib.Core.Path.{_≡_, refl, sym, ap, _∙_}
+use mathlib.Core.List.{List, _++_}
+use Prim.Native.Nat.{ℕ, _+_, _-_}
+use lib.ListN.{length}
 use denote.Ref.{now}
-use Rattle.object.specs.Bodies.{bodyAt}
 use Rattle.source_info.proofs.RecordLaws.{Left}
-use Rattle.measuring.specs.Room.{roomOf, less, lessPart}
+use Rattle.measuring.specs.Room.{roomOf, lessPart}
 use Rattle.measuring.proofs.RoomLaws.{less-nothing, part-fits, part-short}
 use Rattle.text_write.specs.Tables.{blockTable, blocksText, blockPart}
 use Rattle.text_write.proofs.PartLaws.{blocks-walk}
 use Rattle.text_write.proofs.WalkLaws.{past, walk-start, walk-end, walk-part, walk-on, walk-less}
-use Rattle.object.proofs.body_end.Reads as body-end-reads
-use Rattle.text_write.proofs.measure_block.Reads as measure-block-reads
 use Rattle.text_write.proofs.measure_blocks.Statement.{statement}
 use Rattle.text_write.proofs.measure_blocks.Tie as tie
 
@@ -50,12 +47,6 @@ loop-holds c = (_, walk-start blockTable blockPart blocks-walk (now (c .before .
 measure-block-requires : tie.Need-measure-block-requires Inv-loop μ-loop
 measure-block-requires c κs = c .loop-test .taken
 
-enum-known-rest : tie.Need-enum-known-rest Inv-loop μ-loop
-enum-known-rest c = search needs
-
-enum-told : tie.Need-enum-told Inv-loop μ-loop
-enum-told c = search needs
-
 returns : tie.Need-returns Inv-loop μ-loop
 returns c =
     let l = c .before .before .before in
@@ -65,9 +56,6 @@ returns c =
 
 add-body-end : tie.Need-add-body-end Inv-loop μ-loop
 add-body-end c = omega (arith, c .before .before .before .before .loop-test .taken)
-
-body-end-requires : tie.Need-body-end-requires Inv-loop μ-loop
-body-end-requires c κs = search needs
 
 loop-less : tie.Need-loop-less Inv-loop μ-loop
 loop-less c =
@@ -103,11 +91,11 @@ measure-blocks-spec =
     μ-loop
     loop-holds
     measure-block-requires
-    enum-known-rest
-    enum-told
+    (λ c. search needs)
+    (λ c. search needs)
     returns
     add-body-end
-    body-end-requires
+    (λ c κs. search needs)
     loop-less
     loop-again
     returns-2)

@@ -1,20 +1,17 @@
 -- Record by record. Assumes nothing.
 use borrow.Author.Needs.{needs}
 use native.Mathlib.Omega.{arith}
-use mathlib.Core.Path.{_≡_, refl, sym, ap, subst, _∙_}
-use mathlib.Core.List.{List, [], _∷_, _++_}
-use Prim.Native.Nat.{ℕ, _+_, _-_, _*_, _%_, _≤_, _<_}
-use lib.ListN.{length, getD}
+use mathlib.Core.Path.{_≡_, refl, sym, ap, _∙_}
+use mathlib.Core.List.{List, _++_}
+use Prim.Native.Nat.{ℕ, _+_, _-_}
+use lib.ListN.{length}
 use denote.Ref.{now}
-use Rattle.object.specs.Bodies.{bodyAt}
 use Rattle.source_info.proofs.RecordLaws.{Left}
-use Rattle.measuring.specs.Room.{roomOf, less, lessPart}
+use Rattle.measuring.specs.Room.{roomOf, lessPart}
 use Rattle.measuring.proofs.RoomLaws.{less-nothing, part-fits, part-short}
 use Rattle.text_write.specs.Tables.{relocationRows, relocationsText, relocationPart}
 use Rattle.text_write.proofs.PartLaws.{relocations-walk, relocation-name}
 use Rattle.text_write.proofs.WalkLaws.{past, walk-start, walk-end, walk-part, walk-on, walk-less}
-use Rattle.object.proofs.body_end.Reads as body-end-reads
-use Rattle.text_write.proofs.measure_relocation.Reads as measure-relocation-reads
 use Rattle.text_write.proofs.measure_relocations.Statement.{statement}
 use Rattle.text_write.proofs.measure_relocations.Tie as tie
 
@@ -51,12 +48,6 @@ measure-relocation-requires : tie.Need-measure-relocation-requires Inv-loop μ-l
 measure-relocation-requires c κs =
     (c .loop-test .taken, relocation-name (ws c) relocationRows (at c) (old c) (c .loop-test .taken) (c .before .loop .inv .1))
 
-enum-known-rest : tie.Need-enum-known-rest Inv-loop μ-loop
-enum-known-rest c = search needs
-
-enum-told : tie.Need-enum-told Inv-loop μ-loop
-enum-told c = search needs
-
 returns : tie.Need-returns Inv-loop μ-loop
 returns c =
     let l = c .before .before .before in
@@ -66,9 +57,6 @@ returns c =
 
 add-body-end : tie.Need-add-body-end Inv-loop μ-loop
 add-body-end c = omega (arith, c .before .before .before .before .loop-test .taken)
-
-body-end-requires : tie.Need-body-end-requires Inv-loop μ-loop
-body-end-requires c κs = search needs
 
 loop-less : tie.Need-loop-less Inv-loop μ-loop
 loop-less c =
@@ -104,11 +92,11 @@ measure-relocations-spec =
     μ-loop
     loop-holds
     measure-relocation-requires
-    enum-known-rest
-    enum-told
+    (λ c. search needs)
+    (λ c. search needs)
     returns
     add-body-end
-    body-end-requires
+    (λ c κs. search needs)
     loop-less
     loop-again
     returns-2)

@@ -1,9 +1,9 @@
 -- Three parts. Assumes nothing.
 use borrow.Author.Needs.{needs}
 use native.Mathlib.Omega.{arith}
-use mathlib.Core.Path.{_≡_, refl, sym, ap, subst, _∙_}
-use mathlib.Core.List.{List, [], _∷_, _++_, append-nil}
-use Prim.Native.Nat.{ℕ, _+_, _-_, _*_, _%_, _≤_, _<_}
+use mathlib.Core.Path.{_≡_, refl, sym, subst, _∙_}
+use mathlib.Core.List.{List, [], _++_, append-nil}
+use Prim.Native.Nat.{ℕ, _+_, _-_}
 use lib.ListN.{length, getD}
 use denote.Ref.{now}
 use Rattle.object.specs.Bodies.{bodyAt}
@@ -13,12 +13,8 @@ use Rattle.writing.specs.Written.{Put}
 use Rattle.writing.proofs.Parts.{State, Emits, rest, after, begin, emit, emitted, within, small}
 use Rattle.text_write.specs.Tables.{memoryLines, blockPart}
 use Rattle.text_escape.proofs.EscapeLaws.{part-room}
-use Rattle.text_write.proofs.PartLaws.{block-other, block-parts, nothing-put}
-use Rattle.object.proofs.body_len.Reads as body-len-reads
-use Rattle.object.proofs.kind.Reads as kind-reads
-use Rattle.text_rows_out.proofs.put_address_line.Reads as put-address-line-reads
-use Rattle.text_rows_out.proofs.put_count_line.Reads as put-count-line-reads
-use Rattle.text_write.proofs.put_memory_lines.Reads as put-memory-lines-reads
+use Rattle.text_write.proofs.PartLaws.{block-other, block-parts}
+use Rattle.text_lines_out.proofs.BlockLaws.{nothing-put}
 use Rattle.text_write.proofs.put_block.Statement.{statement}
 use Rattle.text_write.proofs.put_block.Tie as tie
 
@@ -89,55 +85,16 @@ emits3 c =
     emit (emits2 (c .before .before .before .before)) (memoryLines (bodyAt (now (t .args .ws)) (t .args .at + 1))) (left3 t)
     (sym (append-nil _)) (c .put-memory-lines .ensures)
 
-mul-w : tie.Need-mul-w
-mul-w c = search needs
-
-shared-slice-read-w : tie.Need-shared-slice-read-w
-shared-slice-read-w c = search needs
-
-kind-requires : tie.Need-kind-requires
-kind-requires c κs = search needs
-
 returns : tie.Need-returns
 returns c =
     let s = c .before .before .before .before .before in
     nothing-put _ (block-other (now (s .args .ws)) (s .args .at) (λ z. c .if1 .taken (c .before .kind .ensures ∙ z)))
-
-add-body : tie.Need-add-body
-add-body c = search needs
-
-body-len-requires : tie.Need-body-len-requires
-body-len-requires c κs = search needs
-
-sub-put-address-line : tie.Need-sub-put-address-line
-sub-put-address-line c = search needs
-
-part-put-address-line-start : tie.Need-part-put-address-line-start
-part-put-address-line-start c = search needs
-
-part-put-address-line-end : tie.Need-part-put-address-line-end
-part-put-address-line-end c = search needs
-
-cast-put-address-line : tie.Need-cast-put-address-line
-cast-put-address-line c = search needs
-
-put-address-line-requires : tie.Need-put-address-line-requires
-put-address-line-requires c κs = search needs
-
-add-n : tie.Need-add-n
-add-n c = search needs
 
 sub-put-count-line : tie.Need-sub-put-count-line
 sub-put-count-line c = within (emits1 (c .before .before))
 
 part-put-count-line-start : tie.Need-part-put-count-line-start
 part-put-count-line-start c = within (emits1 (c .before .before))
-
-part-put-count-line-end : tie.Need-part-put-count-line-end
-part-put-count-line-end c = search needs
-
-put-count-line-requires : tie.Need-put-count-line-requires
-put-count-line-requires c κs = search needs
 
 add-n-2 : tie.Need-add-n-2
 add-n-2 c = small (emits2 (c .before .before)) (omega arith)
@@ -148,17 +105,11 @@ sub-put-memory-lines c = within (emits2 (c .before .before))
 part-put-memory-lines-start : tie.Need-part-put-memory-lines-start
 part-put-memory-lines-start c = within (emits2 (c .before .before))
 
-part-put-memory-lines-end : tie.Need-part-put-memory-lines-end
-part-put-memory-lines-end c = search needs
-
 put-memory-lines-requires : tie.Need-put-memory-lines-requires
 put-memory-lines-requires c κs = let k = c .before .before .before in part-room (emits2 k) (left2 (start2 k)) [] (sym (append-nil _))
 
 add-n-3 : tie.Need-add-n-3
 add-n-3 c = small (emits3 (c .before .before)) (omega arith)
-
-same-length : tie.Need-same-length
-same-length c = search needs
 
 returns-2 : tie.Need-returns-2
 returns-2 c = emitted (emits3 (c .before .before)) refl
@@ -167,27 +118,27 @@ pub put-block-spec : {M : Type 1} → statement M
 put-block-spec =
     tie.close
     (tie.spec
-    mul-w
-    shared-slice-read-w
-    kind-requires
+    (λ c. search needs)
+    (λ c. search needs)
+    (λ c κs. search needs)
     returns
-    add-body
-    body-len-requires
-    sub-put-address-line
-    part-put-address-line-start
-    part-put-address-line-end
-    cast-put-address-line
-    put-address-line-requires
-    add-n
+    (λ c. search needs)
+    (λ c κs. search needs)
+    (λ c. search needs)
+    (λ c. search needs)
+    (λ c. search needs)
+    (λ c. search needs)
+    (λ c κs. search needs)
+    (λ c. search needs)
     sub-put-count-line
     part-put-count-line-start
-    part-put-count-line-end
-    put-count-line-requires
+    (λ c. search needs)
+    (λ c κs. search needs)
     add-n-2
     sub-put-memory-lines
     part-put-memory-lines-start
-    part-put-memory-lines-end
+    (λ c. search needs)
     put-memory-lines-requires
     add-n-3
-    same-length
+    (λ c. search needs)
     returns-2)

@@ -1,20 +1,17 @@
 -- Record by record. Assumes nothing.
 use borrow.Author.Needs.{needs}
 use native.Mathlib.Omega.{arith}
-use mathlib.Core.Path.{_≡_, refl, sym, ap, subst, _∙_}
-use mathlib.Core.List.{List, [], _∷_, _++_}
-use Prim.Native.Nat.{ℕ, _+_, _-_, _*_, _%_, _≤_, _<_}
-use lib.ListN.{length, getD}
+use mathlib.Core.Path.{_≡_}
+use mathlib.Core.List.{List, _++_}
+use Prim.Native.Nat.{ℕ, _+_, _-_}
+use lib.ListN.{length}
 use denote.Ref.{now}
-use Rattle.object.specs.Bodies.{bodyAt}
-use Rattle.writing.proofs.Parts.{State, Emits, after, begin, emit, emitted, within, small, same}
+use Rattle.writing.proofs.Parts.{Emits, after, begin, emit, emitted, within, small, same}
 use Rattle.source_info.proofs.RecordLaws.{Left}
 use Rattle.text_write.specs.Tables.{blockTable, blocksText, blockPart}
 use Rattle.text_escape.proofs.EscapeLaws.{part-room}
 use Rattle.text_write.proofs.PartLaws.{blocks-walk}
 use Rattle.text_write.proofs.WalkLaws.{past, walk-start, walk-end, walk-part, walk-on, walk-less}
-use Rattle.object.proofs.body_end.Reads as body-end-reads
-use Rattle.text_write.proofs.put_block.Reads as put-block-reads
 use Rattle.text_write.proofs.put_blocks.Statement.{statement}
 use Rattle.text_write.proofs.put_blocks.Tie as tie
 
@@ -65,9 +62,6 @@ sub-put-block c = within (c .before .loop .inv .2)
 part-put-block-start : tie.Need-part-put-block-start Inv-loop μ-loop
 part-put-block-start c = within (c .before .loop .inv .2)
 
-part-put-block-end : tie.Need-part-put-block-end Inv-loop μ-loop
-part-put-block-end c = search needs
-
 put-block-requires : tie.Need-put-block-requires Inv-loop μ-loop
 put-block-requires c κs =
     let l = c .before in
@@ -78,9 +72,6 @@ add-n c = small (emits (c .before .before)) (omega arith)
 
 add-body-end : tie.Need-add-body-end Inv-loop μ-loop
 add-body-end c = omega (arith, c .before .before .before .before .loop-test .taken)
-
-body-end-requires : tie.Need-body-end-requires Inv-loop μ-loop
-body-end-requires c κs = search needs
 
 loop-less : tie.Need-loop-less Inv-loop μ-loop
 loop-less c =
@@ -115,11 +106,11 @@ put-blocks-spec =
     loop-holds
     sub-put-block
     part-put-block-start
-    part-put-block-end
+    (λ c. search needs)
     put-block-requires
     add-n
     add-body-end
-    body-end-requires
+    (λ c κs. search needs)
     loop-less
     loop-again
     same-length

@@ -1,7 +1,6 @@
 -- The two parts of the groups, if there are any. Assumes nothing.
 use borrow.Author.Needs.{needs}
-use native.Mathlib.Omega.{arith}
-use mathlib.Core.Path.{_≡_, refl, sym, ap, _∙_}
+use mathlib.Core.Path.{_≡_, refl, sym, _∙_}
 use mathlib.Core.List.{List, [], _++_, append-nil}
 use Prim.Native.Nat.{ℕ, _^_, _<_}
 use lib.ListN.{length}
@@ -10,7 +9,7 @@ use Rattle.writing.proofs.Parts.{State, Emits, after, begin, emit, emitted, wit
 use Rattle.text_escape.proofs.EscapeLaws.{part-room}
 use Rattle.text_write.specs.Tables.{objectIn}
 use Rattle.text_write.specs.Groups.{namesText, debugText, groupsText}
-use Rattle.text_write.proofs.PartLaws.{nothing-put}
+use Rattle.text_lines_out.proofs.BlockLaws.{nothing-put}
 use Rattle.text_write.proofs.GroupLaws.{groups-none, groups-some}
 use Rattle.text_write.proofs.put_groups.Statement.{statement}
 use Rattle.text_write.proofs.put_groups.Tie as tie

@@ -1,6 +1,5 @@
 -- The header, then the rows. Assumes nothing.
 use borrow.Author.Needs.{needs}
-use native.Mathlib.Omega.{arith}
 use mathlib.Core.Path.{_≡_, refl, sym, ap, _∙_}
 use mathlib.Core.Bool.{not}
 use mathlib.Core.List.{List, [], _++_, append-nil}
@@ -13,7 +12,7 @@ use Rattle.writing.proofs.Parts.{State, Emits, after, begin, emit, emitted, wit
 use Rattle.text_escape.proofs.EscapeLaws.{part-room}
 use Rattle.text_write.specs.Tables.{objectIn, relocationRows, relocationsText}
 use Rattle.text_write.specs.Groups.{linkerText}
-use Rattle.text_write.proofs.PartLaws.{nothing-put}
+use Rattle.text_lines_out.proofs.BlockLaws.{nothing-put}
 use Rattle.text_write.proofs.GroupLaws.{not-not, linker-none, linker-some}
 use Rattle.text_write.proofs.put_linker.Statement.{statement}
 use Rattle.text_write.proofs.put_linker.Tie as tie

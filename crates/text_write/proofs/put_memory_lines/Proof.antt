@@ -1,20 +1,18 @@
 -- A word a turn. Assumes nothing.
 use borrow.Author.Needs.{needs}
 use native.Mathlib.Omega.{arith}
-use mathlib.Core.Path.{_≡_, refl, sym, ap, subst, _∙_}
-use mathlib.Core.List.{List, [], _∷_, _++_}
-use Prim.Native.Nat.{ℕ, _+_, _-_, _*_, _%_, _≤_, _<_}
+use mathlib.Core.Path.{_≡_, sym, ap, _∙_}
+use mathlib.Core.List.{List, _∷_, _++_}
+use Prim.Native.Nat.{ℕ, _+_, _-_, _<_}
 use lib.ListN.{length, getD}
 use denote.Ref.{now}
 use Rattle.object.specs.Bodies.{bodyAt}
-use Rattle.writing.proofs.Parts.{State, Emits, after, begin, emit, emitted, within, small, same}
+use Rattle.writing.proofs.Parts.{Emits, after, begin, emit, emitted, within, small, same}
 use Rattle.format.specs.TextWriter.{memoryText, textLine}
 use Rattle.object.specs.Access.{memoryIn}
 use Rattle.object.proofs.BodyLaws.{goes, stops}
 use Rattle.text_write.specs.Tables.{memoryLines}
 use Rattle.text_write.proofs.PartLaws.{memory-next, memory-none}
-use Rattle.object.proofs.goes_on.Reads as goes-on-reads
-use Rattle.text_rows_out.proofs.put_memory_line.Reads as put-memory-line-reads
 use Rattle.text_write.proofs.put_memory_lines.Statement.{statement}
 use Rattle.text_write.proofs.put_memory_lines.Tie as tie
 
@@ -53,26 +51,17 @@ emits c = let k = c .before .before .before in emit (k .before .before .loop .in
 loop-holds : tie.Need-loop-holds Inv-loop μ-loop
 loop-holds c = begin _ _ (c .before .before .pre)
 
-goes-on-requires : tie.Need-goes-on-requires Inv-loop μ-loop
-goes-on-requires c κs = search needs
-
 sub-put-memory-line : tie.Need-sub-put-memory-line Inv-loop μ-loop
 sub-put-memory-line c = within (c .before .before .loop .inv)
 
 part-put-memory-line-start : tie.Need-part-put-memory-line-start Inv-loop μ-loop
 part-put-memory-line-start c = within (c .before .before .loop .inv)
 
-part-put-memory-line-end : tie.Need-part-put-memory-line-end Inv-loop μ-loop
-part-put-memory-line-end c = search needs
-
 mul-put-memory-line : tie.Need-mul-put-memory-line Inv-loop μ-loop
 mul-put-memory-line c = let h = going (c .before) .0 in search needs
 
 shared-slice-read-put-memory-line : tie.Need-shared-slice-read-put-memory-line Inv-loop μ-loop
 shared-slice-read-put-memory-line c = omega (arith, going (c .before .before) .0)
-
-put-memory-line-requires : tie.Need-put-memory-line-requires Inv-loop μ-loop
-put-memory-line-requires c κs = search needs
 
 add-n : tie.Need-add-n Inv-loop μ-loop
 add-n c = small (emits (c .before .before)) (omega arith)
@@ -101,13 +90,13 @@ put-memory-lines-spec =
     Inv-loop
     μ-loop
     loop-holds
-    goes-on-requires
+    (λ c κs. search needs)
     sub-put-memory-line
     part-put-memory-line-start
-    part-put-memory-line-end
+    (λ c. search needs)
     mul-put-memory-line
     shared-slice-read-put-memory-line
-    put-memory-line-requires
+    (λ c κs. search needs)
     add-n
     add-i
     loop-less

@@ -1,19 +1,16 @@
 -- Record by record. Assumes nothing.
 use borrow.Author.Needs.{needs}
 use native.Mathlib.Omega.{arith}
-use mathlib.Core.Path.{_≡_, refl, sym, ap, subst, _∙_}
-use mathlib.Core.List.{List, [], _∷_, _++_}
-use Prim.Native.Nat.{ℕ, _+_, _-_, _*_, _%_, _≤_, _<_}
-use lib.ListN.{length, getD}
+use mathlib.Core.Path.{_≡_}
+use mathlib.Core.List.{List, _++_}
+use Prim.Native.Nat.{ℕ, _+_, _-_}
+use lib.ListN.{length}
 use denote.Ref.{now}
-use Rattle.object.specs.Bodies.{bodyAt}
-use Rattle.writing.proofs.Parts.{State, Emits, after, begin, emit, emitted, within, small, same}
+use Rattle.writing.proofs.Parts.{Emits, after, begin, emit, emitted, within, small, same}
 use Rattle.source_info.proofs.RecordLaws.{Left}
 use Rattle.text_write.specs.Tables.{relocationRows, relocationsText, relocationPart}
 use Rattle.text_write.proofs.PartLaws.{relocations-walk, relocation-name}
 use Rattle.text_write.proofs.WalkLaws.{past, walk-start, walk-end, walk-part, walk-on, walk-less}
-use Rattle.object.proofs.body_end.Reads as body-end-reads
-use Rattle.text_write.proofs.put_relocation.Reads as put-relocation-reads
 use Rattle.text_write.proofs.put_relocations.Statement.{statement}
 use Rattle.text_write.proofs.put_relocations.Tie as tie
 
@@ -67,9 +64,6 @@ sub-put-relocation c = within (c .before .loop .inv .2)
 part-put-relocation-start : tie.Need-part-put-relocation-start Inv-loop μ-loop
 part-put-relocation-start c = within (c .before .loop .inv .2)
 
-part-put-relocation-end : tie.Need-part-put-relocation-end Inv-loop μ-loop
-part-put-relocation-end c = search needs
-
 put-relocation-requires : tie.Need-put-relocation-requires Inv-loop μ-loop
 put-relocation-requires c κs =
     let l = c .before in
@@ -80,9 +74,6 @@ add-n c = small (emits (c .before .before)) (omega arith)
 
 add-body-end : tie.Need-add-body-end Inv-loop μ-loop
 add-body-end c = omega (arith, c .before .before .before .before .loop-test .taken)
-
-body-end-requires : tie.Need-body-end-requires Inv-loop μ-loop
-body-end-requires c κs = search needs
 
 loop-less : tie.Need-loop-less Inv-loop μ-loop
 loop-less c =
@@ -117,11 +108,11 @@ put-relocations-spec =
     loop-holds
     sub-put-relocation
     part-put-relocation-start
-    part-put-relocation-end
+    (λ c. search needs)
     put-relocation-requires
     add-n
     add-body-end
-    body-end-requires
+    (λ c κs. search needs)
     loop-less
     loop-again
     same-length

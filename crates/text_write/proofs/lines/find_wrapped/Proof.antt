@@ -2,8 +2,8 @@
 use borrow.Author.Needs.{needs}
 use native.Mathlib.Omega.{arith}
 use mathlib.Core.Path.{_≡_, refl, sym, ap, subst, _∙_}
-use mathlib.Core.List.{List, []}
-use Prim.Native.Nat.{ℕ, _+_, _-_, _≤_, _<_}
+use mathlib.Core.List.{List}
+use Prim.Native.Nat.{ℕ, _-_, _<_}
 use lib.ListN.{length}
 use denote.Ref.{now}
 use Rattle.format.specs.ObjectFile.{LineBlock}
@@ -24,8 +24,6 @@ use Rattle.text_lines_out.proofs.TableLaws.{
   wrapped-nothing,
   none-here,
 }
-use Rattle.object.proofs.body_end.Reads as body-end-reads
-use Rattle.text_write.proofs.lines.wrapped_at.Reads as wrapped-at-reads
 use Rattle.text_write.proofs.lines.find_wrapped.Statement.{statement}
 use Rattle.text_write.proofs.lines.find_wrapped.Tie as tie
 
@@ -73,9 +71,6 @@ returns c =
 add-body-end : tie.Need-add-body-end Inv-loop μ-loop
 add-body-end c = omega (arith, c .before .before .before .loop-test .taken)
 
-body-end-requires : tie.Need-body-end-requires Inv-loop μ-loop
-body-end-requires c κs = search needs
-
 loop-less : tie.Need-loop-less Inv-loop μ-loop
 loop-less c =
     let l = c .before .before .before .before in
@@ -112,7 +107,7 @@ find-wrapped-spec =
     wrapped-at-requires
     returns
     add-body-end
-    body-end-requires
+    (λ c κs. search needs)
     loop-less
     loop-again
     returns-2)

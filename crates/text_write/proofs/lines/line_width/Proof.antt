@@ -1,21 +1,18 @@
 -- Record by record. Assumes nothing.
 use borrow.Author.Needs.{needs}
 use native.Mathlib.Omega.{arith}
-use mathlib.Core.Path.{_≡_, refl, sym, ap, subst, _∙_}
-use mathlib.Core.List.{List, []}
-use Prim.Native.Nat.{ℕ, _+_, _-_, _≤_, _<_, max}
+use mathlib.Core.Path.{_≡_, refl, sym, ap, _∙_}
+use mathlib.Core.List.{List}
+use Prim.Native.Nat.{ℕ, _-_, max}
 use lib.ListN.{length}
 use denote.Ref.{now}
 use Rattle.format.specs.ObjectFile.{LineBlock}
 use Rattle.format.specs.TextWriter.{decimal, addBlocks, plainRows, lineWidth}
 use Rattle.source_info.proofs.RecordLaws.{Left}
-use Rattle.text_lines_out.specs.Walk.{lineBlocksIn, topAt, blocksTop}
+use Rattle.text_lines_out.specs.Walk.{lineBlocksIn, blocksTop}
 use Rattle.text_lines_out.proofs.MergeLaws.{Apart}
 use Rattle.text_lines_out.proofs.BlockLaws.{lineBlocksOf}
 use Rattle.text_lines_out.proofs.TableLaws.{Steps, steps, blocks-start, blocks-end, blocks-less, top-on, top-end, width-is}
-use Rattle.object.proofs.body_end.Reads as body-end-reads
-use Rattle.text_numerals.proofs.count_digits.Reads as count-digits-reads
-use Rattle.text_write.proofs.lines.top_at.Reads as top-at-reads
 use Rattle.text_write.proofs.lines.line_width.Statement.{statement}
 use Rattle.text_write.proofs.lines.line_width.Tie as tie
 
@@ -57,9 +54,6 @@ module _ (c : tie.After-count-digits Inv-loop μ-loop) where
       (o .loop .inv .2))) ∙ top-end (o .loop .top))
       ∙ ap (λ (x : ℕ). max x 4) (sym (c .count-digits .ensures))
 
-sub-top : tie.Need-sub-top Inv-loop μ-loop
-sub-top c = search needs
-
 loop-holds : tie.Need-loop-holds Inv-loop μ-loop
 loop-holds c =
     let w = now (c .before .args .ws) in
@@ -71,9 +65,6 @@ top-at-requires c κs = c .loop-test .taken
 
 add-body-end : tie.Need-add-body-end Inv-loop μ-loop
 add-body-end c = omega (arith, c .before .loop-test .taken)
-
-body-end-requires : tie.Need-body-end-requires Inv-loop μ-loop
-body-end-requires c κs = search needs
 
 loop-less : tie.Need-loop-less Inv-loop μ-loop
 loop-less c =
@@ -91,9 +82,6 @@ loop-again c = let l = c .before .before in (
       ∙ l .before .loop .inv .4,
 )
 
-count-digits-requires : tie.Need-count-digits-requires Inv-loop μ-loop
-count-digits-requires c κs = search needs
-
 returns : tie.Need-returns Inv-loop μ-loop
 returns c =
     let d = c .before in
@@ -110,13 +98,13 @@ line-width-spec =
     (tie.spec
     Inv-loop
     μ-loop
-    sub-top
+    (λ c. search needs)
     loop-holds
     top-at-requires
     add-body-end
-    body-end-requires
+    (λ c κs. search needs)
     loop-less
     loop-again
-    count-digits-requires
+    (λ c κs. search needs)
     returns
     returns-2)

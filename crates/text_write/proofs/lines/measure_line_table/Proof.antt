@@ -3,10 +3,9 @@ use borrow.Author.Needs.{needs}
 use native.Mathlib.Omega.{arith}
 use mathlib.Core.Path.{_≡_, refl, sym, ap, subst, _∙_}
 use mathlib.Core.Bool.{true}
-use mathlib.Core.List.{List, [], _∷_, _++_}
-use mathlib.Core.Option.{Option, none, some}
-use Prim.Native.Nat.{ℕ, _+_, _-_, _*_, _^_, _≤_, _<_}
-use lib.ListN.{length}
+use mathlib.Core.List.{List, _++_}
+use mathlib.Core.Option.{some}
+use Prim.Native.Nat.{ℕ, _+_, _-_, _^_, _≤_}
 use denote.Ref.{now}
 use Rattle.format.specs.TextWriter.{lineTable, lineHeader, textLine}
 use Rattle.object.specs.Texts.{textBytes}
@@ -18,11 +17,6 @@ use Rattle.text_lines_out.specs.Walk.{walkRows, lineBlocksIn}
 use Rattle.text_lines_out.specs.declared.Wrapped.{Wrapped}
 use Rattle.text_lines_out.proofs.LineLaws.{at-start}
 use Rattle.text_lines_out.proofs.TableLaws.{table-parts, wrapped-passed, some-lines}
-use Rattle.text_write.proofs.lines.find_wrapped.Reads as find-wrapped-reads
-use Rattle.text_write.proofs.lines.line_width.Reads as line-width-reads
-use Rattle.text_lines_out.proofs.measure_line_header.Reads as measure-line-header-reads
-use Rattle.text_write.proofs.lines.measure_line_records.Reads as measure-line-records-reads
-use Rattle.text_write.proofs.lines.measure_run.Reads as measure-run-reads
 use Rattle.text_write.proofs.lines.measure_line_table.Statement.{statement}
 use Rattle.text_write.proofs.lines.measure_line_table.Tie as tie
 
@@ -71,15 +65,6 @@ line-width-requires c κs =
 find-wrapped-requires : tie.Need-find-wrapped-requires
 find-wrapped-requires c κs = c .before .before .pre .0
 
-measure-line-header-requires : tie.Need-measure-line-header-requires
-measure-line-header-requires c κs = search needs
-
-enum-known-left : tie.Need-enum-known-left
-enum-known-left c = search needs
-
-enum-told : tie.Need-enum-told
-enum-told c = search needs
-
 returns : tie.Need-returns
 returns c =
     let m = c .before .before in
@@ -106,12 +91,6 @@ measure-run-requires c κs = let g = f c in (
   (let h = short g in omega (arith, h)),
   at-start (text g) (s g .pre .4),
 )
-
-enum-known-rest : tie.Need-enum-known-rest
-enum-known-rest c = search needs
-
-enum-told-2 : tie.Need-enum-told-2
-enum-told-2 c = search needs
 
 returns-2 : tie.Need-returns-2
 returns-2 c =
@@ -160,13 +139,13 @@ measure-line-table-spec =
     (tie.spec
     line-width-requires
     find-wrapped-requires
-    measure-line-header-requires
-    enum-known-left
-    enum-told
+    (λ c κs. search needs)
+    (λ c. search needs)
+    (λ c. search needs)
     returns
     measure-run-requires
-    enum-known-rest
-    enum-told-2
+    (λ c. search needs)
+    (λ c. search needs)
     returns-2
     measure-line-records-requires
     returns-3)

@@ -1,14 +1,12 @@
 -- The line table, then the divider line. Assumes nothing.
 use borrow.Author.Needs.{needs}
 use native.Mathlib.Omega.{arith}
-use mathlib.Core.Path.{_≡_, refl, sym, ap, subst, _∙_}
+use mathlib.Core.Path.{_≡_, sym, ap, subst, _∙_}
 use mathlib.Core.Bool.{true}
-use mathlib.Core.List.{List, [], _∷_, _++_, append-nil}
-use mathlib.Core.Option.{Option, none, some}
-use Prim.Native.Nat.{ℕ, _+_, _-_, _*_, _^_, _≤_, _<_}
+use mathlib.Core.List.{List, _++_}
+use Prim.Native.Nat.{ℕ, _+_, _-_, _*_, _≤_}
 use lib.ListN.{length}
 use denote.Ref.{now}
-use Rattle.format.specs.Basics.{ascii}
 use Rattle.format.specs.Utf8.{isUtf8}
 use Rattle.format.specs.Source.{lineCount}
 use Rattle.format.specs.TextWriter.{lineTable, barLine}
@@ -20,11 +18,6 @@ use Rattle.text_lines_out.specs.Walk.{lineBlocksIn, sourceTable}
 use Rattle.text_lines_out.proofs.SourceLaws.{source-nothing, source-small, source-sound, source-table, source-lines, bar-length}
 use Rattle.measuring.specs.Room.{roomOf, less, lessPart}
 use Rattle.measuring.proofs.RoomLaws.{less-some, less-none, less-nothing, part-fits, part-short}
-use Rattle.object.proofs.body_end.Reads as body-end-reads
-use Rattle.object.proofs.text_len.Reads as text-len-reads
-use Rattle.source_info.proofs.count_newlines.Reads as count-newlines-reads
-use Rattle.source_info.proofs.source_at.Reads as source-at-reads
-use Rattle.text_write.proofs.lines.measure_line_table.Reads as measure-line-table-reads
 use Rattle.text_write.proofs.lines.measure_source.Statement.{statement}
 use Rattle.text_write.proofs.lines.measure_source.Tie as tie
 
@@ -74,24 +67,6 @@ module _ (c : tie.After-count-newlines) where
   sound : isUtf8 text ≡ true
   sound = source-sound ws (s .pre) at n good size
 
-source-at-requires : tie.Need-source-at-requires
-source-at-requires c κs = search needs
-
-enum-known-at : tie.Need-enum-known-at
-enum-known-at c = search needs
-
-enum-told : tie.Need-enum-told
-enum-told c = search needs
-
-body-end-requires : tie.Need-body-end-requires
-body-end-requires c κs = search needs
-
-text-len-requires : tie.Need-text-len-requires
-text-len-requires c κs = search needs
-
-count-newlines-requires : tie.Need-count-newlines-requires
-count-newlines-requires c κs = search needs
-
 add-lines : tie.Need-add-lines
 add-lines c = let h = few c in search needs
 
@@ -106,12 +81,6 @@ returns c =
 
 measure-line-table-requires : tie.Need-measure-line-table-requires
 measure-line-table-requires c κs = (s c .pre, small-source c, few c, counted c, sound c)
-
-enum-known-left : tie.Need-enum-known-left
-enum-known-left c = search needs
-
-enum-told-2 : tie.Need-enum-told-2
-enum-told-2 c = search needs
 
 returns-2 : tie.Need-returns-2
 returns-2 c =
@@ -145,17 +114,17 @@ pub measure-source-spec : {M : Type 1} → statement M
 measure-source-spec =
     tie.close
     (tie.spec
-    source-at-requires
-    enum-known-at
-    enum-told
+    (λ c κs. search needs)
+    (λ c. search needs)
+    (λ c. search needs)
     returns
-    body-end-requires
-    text-len-requires
-    count-newlines-requires
+    (λ c κs. search needs)
+    (λ c κs. search needs)
+    (λ c κs. search needs)
     add-lines
     measure-line-table-requires
-    enum-known-left
-    enum-told-2
+    (λ c. search needs)
+    (λ c. search needs)
     returns-2
     returns-3
     returns-4)

@@ -1,16 +1,15 @@
 -- Byte by byte, up to a newline. Assumes nothing.
 use borrow.Author.Needs.{needs}
 use native.Mathlib.Omega.{arith}
-use mathlib.Core.Path.{_≡_, refl, sym, ap, subst, _∙_}
-use mathlib.Core.List.{List, [], _∷_, _++_}
-use Prim.Native.Nat.{ℕ, _+_, _-_, _*_, _%_, _≤_, _<_}
+use mathlib.Core.Path.{_≡_, sym, subst, _∙_}
+use mathlib.Core.List.{List}
+use Prim.Native.Nat.{ℕ, _+_, _-_, _<_}
 use lib.ListN.{length, getD}
 use denote.Ref.{now}
 use Rattle.object.specs.Texts.{textBytes}
 use Rattle.word_chars.proofs.CharLaws.{byte-is, size-is}
 use Rattle.text_lines_out.specs.Lines.{Next}
 use Rattle.text_lines_out.proofs.LineLaws.{Passing, passing-start, pass-on, next-newline, next-end}
-use Rattle.object.proofs.text_byte.Reads as text-byte-reads
 use Rattle.text_write.proofs.lines.next_line.Statement.{statement}
 use Rattle.text_write.proofs.lines.next_line.Tie as tie
 
@@ -39,9 +38,6 @@ module _ (c : tie.After-text-byte Inv-loop μ-loop) where
 
 loop-holds : tie.Need-loop-holds Inv-loop μ-loop
 loop-holds c = passing-start _ _
-
-text-byte-requires : tie.Need-text-byte-requires Inv-loop μ-loop
-text-byte-requires c κs = search needs
 
 add-result : tie.Need-add-result Inv-loop μ-loop
 add-result c = omega (arith, c .before .before .loop-test .taken)
@@ -79,7 +75,7 @@ next-line-spec =
     Inv-loop
     μ-loop
     loop-holds
-    text-byte-requires
+    (λ c κs. search needs)
     add-result
     returns
     add-i

@@ -1,24 +1,16 @@
 -- Each number by its equation. Assumes nothing.
 use borrow.Author.Needs.{needs}
 use native.Mathlib.Omega.{arith}
-use mathlib.Core.Path.{_≡_, refl, sym, ap, subst, _∙_}
-use mathlib.Core.List.{List, map}
-use Prim.Native.Nat.{ℕ, _+_, _-_, _*_, _^_, _≤_, _<_}
-use lib.ListN.{length, drop, length-map}
+use mathlib.Core.Path.{_≡_, sym, ap, _∙_}
+use mathlib.Core.List.{List}
+use Prim.Native.Nat.{ℕ, _+_, _-_, _^_}
+use lib.ListN.{length, length-map}
 use denote.Ref.{now}
-use Rattle.format.specs.ObjectFile.{LineBlock, lineEnd}
+use Rattle.format.specs.ObjectFile.{LineBlock}
 use Rattle.object.specs.Bodies.{bodyAt}
 use Rattle.object.specs.Access.{addressIn, lineBlockAt}
-use Rattle.text_lines_out.specs.Merge.{smaller, straight}
+use Rattle.text_lines_out.specs.Merge.{smaller}
 use Rattle.text_lines_out.proofs.LineLaws.{block-size, block-run, smaller-right, place-fits}
-use Rattle.object.proofs.body_len.Reads as body-len-reads
-use Rattle.object.proofs.number_at.Reads as number-at-reads
-use Rattle.text_lines_out.proofs.larger.Reads as larger-reads
-use Rattle.text_lines_out.proofs.lines_done.Reads as lines-done-reads
-use Rattle.text_lines_out.proofs.minus.Reads as minus-reads
-use Rattle.text_lines_out.proofs.smaller.Reads as smaller-reads
-use Rattle.text_lines_out.proofs.smaller_line.Reads as smaller-line-reads
-use Rattle.text_lines_out.proofs.straight_count.Reads as straight-count-reads
 use Rattle.text_write.proofs.lines.plan_block.Statement.{statement}
 use Rattle.text_write.proofs.lines.plan_block.Tie as tie
 
@@ -49,51 +41,15 @@ module _ (c : tie.After-smaller) where
   skips : c .smaller .result ≡ smaller (a .args .wraps - l .first) k
   skips = c .smaller .ensures ∙ ap (λ (x : ℕ). smaller x k) (c .before .minus2 .ensures ∙ ap (λ (x : ℕ). a .args .wraps - x) first-is)
 
-add-body : tie.Need-add-body
-add-body c = search needs
+sub-t16 : tie.Need-sub-t16
+sub-t16 c = let s = c .before in let h = smaller-right (a s .args .wraps - l s .first) (k s) in omega (arith, skips s, h)
 
-add-words : tie.Need-add-words
-add-words c = search needs
-
-number-at-requires : tie.Need-number-at-requires
-number-at-requires c κs = search needs
-
-body-len-requires : tie.Need-body-len-requires
-body-len-requires c κs = search needs
-
-smaller-line-requires : tie.Need-smaller-line-requires
-smaller-line-requires c κs = search needs
-
-minus-requires : tie.Need-minus-requires
-minus-requires c κs = search needs
-
-straight-count-requires : tie.Need-straight-count-requires
-straight-count-requires c κs = search needs
-
-minus-requires-2 : tie.Need-minus-requires-2
-minus-requires-2 c κs = search needs
-
-smaller-requires : tie.Need-smaller-requires
-smaller-requires c κs = search needs
-
-larger-requires : tie.Need-larger-requires
-larger-requires c κs = search needs
-
-sub-t15 : tie.Need-sub-t15
-sub-t15 c = let s = c .before in let h = smaller-right (a s .args .wraps - l s .first) (k s) in omega (arith, skips s, h)
-
-add-t16 : tie.Need-add-t16
-add-t16 c =
+add-t17 : tie.Need-add-t17
+add-t17 c =
     let s = c .before in
     let h = place-fits (ws s) (a s .args .at) (a s .args .wraps) (a s .args .wraps - l s .first) (k s) (s .smaller .result) (kept s)
     (skips s) (a s .pre .0) in
     search needs
-
-lines-done-requires : tie.Need-lines-done-requires
-lines-done-requires c κs = search needs
-
-larger-requires-2 : tie.Need-larger-requires-2
-larger-requires-2 c κs = search needs
 
 returns : tie.Need-returns
 returns c = let s = c .before .before .before in
@@ -119,18 +75,18 @@ pub plan-block-spec : {M : Type 1} → statement M
 plan-block-spec =
     tie.close
     (tie.spec
-    add-body
-    add-words
-    number-at-requires
-    body-len-requires
-    smaller-line-requires
-    minus-requires
-    straight-count-requires
-    minus-requires-2
-    smaller-requires
-    larger-requires
-    sub-t15
-    add-t16
-    lines-done-requires
-    larger-requires-2
+    (λ c. search needs)
+    (λ c. search needs)
+    (λ c κs. search needs)
+    (λ c κs. search needs)
+    (λ c κs. search needs)
+    (λ c κs. search needs)
+    (λ c κs. search needs)
+    (λ c κs. search needs)
+    (λ c κs. search needs)
+    (λ c κs. search needs)
+    sub-t16
+    add-t17
+    (λ c κs. search needs)
+    (λ c κs. search needs)
     returns)

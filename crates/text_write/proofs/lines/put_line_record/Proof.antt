@@ -1,20 +1,19 @@
 -- The gap's run, then the block's. Assumes nothing.
 use borrow.Author.Needs.{needs}
-use native.Mathlib.Omega.{arith}
 use mathlib.Core.Path.{_≡_, refl, sym, ap, subst, _∙_}
-use mathlib.Core.Bool.{true, false}
-use mathlib.Core.List.{List, [], _∷_, _++_, append-nil}
-use Prim.Native.Nat.{ℕ, _+_, _-_, _*_, _^_, _≤_, _<_}
-use lib.ListN.{length, getD}
+use mathlib.Core.Bool.{false}
+use mathlib.Core.List.{List, [], _++_, append-nil}
+use Prim.Native.Nat.{ℕ, _+_, _-_, _^_, _<_}
+use lib.ListN.{length}
 use denote.Ref.{now}
 use Rattle.object.specs.Texts.{textBytes}
 use Rattle.object.specs.Access.{kindAt}
 use Rattle.text_escape.proofs.EscapeLaws.{part-room}
-use Rattle.writing.proofs.Parts.{State, Emits, after, begin, emit, emitted, within, small, same}
+use Rattle.writing.proofs.Parts.{State, Emits, after, begin, emit, emitted, within, small}
 use Rattle.text_lines_out.specs.Lines.{At, rowsText}
-use Rattle.text_lines_out.specs.Runs.{addressFrom, runRows, Planned}
+use Rattle.text_lines_out.specs.Runs.{addressFrom, runRows, rowsOf}
 use Rattle.text_lines_out.specs.declared.Plan.{Plan}
-use Rattle.text_lines_out.specs.Walk.{recordRows, recordDone}
+use Rattle.text_lines_out.specs.Walk.{recordRows}
 use Rattle.text_lines_out.proofs.BlockLaws.{
   record-other,
   plan-done,
@@ -26,9 +25,6 @@ use Rattle.text_lines_out.proofs.BlockLaws.{
   rows-none,
   nothing-put,
 }
-use Rattle.object.proofs.kind.Reads as kind-reads
-use Rattle.text_write.proofs.lines.put_run.Reads as put-run-reads
-use Rattle.text_write.proofs.lines.plan_block.Reads as plan-block-reads
 use Rattle.text_write.proofs.lines.put_line_record.Statement.{statement}
 use Rattle.text_write.proofs.lines.put_line_record.Tie as tie
 
@@ -41,7 +37,7 @@ module _ (c : tie.After-plan-block) where
   ws = now (s .args .ws)
 
   abbrev text : List ℕ
-  text = textBytes ws (s .args .text) (s .args .n)
+  text = textBytes ws (s .args .t .text) (s .args .t .n)
 
   abbrev r : Plan
   r = c .plan-block .result
@@ -49,28 +45,28 @@ module _ (c : tie.After-plan-block) where
   kind-is : kindAt ws (s .args .at) ≡ 3
   kind-is = sym (c .before .before .kind .ensures) ∙ c .before .if1 .left
 
-  few : s .args .lines < 2 ^ 64
+  few : s .args .t .lines < 2 ^ 64
   few = search needs
 
-  low : s .args .wraps < 2 ^ 64
+  low : s .args .t .wraps < 2 ^ 64
   low = search needs
 
   short : length (now (s .args .out)) < 2 ^ 64
   short = search needs
 
   abbrev gap : List ℕ
-  gap = rowsText (s .args .width) text (runRows (s .args .done) (addressFrom false ws 0) 0 (r .gap))
+  gap = rowsText (s .args .t .width) text (runRows (s .args .done) (addressFrom false ws 0) 0 (r .gap))
 
   abbrev own : List ℕ
-  own = rowsText (s .args .width) text (runRows (r .first) (addressFrom true ws (r .place)) 0 (r .count))
+  own = rowsText (s .args .t .width) text (rowsOf ws (r .own))
 
   abbrev all : List ℕ
-  all = rowsText (s .args .width) text (recordRows ws (s .args .at) (s .args .lines) (s .args .wraps) (s .args .done))
+  all = rowsText (s .args .t .width) text (recordRows ws (s .args .at) (s .args .t .lines) (s .args .t .wraps) (s .args .done))
 
   whole : all ≡ gap ++ own
   whole =
-      two-runs ws (s .args .at) (s .args .lines) (s .args .wraps) (s .args .done) kind-is (s .pre .4) few low r (c .plan-block .ensures)
-      text (s .pre .3) (s .args .width)
+      two-runs ws (s .args .at) (s .args .t .lines) (s .args .t .wraps) (s .args .done) kind-is (s .pre .4) few low r
+      (c .plan-block .ensures) text (s .pre .3) (s .args .t .width)
 
   abbrev state0 : State ℕ
   state0 = record { at = 0; out = now (s .args .out) }
@@ -80,7 +76,7 @@ module _ (c : tie.After-plan-block) where
 
 module _ (c : tie.After-put-run) where
   abbrev p : tie.After-plan-block
-  p = c .before .before
+  p = c .before .before .before
 
   abbrev state1 : State ℕ
   state1 = after (state0 p) (c .put-run .result .len) (c .put-run .last .0)
@@ -98,49 +94,26 @@ module _ (c : tie.After-put-run2) where
   emits2 : Emits (all (p q)) (now (s (p q) .args .out)) [] state2
   emits2 = emit (emits1 q) (own (p q)) [] (sym (append-nil (own (p q)))) (c .put-run2 .ensures .0)
 
-mul-kind : tie.Need-mul-kind
-mul-kind c = search needs
-
-shared-slice-read-kind : tie.Need-shared-slice-read-kind
-shared-slice-read-kind c = search needs
-
-kind-requires : tie.Need-kind-requires
-kind-requires c κs = search needs
-
 returns : tie.Need-returns
 returns c = let s = c .before .before .before .before .before in
     let a = s .args in
-    let t = textBytes (now (a .ws)) (a .text) (a .n) in
-    let o = record-other (now (a .ws)) (a .at) (a .lines) (a .wraps) (a .done) (λ z. c .if1 .taken (c .before .kind .ensures ∙ z)) in (
-      nothing-put (now (a .out)) (ap (rowsText (a .width) t) (o .0) ∙ rows-none (a .width) t),
+    let t = textBytes (now (a .ws)) (a .t .text) (a .t .n) in
+    let o = record-other (now (a .ws)) (a .at) (a .t .lines) (a .t .wraps) (a .done)
+    (λ z. c .if1 .taken (c .before .kind .ensures ∙ z)) in (
+      nothing-put (now (a .out)) (ap (rowsText (a .t .width) t) (o .0) ∙ rows-none (a .t .width) t),
       sym (o .1),
       subst (λ (m : ℕ). At t m (a .start)) (sym (o .1)) (s .pre .5),
     )
 
-plan-block-requires : tie.Need-plan-block-requires
-plan-block-requires c κs = search needs
-
-sub-put-run : tie.Need-sub-put-run
-sub-put-run c = search needs
-
-part-put-run-start : tie.Need-part-put-run-start
-part-put-run-start c = search needs
-
-part-put-run-end : tie.Need-part-put-run-end
-part-put-run-end c = search needs
-
 put-run-requires : tie.Need-put-run-requires
-put-run-requires c κs = let k = c .before in
+put-run-requires c κs = let k = c .before .before in
     let a = s k .args in (
       s k .pre .1,
-      gap-fits (ws k) (a .at) (a .lines) (a .wraps) (a .done) (kind-is k) (s k .pre .4) (few k) (low k) (r k) (k .plan-block .ensures)
+      gap-fits (ws k) (a .at) (a .t .lines) (a .t .wraps) (a .done) (kind-is k) (s k .pre .4) (few k) (low k) (r k) (k .plan-block .ensures)
           (text k) (s k .pre .3),
       s k .pre .5,
       part-room (emits0 k) (gap k) (own k) (whole k),
     )
-
-add-len : tie.Need-add-len
-add-len c = search needs
 
 sub-put-run-2 : tie.Need-sub-put-run-2
 sub-put-run-2 c = within (emits1 (c .before .before .before))
@@ -148,17 +121,14 @@ sub-put-run-2 c = within (emits1 (c .before .before .before))
 part-put-run-start-2 : tie.Need-part-put-run-start-2
 part-put-run-start-2 c = within (emits1 (c .before .before .before))
 
-part-put-run-end-2 : tie.Need-part-put-run-end-2
-part-put-run-end-2 c = search needs
-
 put-run-requires-2 : tie.Need-put-run-requires-2
 put-run-requires-2 c κs = let g = c .before .before .before .before in
     let k = p g in
     let a = s k .args in (
       s k .pre .1,
-      own-fits (ws k) (a .at) (a .lines) (a .wraps) (a .done) (kind-is k) (s k .pre .4) (few k) (low k) (r k) (k .plan-block .ensures)
+      own-fits (ws k) (a .at) (a .t .lines) (a .t .wraps) (a .done) (kind-is k) (s k .pre .4) (few k) (low k) (r k) (k .plan-block .ensures)
           (text k) (s k .pre .3),
-      gap-passed (ws k) (a .at) (a .lines) (a .wraps) (a .done) (kind-is k) (s k .pre .4) (few k) (low k) (r k)
+      gap-passed (ws k) (a .at) (a .t .lines) (a .t .wraps) (a .done) (kind-is k) (s k .pre .4) (few k) (low k) (r k)
           (k .plan-block .ensures) (text k) (s k .pre .3) (g .put-run .result .start) (g .put-run .ensures .1),
       part-room (emits1 g) (own k) [] (sym (append-nil (own k))),
     )
@@ -166,17 +136,14 @@ put-run-requires-2 c κs = let g = c .before .before .before .before in
 add-len-2 : tie.Need-add-len-2
 add-len-2 c = let e = c .before .before .before in small (emits2 e) (short (p (q e)))
 
-same-length : tie.Need-same-length
-same-length c = search needs
-
 returns-2 : tie.Need-returns-2
 returns-2 c = let e = c .before .before .before in
     let k = p (q e) in
     let a = s k .args in (
       emitted (emits2 e) refl,
-      plan-done (ws k) (a .at) (a .lines) (a .wraps) (a .done) (kind-is k) (s k .pre .4) (few k) (low k) (r k)
+      plan-done (ws k) (a .at) (a .t .lines) (a .t .wraps) (a .done) (kind-is k) (s k .pre .4) (few k) (low k) (r k)
           (k .plan-block .ensures) (text k) (s k .pre .3),
-      own-passed (ws k) (a .at) (a .lines) (a .wraps) (a .done) (kind-is k) (s k .pre .4) (few k) (low k) (r k)
+      own-passed (ws k) (a .at) (a .t .lines) (a .t .wraps) (a .done) (kind-is k) (s k .pre .4) (few k) (low k) (r k)
           (k .plan-block .ensures) (text k) (s k .pre .3) (e .put-run2 .result .start) (e .put-run2 .ensures .1),
     )
 
@@ -184,20 +151,20 @@ pub put-line-record-spec : {M : Type 1} → statement M
 put-line-record-spec =
     tie.close
     (tie.spec
-    mul-kind
-    shared-slice-read-kind
-    kind-requires
+    (λ c. search needs)
+    (λ c. search needs)
+    (λ c κs. search needs)
     returns
-    plan-block-requires
-    sub-put-run
-    part-put-run-start
-    part-put-run-end
+    (λ c κs. search needs)
+    (λ c. search needs)
+    (λ c. search needs)
+    (λ c. search needs)
     put-run-requires
-    add-len
+    (λ c. search needs)
     sub-put-run-2
     part-put-run-start-2
-    part-put-run-end-2
+    (λ c. search needs)
     put-run-requires-2
     add-len-2
-    same-length
+    (λ c. search needs)
     returns-2)

@@ -1,27 +1,22 @@
 -- Header, the rows that wrapped, and those of the walk. Assumes nothing.
 use borrow.Author.Needs.{needs}
 use native.Mathlib.Omega.{arith}
-use mathlib.Core.Path.{_≡_, refl, sym, ap, subst, _∙_}
+use mathlib.Core.Path.{_≡_, refl, sym}
 use mathlib.Core.Bool.{true}
-use mathlib.Core.List.{List, [], _∷_, _++_, append-nil}
-use Prim.Native.Nat.{ℕ, _+_, _-_, _*_, _^_, _≤_, _<_}
+use mathlib.Core.List.{List, [], _++_, append-nil}
+use Prim.Native.Nat.{ℕ, _+_, _-_, _^_, _≤_, _<_}
 use lib.ListN.{length}
 use denote.Ref.{now}
 use Rattle.format.specs.TextWriter.{lineTable, lineHeader, textLine}
 use Rattle.object.specs.Texts.{textBytes}
 use Rattle.text_escape.proofs.EscapeLaws.{part-room}
 use Rattle.writing.proofs.Parts.{State, Emits, after, begin, emit, emitted, within, small, same}
-use Rattle.text_lines_out.specs.Lines.{At, rowsText}
+use Rattle.text_lines_out.specs.Lines.{rowsText}
 use Rattle.text_lines_out.specs.Runs.{addressFrom, runRows}
 use Rattle.text_lines_out.specs.Walk.{walkRows, lineBlocksIn}
 use Rattle.text_lines_out.specs.declared.Wrapped.{Wrapped}
 use Rattle.text_lines_out.proofs.LineLaws.{at-start}
 use Rattle.text_lines_out.proofs.TableLaws.{table-parts, wrapped-passed, some-lines}
-use Rattle.text_write.proofs.lines.find_wrapped.Reads as find-wrapped-reads
-use Rattle.text_write.proofs.lines.line_width.Reads as line-width-reads
-use Rattle.text_lines_out.proofs.put_line_header.Reads as put-line-header-reads
-use Rattle.text_write.proofs.lines.put_line_records.Reads as put-line-records-reads
-use Rattle.text_write.proofs.lines.put_run.Reads as put-run-reads
 use Rattle.text_write.proofs.lines.put_line_table.Statement.{statement}
 use Rattle.text_write.proofs.lines.put_line_table.Tie as tie
 
@@ -112,18 +107,6 @@ line-width-requires c κs =
 find-wrapped-requires : tie.Need-find-wrapped-requires
 find-wrapped-requires c κs = c .before .before .before .pre .0
 
-sub-put-line-header : tie.Need-sub-put-line-header
-sub-put-line-header c = search needs
-
-part-put-line-header-start : tie.Need-part-put-line-header-start
-part-put-line-header-start c = search needs
-
-part-put-line-header-end : tie.Need-part-put-line-header-end
-part-put-line-header-end c = search needs
-
-put-line-header-requires : tie.Need-put-line-header-requires
-put-line-header-requires c κs = search needs
-
 add-len : tie.Need-add-len
 add-len c = let e = c .before .before in small (emits1 e) (long (f e))
 
@@ -132,9 +115,6 @@ sub-put-run c = within (emits1 (c .before .before))
 
 part-put-run-start : tie.Need-part-put-run-start
 part-put-run-start c = within (emits1 (c .before .before))
-
-part-put-run-end : tie.Need-part-put-run-end
-part-put-run-end c = search needs
 
 put-run-requires : tie.Need-put-run-requires
 put-run-requires c κs = let e = c .before .before .before in
@@ -153,9 +133,6 @@ sub-put-line-records c = within (emits2 (c .before .before .before))
 
 part-put-line-records-start : tie.Need-part-put-line-records-start
 part-put-line-records-start c = within (emits2 (c .before .before .before))
-
-part-put-line-records-end : tie.Need-part-put-line-records-end
-part-put-line-records-end c = search needs
 
 put-line-records-requires : tie.Need-put-line-records-requires
 put-line-records-requires c κs = let e = c .before .before .before .before in
@@ -185,19 +162,19 @@ put-line-table-spec =
     (tie.spec
     line-width-requires
     find-wrapped-requires
-    sub-put-line-header
-    part-put-line-header-start
-    part-put-line-header-end
-    put-line-header-requires
+    (λ c. search needs)
+    (λ c. search needs)
+    (λ c. search needs)
+    (λ c κs. search needs)
     add-len
     sub-put-run
     part-put-run-start
-    part-put-run-end
+    (λ c. search needs)
     put-run-requires
     add-len-2
     sub-put-line-records
     part-put-line-records-start
-    part-put-line-records-end
+    (λ c. search needs)
     put-line-records-requires
     add-len-3
     same-length

@@ -3,8 +3,7 @@ use borrow.Author.Needs.{needs}
 use native.Mathlib.Omega.{arith}
 use mathlib.Core.Path.{_≡_, refl, sym, ap, subst, _∙_}
 use mathlib.Core.Bool.{true}
-use mathlib.Core.List.{List, [], _∷_, _++_, append-nil}
-use mathlib.Core.Option.{Option, none, some}
+use mathlib.Core.List.{List, [], _++_, append-nil}
 use Prim.Native.Nat.{ℕ, _+_, _-_, _*_, _^_, _≤_, _<_}
 use lib.ListN.{length}
 use denote.Ref.{now}
@@ -17,16 +16,10 @@ use Rattle.object.specs.Texts.{textLen, textBytes}
 use Rattle.source_info.specs.Sources.{Sourced}
 use Rattle.source_info.specs.declared.Place.the-variants as place
 use Rattle.text_lines_out.specs.Walk.{lineBlocksIn, sourceTable}
-use Rattle.text_lines_out.proofs.SourceLaws.{source-nothing, source-small, source-sound, source-table, source-lines, bar-length}
+use Rattle.text_lines_out.proofs.SourceLaws.{source-nothing, source-small, source-sound, source-table, source-lines}
 use Rattle.text_escape.proofs.EscapeLaws.{part-room}
 use Rattle.writing.proofs.Parts.{State, Emits, after, begin, emit, emitted, within, small, same}
 use Rattle.text_lines_out.proofs.BlockLaws.{nothing-put}
-use Rattle.object.proofs.body_end.Reads as body-end-reads
-use Rattle.object.proofs.text_len.Reads as text-len-reads
-use Rattle.source_info.proofs.count_newlines.Reads as count-newlines-reads
-use Rattle.source_info.proofs.source_at.Reads as source-at-reads
-use Rattle.text_write.proofs.lines.put_line_table.Reads as put-line-table-reads
-use Rattle.writing.proofs.put_bytes.Reads as put-bytes-reads
 use Rattle.text_write.proofs.lines.put_source.Statement.{statement}
 use Rattle.text_write.proofs.lines.put_source.Tie as tie
 
@@ -76,24 +69,6 @@ module _ (c : tie.After-count-newlines) where
   sound : isUtf8 text ≡ true
   sound = source-sound ws (s .pre .0) at n good size
 
-source-at-requires : tie.Need-source-at-requires
-source-at-requires c κs = search needs
-
-enum-known-at : tie.Need-enum-known-at
-enum-known-at c = search needs
-
-enum-told : tie.Need-enum-told
-enum-told c = search needs
-
-body-end-requires : tie.Need-body-end-requires
-body-end-requires c κs = search needs
-
-text-len-requires : tie.Need-text-len-requires
-text-len-requires c κs = search needs
-
-count-newlines-requires : tie.Need-count-newlines-requires
-count-newlines-requires c κs = search needs
-
 add-lines : tie.Need-add-lines
 add-lines c = let h = few c in search needs
 
@@ -136,15 +111,6 @@ module _ (c : tie.After-put-bytes) where
   unfolding ascii
   emits2 = emit (emits1 q) barLine [] (sym (append-nil barLine)) (c .put-bytes .ensures)
 
-sub-put-line-table : tie.Need-sub-put-line-table
-sub-put-line-table c = search needs
-
-part-put-line-table-start : tie.Need-part-put-line-table-start
-part-put-line-table-start c = search needs
-
-part-put-line-table-end : tie.Need-part-put-line-table-end
-part-put-line-table-end c = search needs
-
 put-line-table-requires : tie.Need-put-line-table-requires
 put-line-table-requires c κs = let k = c .before in (
   s k .pre .0,
@@ -164,15 +130,6 @@ sub-put-bytes c = within (emits1 (c .before .before))
 part-put-bytes-start : tie.Need-part-put-bytes-start
 part-put-bytes-start c = within (emits1 (c .before .before))
 
-part-put-bytes-end : tie.Need-part-put-bytes-end
-part-put-bytes-end c = search needs
-
-slice-aggregate-put-bytes : tie.Need-slice-aggregate-put-bytes
-slice-aggregate-put-bytes c = search needs
-
-put-bytes-requires : tie.Need-put-bytes-requires
-put-bytes-requires c κs = search needs
-
 add-len-2 : tie.Need-add-len-2
 add-len-2 c = let e = c .before .before in small (emits2 e) (long (k (q e)))
 
@@ -186,24 +143,24 @@ pub put-source-spec : {M : Type 1} → statement M
 put-source-spec =
     tie.close
     (tie.spec
-    source-at-requires
-    enum-known-at
-    enum-told
+    (λ c κs. search needs)
+    (λ c. search needs)
+    (λ c. search needs)
     returns
-    body-end-requires
-    text-len-requires
-    count-newlines-requires
+    (λ c κs. search needs)
+    (λ c κs. search needs)
+    (λ c κs. search needs)
     add-lines
-    sub-put-line-table
-    part-put-line-table-start
-    part-put-line-table-end
+    (λ c. search needs)
+    (λ c. search needs)
+    (λ c. search needs)
     put-line-table-requires
     add-len
     sub-put-bytes
     part-put-bytes-start
-    part-put-bytes-end
-    slice-aggregate-put-bytes
-    put-bytes-requires
+    (λ c. search needs)
+    (λ c. search needs)
+    (λ c κs. search needs)
     add-len-2
     same-length
     returns-2)
