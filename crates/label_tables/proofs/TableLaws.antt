@@ -6,12 +6,14 @@ use native.Mathlib.Omega.{arith}
 use lib.ListN.{length, length-append}
 use lib.Dec.{leb}
 use borrow.Author.Tests.{leb-true, leb-false}
-use Rattle.format.specs.Basics.{given, if_then_else_, isEmpty, All}
+use Rattle.format.specs.Basics.{Outcome, given, givenOr, if_then_else_, isEmpty, All}
 use Rattle.format.specs.ObjectFile.{Label, ObjectFile, labelKey}
 use Rattle.format.specs.Sorted.{sorted}
 use Rattle.format.specs.TextWriter.{decimal, widest, textLine, symbolHeader, symbolRow, byAddress, symbolTable, labelWidth, indexWidth}
 use Rattle.format.specs.TextWriter.{labelHeader, labelRow, byStart, labelTable}
 use Rattle.format.specs.Words.{objectOf}
+use Rattle.format.specs.Records.{emptyObject}
+use Rattle.format.specs.Calls.{checked}
 use Rattle.format.proofs.ListLaws.{by-test, all-map, flatMap-map, flatMap-reordered}
 use Rattle.format.proofs.ListFacts.{flatMap-cong}
 use Rattle.format.proofs.OrderLaws.{distinct-front}
@@ -23,6 +25,9 @@ use Rattle.writing.proofs.WriteLaws.{too-short}
 use Rattle.object.specs.Texts.{textBytes}
 use Rattle.object.specs.Access.{labelAt}
 use Rattle.object.proofs.ByteLaws.{text-len, text-bytes}
+use Rattle.object.proofs.Formed.{formed}
+use Rattle.measuring.specs.Room.{less, lessPart, roomOf}
+use Rattle.measuring.specs.declared.Room.{Room}
 use Rattle.label_order.specs.Labels.{labelPlaces}
 use Rattle.label_order.specs.Labels as keys
 use Rattle.label_order.specs.declared.By.the-variants as by
@@ -181,16 +186,42 @@ fitted part space after r p =
     let s = too-short part space (length part) refl l in
     (e .0 ∙ sym (n .0) ∙ s .0, e .1 ∙ sym (n .1) ∙ s .1))
 
--- what the writers do for a well formed object
-module _ (ws : List ℕ) (h : ObjectFile) (formed : objectOf ws ≡ given h) (space after : List ℕ) (r : ℕ) where
-  pub symbols-put : Put (fitting (symbolsLength ws) (symbolsOf ws) space) space r after → Put (symbolTable (h .labels)) space r after
-  symbols-put p =
-      let t = symbolTable (h .labels) in
-      fitted t space after r
-      (subst (λ l. Put l space r after) (ap₂ (λ n l. fitting n l space) (symbols-length ws h formed) (symbols-are ws h formed)) p)
+-- WHAT THE CALLS SAY of the tables of a well formed object's labels
+module _ (ws : List ℕ) (z : checked ws ≡ 0) where
+  abbrev labels : List Label
+  labels = givenOr (objectOf ws) emptyObject .labels
 
-  pub labels-put : Put (fitting (labelsLength ws) (labelsOf ws) space) space r after → Put (labelTable (h .labels)) space r after
-  labels-put p =
-      let t = labelTable (h .labels) in
-      fitted t space after r
-      (subst (λ l. Put l space r after) (ap₂ (λ n l. fitting n l space) (labels-table-length ws h formed) (labels-table-is ws h formed)) p)
+  same : (h : ObjectFile) → objectOf ws ≡ given h → h .labels ≡ labels
+  same h e = ap (λ (o : Outcome ObjectFile). givenOr o emptyObject .labels) (sym e)
+
+  -- how long they are
+  symbols-size : symbolsLength ws ≡ length (symbolTable labels)
+  symbols-size =
+      let f = formed ws z in
+      symbols-length ws (f .object) (f .is) ∙ ap (λ ls. length (symbolTable ls)) (same (f .object) (f .is))
+
+  labels-size : labelsLength ws ≡ length (labelTable labels)
+  labels-size =
+      let f = formed ws z in
+      labels-table-length ws (f .object) (f .is) ∙ ap (λ ls. length (labelTable ls)) (same (f .object) (f .is))
+
+  -- what the measures say
+  pub symbols-room : (room : ℕ) (r : Room) → roomOf r ≡ less room (symbolsLength ws) → roomOf r ≡ lessPart room (symbolTable labels)
+  symbols-room room r e = e ∙ ap (less room) symbols-size
+
+  pub labels-room : (room : ℕ) (r : Room) → roomOf r ≡ less room (labelsLength ws) → roomOf r ≡ lessPart room (labelTable labels)
+  labels-room room r e = e ∙ ap (less room) labels-size
+
+  -- what the writers do: they need no more room than the tables, as other parts
+  module _ (space after : List ℕ) (r : ℕ) where
+    pub symbols-put : Put (fitting (symbolsLength ws) (symbolsOf ws) space) space r after → Put (symbolTable labels) space r after
+    symbols-put p =
+        let f = formed ws z in
+        let e = symbols-are ws (f .object) (f .is) ∙ ap symbolTable (same (f .object) (f .is)) in
+        fitted (symbolTable labels) space after r (subst (λ l. Put l space r after) (ap₂ (λ n l. fitting n l space) symbols-size e) p)
+
+    pub labels-put : Put (fitting (labelsLength ws) (labelsOf ws) space) space r after → Put (labelTable labels) space r after
+    labels-put p =
+        let f = formed ws z in
+        let e = labels-table-is ws (f .object) (f .is) ∙ ap labelTable (same (f .object) (f .is)) in
+        fitted (labelTable labels) space after r (subst (λ l. Put l space r after) (ap₂ (λ n l. fitting n l space) labels-size e) p)

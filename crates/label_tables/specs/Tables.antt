@@ -1,8 +1,7 @@
--- The tables of labels by the labels' places in the words of an object, and the room that they take, for every slice of words. That they
+-- The tables of labels by the labels' places in the words of an object, and how long they are, for every slice of words. That they
 -- are a well formed object's tables is said in proofs/TableLaws. Assumes nothing.
 use mathlib.Core.List.{List, [], _++_, flatMap}
-use mathlib.Core.Option.{Option, none, some}
-use Prim.Native.Nat.{ℕ, _-_}
+use Prim.Native.Nat.{ℕ}
 use lib.ListN.{length}
 use lib.Dec.{leb}
 use Rattle.format.specs.Basics.{if_then_else_, isEmpty}
@@ -12,16 +11,6 @@ use Rattle.object.specs.Access.{labelAt}
 use Rattle.label_order.specs.Labels.{labelPlaces, labelKey}
 use Rattle.label_order.specs.declared.By.the-variants as by
 use Rattle.label_tables.specs.Rows.{nameAt, symbolLine, labelLine}
-use Rattle.label_tables.specs.declared.Room.{Room}
-use Rattle.label_tables.specs.declared.Room.the-variants as room
-
--- the room that is left, none where there is too little
-abbrev pub roomOf : Room → Option ℕ
-roomOf (room.Left n) = some n
-roomOf room.Short = none
-
-unfoldable pub roomAfter : ℕ → ℕ → Option ℕ  -- after so many bytes
-roomAfter n space = if leb n space then some (space - n) else none
 
 -- "Label column width is the longest name in bytes, at least 5"
 unfoldable pub namesWidth : List ℕ → ℕ

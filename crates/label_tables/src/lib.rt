@@ -3,6 +3,7 @@ use gather::Found;
 use label_order::By;
 use label_order::Labels;
 use label_order::next_label;
+use measuring::Room;
 use object::body_end;
 use object::number_at;
 use object::put_text;
@@ -27,7 +28,8 @@ ghost use Rattle.writing.specs.Written.{Put};
 ghost use Rattle.object.specs.Bodies.{numberAt};
 ghost use Rattle.object.specs.Texts.{textBytes};
 ghost use Rattle.label_tables.specs.Rows.{nameAt, symbolLine, labelLine};
-ghost use Rattle.label_tables.specs.Tables.{roomOf, roomAfter, namesWidth, indicesWidth, symbolsLength, labelsLength};
+ghost use Rattle.measuring.specs.Room.{roomOf, less, lessPart};
+ghost use Rattle.label_tables.specs.Tables.{namesWidth, indicesWidth, symbolsLength, labelsLength};
 ghost use Rattle.label_tables.specs.Tables.{byAddress, byStart, symbolsOf, labelsOf, fitting};
 ghost use Rattle.label_order.specs.Labels.{labelPlaces};
 
@@ -61,12 +63,6 @@ const SYMBOL_HEADER: [u8; 19] = [
 const LABEL: [u8; 5] = [0x4C, 0x41, 0x42, 0x45, 0x4C];
 
 const DIV_INDEX: [u8; 8] = [0x20, 0x7C, 0x20, 0x49, 0x4E, 0x44, 0x45, 0x58];
-
-// The room that is left, or that there is too little.
-pub enum Room {
-    Left(usize),
-    Short,
-}
 
 // A label's name: where its words begin, and how many bytes it has.
 struct Name {
@@ -268,7 +264,7 @@ pub fn index_width(ws: &[u32]) -> usize
 
 // The room that a row of .SYMBOL leaves.
 fn symbol_row_room(ws: &[u32], p: usize, room: usize) -> Room
-    ensures { λ r. ⌜ roomOf r ≡ roomAfter (length (symbolLine (now (ws .entry)) p)) room ⌝ }
+    ensures { λ r. ⌜ roomOf r ≡ lessPart room (symbolLine (now (ws .entry)) p) ⌝ }
 {
     let name = name_of(ws, p);
     let len = name.len + 14;
@@ -280,7 +276,7 @@ fn symbol_row_room(ws: &[u32], p: usize, room: usize) -> Room
 
 // The room that a row of the label table leaves.
 fn label_row_room(ws: &[u32], p: usize, names: usize, indices: usize, room: usize) -> Room
-    ensures { λ r. ⌜ roomOf r ≡ roomAfter (length (labelLine names indices (now (ws .entry)) p)) room ⌝ }
+    ensures { λ r. ⌜ roomOf r ≡ lessPart room (labelLine names indices (now (ws .entry)) p) ⌝ }
 {
     let name = name_of(ws, p);
     let fill = fill_of(ws, name.at, name.len, names);
@@ -294,7 +290,7 @@ fn label_row_room(ws: &[u32], p: usize, names: usize, indices: usize, room: usiz
 
 // The room that the rows of .SYMBOL leave.
 fn symbol_rows_room(ws: &[u32], room: usize) -> Room
-    ensures { λ r. ⌜ roomOf r ≡ roomAfter (length (flatMap (symbolLine (now (ws .entry))) (labelPlaces (now (ws .entry))))) room ⌝ }
+    ensures { λ r. ⌜ roomOf r ≡ lessPart room (flatMap (symbolLine (now (ws .entry))) (labelPlaces (now (ws .entry)))) ⌝ }
 {
     let mut left = room;
     let mut at = 0;
@@ -312,8 +308,7 @@ fn symbol_rows_room(ws: &[u32], room: usize) -> Room
 
 // The room that the rows of the label table leave.
 fn label_rows_room(ws: &[u32], names: usize, indices: usize, room: usize) -> Room
-    ensures { λ r. ⌜ roomOf r
-        ≡ roomAfter (length (flatMap (labelLine names indices (now (ws .entry))) (labelPlaces (now (ws .entry))))) room ⌝ }
+    ensures { λ r. ⌜ roomOf r ≡ lessPart room (flatMap (labelLine names indices (now (ws .entry))) (labelPlaces (now (ws .entry)))) ⌝ }
 {
     let mut left = room;
     let mut at = 0;
@@ -331,7 +326,7 @@ fn label_rows_room(ws: &[u32], names: usize, indices: usize, room: usize) -> Roo
 
 // The room that .SYMBOL's table leaves, counted down: a sum of columns could pass 64 bits.
 pub fn measure_symbols(ws: &[u32], room: usize) -> Room
-    ensures { λ r. ⌜ roomOf r ≡ roomAfter (symbolsLength (now (ws .entry))) room ⌝ }
+    ensures { λ r. ⌜ roomOf r ≡ less room (symbolsLength (now (ws .entry))) ⌝ }
 {
     let Found::At(_, _) = next_label(ws, 0) else {
         return Room::Left(room);
@@ -354,7 +349,7 @@ fn past_header(width: usize) -> usize
 
 // The room that the label table leaves.
 pub fn measure_labels(ws: &[u32], room: usize) -> Room
-    ensures { λ r. ⌜ roomOf r ≡ roomAfter (labelsLength (now (ws .entry))) room ⌝ }
+    ensures { λ r. ⌜ roomOf r ≡ less room (labelsLength (now (ws .entry))) ⌝ }
 {
     let Found::At(_, _) = next_label(ws, 0) else {
         return Room::Left(room);

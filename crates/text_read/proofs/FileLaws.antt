@@ -1,25 +1,26 @@
 -- Of a text file that reads, the words of its object are those of the five parts. Assumes nothing.
-use mathlib.Core.Path.{_≡_, refl, sym, ap, ap₂, _∙_}
+use mathlib.Core.Path.{_≡_, refl, sym, ap, ap₂, _∙_, subst}
 use mathlib.Core.Bool.{Bool, true, false, _&&_, not}
-use mathlib.Core.List.{List, [], _∷_, _++_, map, flatMap, append-assoc}
+use mathlib.Core.List.{List, [], _++_, map, flatMap, append-assoc}
 use mathlib.Core.Option.{Option, none, some}
-use Prim.Native.Nat.{ℕ, _≤_}
+use Prim.Native.Nat.{ℕ, _-_, _^_, _≤_, _<_}
 use native.Mathlib.Omega.{arith}
-use lib.ListN.{length}
+use lib.ListN.{length, take, length-take}
 use borrow.Author.Tests.{lt-leb}
-use Rattle.format.specs.Calls.{Filled, fill, readText}
+use Rattle.format.specs.Calls.{fill, measured, readText}
 use Rattle.writing.specs.Written.{Put}
 use Rattle.writing.proofs.WriteLaws.{put-fills}
 use Rattle.text_words.specs.Room.{roomAfter}
 use Rattle.text_words.proofs.RoomLaws.{room-is, room-lacks}
 use Rattle.format.specs.Basics.{Outcome, refused, given, _>>=_, if_then_else_, isEmpty, isSome}
 use Rattle.format.specs.Utf8.{trim}
-use Rattle.format.specs.ObjectFile.{Label, LineBlock, ObjectFile}
+use Rattle.format.specs.ObjectFile.{Label, LineBlock, ObjectFile, sourceText}
 use Rattle.format.specs.Records.{Record, block, label, lineBlock, relocation, sourceRecords, recordsOf, dropStrayRelocations}
 use Rattle.format.specs.TextReader.{textObject}
 use Rattle.format.specs.Words.{recordWords, wordsOf}
 use Rattle.format.proofs.ListLaws.{flatMap-append, flatMap-map, by-test}
 use Rattle.format.proofs.Outcomes.{gives}
+use Rattle.text_bound.proofs.TextBound.{text-words-few, text-source-few}
 use Rattle.text_tables.specs.Debug.{lineView}
 use Rattle.text_source.specs.Stream.{sourceFrom}
 use Rattle.text_scan.specs.declared.Scanned.{Scanned}
@@ -28,9 +29,9 @@ use Rattle.text_scan.specs.Scan.{Read, Scans}
 use Rattle.text_rows.proofs.FileLaws.{PartsOf, text-parts}
 use Rattle.text_labels.specs.Labels.{labelsOf}
 use Rattle.text_labels.proofs.FileLaws.{text-words}
-use Rattle.text_read.specs.SourceText.{Unescapes}
-use Rattle.text_read.specs.Parts.{joined, rowParts, labelParts, lineParts, sourceParts, relocationParts, keepsRelocations, objectParts}
-use Rattle.text_read.proofs.PartLaws.{from1, from2, from3, from4, joined-parts, joined1, joined2, joined3}
+use Rattle.text_read.specs.SourceText.{sourceAt, Unescapes, Countable}
+use Rattle.text_read.specs.Parts.{joined, rowParts, lineParts, sourceParts, relocationParts, keepsRelocations, objectParts}
+use Rattle.text_read.proofs.PartLaws.{from4, joined-parts, joined1, joined2, joined3}
 
 -- the words of records, one after the other
 records-joined : (rs : List Record) → flatMap recordWords rs ≡ joined (map recordWords rs)
@@ -77,10 +78,12 @@ module _ (s t : List ℕ) (r : Scanned) (h : ObjectFile) (e : textObject s ≡ g
   labels-are = gives (PartsOf u) (textObject s) h (text-parts s) e .labels
 
   lines-words : flatMap recordWords (map lineBlock (h .lineBlocks)) ≡ joined (lineParts (r .sourced) t (r .rows))
-  lines-words = records-joined (map lineBlock (h .lineBlocks)) ∙ ap (λ (xs : List LineBlock). joined (map recordWords (map lineBlock xs))) lines-are
+  lines-words =
+      records-joined (map lineBlock (h .lineBlocks)) ∙ ap (λ (xs : List LineBlock). joined (map recordWords (map lineBlock xs))) lines-are
 
   source-words : flatMap recordWords (sourceRecords (h .source)) ≡ joined (sourceParts (r .sourced) t (r .rows))
-  source-words = records-joined (sourceRecords (h .source)) ∙ ap (λ (o : Option (List ℕ)). joined (map recordWords (sourceRecords o))) source-is
+  source-words =
+      records-joined (sourceRecords (h .source)) ∙ ap (λ (o : Option (List ℕ)). joined (map recordWords (sourceRecords o))) source-is
 
   relocation-words : flatMap recordWords (map relocation (h .relocations)) ≡ joined (from4 u t (r .sourced) (r .rows))
   relocation-words =
@@ -94,7 +97,8 @@ module _ (s t : List ℕ) (r : Scanned) (h : ObjectFile) (e : textObject s ≡ g
   unfolding wordsOf recordsOf
   file-words =
       ap (flatMap recordWords)
-      (regroup (map block (h .blocks)) (map label (h .labels)) (map lineBlock (h .lineBlocks)) (sourceRecords (h .source)) (map relocation (h .relocations)))
+      (regroup (map block (h .blocks)) (map label (h .labels)) (map lineBlock (h .lineBlocks)) (sourceRecords (h .source))
+      (map relocation (h .relocations)))
       ∙ flatMap-append recordWords (map block (h .blocks)) _
       ∙ ap₂ (λ (a b : List ℕ). a ++ b) (text-words s h e .blocks)
       (flatMap-append recordWords (map label (h .labels)) _
@@ -112,41 +116,83 @@ module _ (s t : List ℕ) (r : Scanned) (h : ObjectFile) (e : textObject s ≡ g
   unfolding sourceFrom
   file-unescapes q = x .lines .reads q
 
--- THE CALL: a refusal, a buffer that is too short, and the words
+  -- to at most as many bytes as the file has
+  pub file-source : r .sourced ≡ true → length (sourceAt t (r .rows)) ≤ length s
+  unfolding sourceText sourceOf
+  file-source q =
+      let is : h .source ≡ some (sourceAt t (r .rows)) = source-is ∙ ap (λ (b : Bool). sourceOf b ls) q in
+      omega (arith, text-source-few s h e, ap (λ (o : Option (List ℕ)). length (sourceText o)) is)
+
+-- THE CALLS: a refusal, a buffer that is too short, and the words
 pub read-refused : (s t : List ℕ) (r : Scanned) (buffer : List ℕ) → Scans t (textObject s) r → (r .number ≡ 0 → ⊥)
     → record { number = r .number; len = 0; buffer = buffer } ≡ fill (readText s) buffer
 unfolding readText fill
 read-refused s t r buffer q z = go (textObject s) q
   where
-    go : (o : Outcome ObjectFile) → Scans t o r → record { number = r .number; len = 0; buffer = buffer } ≡ fill (o >>= λ h. given (wordsOf h)) buffer
+    go : (o : Outcome ObjectFile) → Scans t o r
+        → record { number = r .number; len = 0; buffer = buffer } ≡ fill (o >>= λ h. given (wordsOf h)) buffer
     go (refused n) q = ap (λ (x : Scanned). record { number = x .number; len = 0; buffer = buffer }) (q .0)
     go (given h) q = absurd (z (q .yes))
 
-pub read-given : (s t : List ℕ) (r : Scanned) → Scans t (textObject s) r → r .number ≡ 0 → (h : ObjectFile) × (textObject s ≡ given h) × Read t r h
+pub read-given : (s t : List ℕ) (r : Scanned) → Scans t (textObject s) r → r .number ≡ 0
+    → (h : ObjectFile) × (textObject s ≡ given h) × Read t r h
 read-given s t r q z = go (textObject s) refl q
   where
     go : (o : Outcome ObjectFile) → textObject s ≡ o → Scans t o r → (h : ObjectFile) × (textObject s ≡ given h) × Read t r h
     go (refused n) e q = let k : 0 ≡ n = sym z ∙ ap (λ (x : Scanned). x .number) (q .0) in absurd (omega (arith, q .1))
     go (given h) e q = (h, e, q)
 
-module _ (s t : List ℕ) (r : Scanned) (buffer : List ℕ) (q : Scans t (textObject s) r) (z : r .number ≡ 0) where
+pub length-refused : (s t : List ℕ) (r : Scanned) → Scans t (textObject s) r → (r .number ≡ 0 → ⊥)
+    → record { number = r .number; len = 0 } ≡ measured (readText s)
+unfolding readText measured
+length-refused s t r q z = go (textObject s) q
+  where
+    go : (o : Outcome ObjectFile) → Scans t o r → record { number = r .number; len = 0 } ≡ measured (o >>= λ h. given (wordsOf h))
+    go (refused n) q = ap (λ (x : Scanned). record { number = x .number; len = 0 }) (q .0)
+    go (given h) q = absurd (z (q .yes))
+
+module _ (s t : List ℕ) (r : Scanned) (q : Scans t (textObject s) r) (z : r .number ≡ 0) where
   answer : readText s ≡ given (joined (objectParts (trim s) t (r .sourced) (r .rows)))
   unfolding readText
   answer =
       let x = read-given s t r q z in
       ap (λ (o : Outcome ObjectFile). o >>= λ h. given (wordsOf h)) (x .1) ∙ ap given (file-words s t r (x .0) (x .1) (x .2))
 
-  pub read-unescapes : r .sourced ≡ true → Unescapes t (r .rows)
-  read-unescapes = let x = read-given s t r q z in file-unescapes s t r (x .0) (x .1) (x .2)
+  pub read-countable : length s < 2 ^ 63 → r .sourced ≡ true → Countable t (r .rows)
+  read-countable l y =
+      let x = read-given s t r q z in (
+        file-unescapes s t r (x .0) (x .1) (x .2) y,
+        (let k = file-source s t r (x .0) (x .1) (x .2) y in omega arith),
+      )
 
   pub read-inside : r .end ≡ length t
   read-inside = let x = read-given s t r q z in x .2 .end
 
+  few : length (joined (objectParts (trim s) t (r .sourced) (r .rows))) ≤ length s
+  few =
+      let x = read-given s t r q z in
+      omega (arith, text-words-few s (x .0) (x .1), ap length (file-words s t r (x .0) (x .1) (x .2)))
+
+  pub length-fits : (room : ℕ) → length s ≤ room → none ≡ roomAfter (objectParts (trim s) t (r .sourced) (r .rows)) room → ⊥
+  length-fits room l o = omega (arith, few, room-lacks (objectParts (trim s) t (r .sourced) (r .rows)) room o)
+
+  module _ (room m : ℕ) (o : some m ≡ roomAfter (objectParts (trim s) t (r .sourced) (r .rows)) room) where
+    pub length-left : m ≤ room
+    length-left = omega (arith, room-is (objectParts (trim s) t (r .sourced) (r .rows)) room m o)
+
+    pub length-given : record { number = 0; len = room - m } ≡ measured (readText s)
+    unfolding measured
+    length-given =
+        let n : room - m ≡ length (joined (objectParts (trim s) t (r .sourced) (r .rows))) =
+        omega (arith, room-is (objectParts (trim s) t (r .sourced) (r .rows)) room m o) in
+        ap (λ (k : ℕ). record { number = 0; len = k }) n ∙ sym (ap measured answer)
+
+module _ (s t : List ℕ) (r : Scanned) (buffer : List ℕ) (q : Scans t (textObject s) r) (z : r .number ≡ 0) where
   pub read-short : none ≡ roomAfter (objectParts (trim s) t (r .sourced) (r .rows)) (length buffer)
       → record { number = 3; len = 0; buffer = buffer } ≡ fill (readText s) buffer
   unfolding fill
   read-short o =
-      sym (ap (λ (x : Outcome (List ℕ)). fill x buffer) answer
+      sym (ap (λ (x : Outcome (List ℕ)). fill x buffer) (answer s t r q z)
       ∙ rw (lt-leb _ _ (room-lacks (objectParts (trim s) t (r .sourced) (r .rows)) (length buffer) o)) refl)
 
   module _ (m : ℕ) (o : some m ≡ roomAfter (objectParts (trim s) t (r .sourced) (r .rows)) (length buffer)) where
@@ -155,4 +201,19 @@ module _ (s t : List ℕ) (r : Scanned) (buffer : List ℕ) (q : Scans t (textOb
 
     pub read-put : (n : ℕ) (after : List ℕ) → Put (joined (objectParts (trim s) t (r .sourced) (r .rows))) buffer n after
         → record { number = 0; len = n; buffer = after } ≡ fill (readText s) buffer
-    read-put n after w = put-fills _ buffer read-fits w ∙ sym (ap (λ (x : Outcome (List ℕ)). fill x buffer) answer)
+    read-put n after w = put-fills _ buffer read-fits w ∙ sym (ap (λ (x : Outcome (List ℕ)). fill x buffer) (answer s t r q z))
+
+-- THE FILE'S RANGES, as the calls lend them: what trimming leaves, and the file up to the end of it
+module _ (s : List ℕ) (r : Scanned) (q : Scans (take (r .end) s) (textObject s) r) (z : r .number ≡ 0) where
+  cut-is : take (r .end) s ≡ take (r .end - 0) s
+  cut-is = let k : r .end ≡ r .end - 0 = omega arith in ap (λ (n : ℕ). take n s) k
+
+  pub lent-inside : r .end ≤ length s
+  lent-inside = omega (arith, read-inside s (take (r .end) s) r q z, length-take (r .end) s)
+
+  pub lent-countable : length s < 2 ^ 63 → r .sourced ≡ true → Countable (take (r .end - 0) s) (r .rows)
+  lent-countable l y = subst (λ (t : List ℕ). Countable t (r .rows)) cut-is (read-countable s (take (r .end) s) r q z l y)
+
+  pub lent-parts : (u : List ℕ) → trim s ≡ u
+      → objectParts u (take (r .end - 0) s) (r .sourced) (r .rows) ≡ objectParts (trim s) (take (r .end) s) (r .sourced) (r .rows)
+  lent-parts u w = ap₂ (λ (u t : List ℕ). objectParts u t (r .sourced) (r .rows)) (sym w) (sym cut-is)

@@ -1,17 +1,17 @@
 -- The five parts of a text file's object: where they are empty, and the room that they leave. Assumes nothing.
-use mathlib.Core.Path.{_≡_, refl, sym, ap, _∙_, subst}
+use mathlib.Core.Path.{_≡_, refl, sym, ap, _∙_}
 use mathlib.Core.Bool.{Bool, true, false, _&&_, _||_, not}
-use mathlib.Core.List.{List, [], _∷_, _++_, map, flatMap, append-nil}
+use mathlib.Core.List.{List, [], _∷_, _++_, map, flatMap}
 use mathlib.Core.Option.{Option, none, some}
-use Prim.Native.Nat.{ℕ, suc, _+_, _-_, _/_, _%_, _^_, _≤_, _<_}
+use Prim.Native.Nat.{ℕ, suc, _+_, _-_, _/_, _≤_}
 use native.Mathlib.Omega.{arith}
-use lib.ListN.{length, length-append}
+use lib.ListN.{length}
 use lib.Dec.{eqb}
-use borrow.Author.Tests.{ne-eqb, eq-eqb}
-use Rattle.format.specs.Basics.{if_then_else_, isEmpty}
+use borrow.Author.Tests.{ne-eqb}
+use Rattle.format.specs.Basics.{isEmpty}
 use Rattle.format.specs.ObjectFile.{Label}
 use Rattle.format.specs.Records.{label, sourceRecords}
-use Rattle.format.specs.Words.{word, textWords, recordWords}
+use Rattle.format.specs.Words.{textWords, recordWords}
 use Rattle.format.proofs.ListLaws.{flatMap-append}
 use Rattle.writing.specs.Written.{Put}
 use Rattle.writing.proofs.TextLaws.{length-words}
@@ -21,11 +21,12 @@ use Rattle.text_scan.specs.Walk.{lineBlocksOf, sourceOf}
 use Rattle.text_labels.specs.Labels.{labelsOf}
 use Rattle.text_words.specs.Written.{putEach, PutEach}
 use Rattle.text_words.specs.Room.{roomFor, roomAfter}
-use Rattle.text_words.proofs.RoomLaws.{room-short, room-one, rooms-none, rooms-short, rooms-on, room-is}
+use Rattle.text_words.proofs.RoomLaws.{room-one, rooms-short, rooms-on, room-is}
 use Rattle.text_words.proofs.PutLaws.{put-fits}
 use Rattle.text_read.specs.Runs.{blockWords}
 use Rattle.text_read.specs.SourceText.{sourceAt}
-use Rattle.text_read.specs.Parts.{joined, rowParts, labelParts, lineParts, sourceParts, relocationParts, keepsRelocations, objectParts}
+use Rattle.text_read.specs.Parts.{joined, rowParts, labelParts, lineParts, sourceParts, relocationParts}
+use Rattle.text_read.specs.Parts.{keepsRelocations, objectParts}
 
 module _ (sourced : Bool) (t : List ℕ) (rows : ℕ) where
   pub lines-none : sourced ≡ false → lineParts sourced t rows ≡ []
@@ -64,9 +65,11 @@ module _ (ps : List (List ℕ)) (room : List ℕ) (e : ps ≡ []) where
 
   pub none-put : Put (joined ps) room 0 room
   unfolding flatMap
-  none-put = put-fits ps room 0 room (let z : length (joined ps) ≡ 0 = ap (λ (x : List (List ℕ)). length (joined x)) e in omega arith) none-each
+  none-put =
+      put-fits ps room 0 room (let z : length (joined ps) ≡ 0 = ap (λ (x : List (List ℕ)). length (joined x)) e in omega arith) none-each
 
-pub same-each : (ps qs : List (List ℕ)) (room : List ℕ) (r : ℕ) (after : List ℕ) → PutEach ps room r after → ps ≡ qs → PutEach qs room r after
+pub same-each : (ps qs : List (List ℕ)) (room : List ℕ) (r : ℕ) (after : List ℕ) → PutEach ps room r after → ps ≡ qs
+    → PutEach qs room r after
 same-each ps qs room r after w e = w ∙ ap (λ (x : List (List ℕ)). putEach x 0 room) e
 
 pub same-room : (ps qs : List (List ℕ)) (room : ℕ) (o : Option ℕ) → o ≡ roomAfter ps room → ps ≡ qs → o ≡ roomAfter qs room
@@ -77,20 +80,13 @@ module _ (sourced : Bool) (t : List ℕ) (rows : ℕ) (e : sourced ≡ true) (ro
   size : length (0x8000_0000 ∷ textWords (sourceAt t rows)) ≡ suc ((length (sourceAt t rows) + 2) / 3)
   size = ap suc (length-words (sourceAt t rows))
 
-  pub source-counted : (n : ℕ) → n ≡ length (sourceAt t rows) → (o : Option ℕ) → o ≡ roomFor (1 + n / 3 + (n % 3 + 2) / 3) room
+  pub source-counted : (n : ℕ) → n ≡ length (sourceAt t rows) → (o : Option ℕ) → o ≡ roomFor (1 + (n + 2) / 3) room
       → o ≡ roomAfter (sourceParts sourced t rows) room
   source-counted n q o w =
       let m : ℕ = length (sourceAt t rows) in
-      let z : 1 + n / 3 + (n % 3 + 2) / 3 ≡ suc ((m + 2) / 3) = omega (arith, q) in
-      same-room _ _ room o (room-one (0x8000_0000 ∷ textWords (sourceAt t rows)) room o (w ∙ ap (λ (k : ℕ). roomFor k room) (z ∙ sym size))) (sym (source-some sourced t rows e))
-
-  pub source-many : 0xFFFF_FFFF_FFFF_FFF0 < length (sourceAt t rows) → room < 2 ^ 62 → none ≡ roomAfter (sourceParts sourced t rows) room
-  source-many h k =
-      let m : ℕ = length (sourceAt t rows) in
-      let z : room < suc ((m + 2) / 3) = omega arith in
-      same-room _ _ room none
-      (room-one (0x8000_0000 ∷ textWords (sourceAt t rows)) room none
-      (room-short (length (0x8000_0000 ∷ textWords (sourceAt t rows))) room (subst (λ (x : ℕ). room < x) (sym size) z)))
+      let z : 1 + (n + 2) / 3 ≡ suc ((m + 2) / 3) = omega (arith, q) in
+      same-room _ _ room o
+      (room-one (0x8000_0000 ∷ textWords (sourceAt t rows)) room o (w ∙ ap (λ (k : ℕ). roomFor k room) (z ∙ sym size)))
       (sym (source-some sourced t rows e))
 
 -- RELOCATIONS are kept where there are words of labels, or a source
@@ -99,7 +95,8 @@ unfolding isEmpty flatMap recordWords
 labels-words [] = refl
 labels-words (l ∷ ls) = sym (ne-eqb (length (joined (map recordWords (map label (l ∷ ls))))) 0 (λ z. omega (arith, z)))
 
-pub keeps-is : (sourced : Bool) (u : List ℕ) (n : ℕ) → n ≡ length (joined (labelParts u)) → (sourced || not (eqb n 0)) ≡ keepsRelocations sourced u
+pub keeps-is : (sourced : Bool) (u : List ℕ) (n : ℕ) → n ≡ length (joined (labelParts u))
+    → (sourced || not (eqb n 0)) ≡ keepsRelocations sourced u
 unfolding keepsRelocations
 keeps-is true u n e = sym (ap not (and-false (isEmpty (labelsOf u))))
   where
@@ -172,9 +169,6 @@ module _ (u t : List ℕ) (sourced : Bool) (rows : ℕ) where
         module _ (c : ℕ) (q : some c ≡ roomAfter (lineParts sourced t rows) b) where
           on2 : roomAfter from3 c ≡ roomAfter (objectParts u t sourced rows) room
           on2 = rooms-on (lineParts sourced t rows) from3 from2 b refl c q ∙ on1
-
-          pub below : c ≤ room
-          below = omega (arith, room-is (rowParts 0 u) room a o, room-is (labelParts u) a b p, room-is (lineParts sourced t rows) b c q)
 
           pub short3 : none ≡ roomAfter (sourceParts sourced t rows) c → none ≡ roomAfter (objectParts u t sourced rows) room
           short3 r = rooms-short (sourceParts sourced t rows) from4 from3 c refl r ∙ on2

@@ -1,25 +1,20 @@
 -- Runs of rows. Assumes nothing.
 use mathlib.Core.Path.{_≡_, refl, sym, ap, ap₂, _∙_, subst}
-use mathlib.Core.Bool.{Bool, true, false}
 use mathlib.Core.List.{List, [], _∷_, _++_, map, append-nil, append-assoc}
 use mathlib.Core.Option.{Option, none, some}
-use Prim.Native.Nat.{ℕ, zero, suc, _+_, _-_, _≤_, _<_}
+use Prim.Native.Nat.{ℕ, suc, _+_, _-_, _≤_, _<_}
 use native.Mathlib.Omega.{arith}
-use native.Mathlib.Numerals.{add-one}
-use lib.ListN.{length, take, drop, set, length-append, length-map, length-drop}
-use lib.Dec.{eqb}
+use lib.ListN.{length, take, set, length-append, length-map, length-drop}
 use lib.Seq.{take-at, length-take-le}
 use borrow.Author.Tests.{ne-eqb, eq-eqb}
 use borrow.Rule.Slice.PartAt.{part-to-end}
 use borrow.Rule.Slice.PartMut.{midOf, putMid}
 use Rattle.format.specs.Basics.{andThen, isEmpty, if_then_else_}
 use Rattle.format.specs.Digits.{digitsOf}
-use Rattle.format.specs.ObjectFile.{LineBlock}
-use Rattle.format.specs.Records.{lineBlock}
 use Rattle.format.specs.TextReader.{runsFrom}
 use Rattle.format.specs.Words.{word, memoryWord, numberWords, recordWords}
 use Rattle.trim.specs.Span.{part}
-use Rattle.writing.specs.Written.{filled, written, Put}
+use Rattle.writing.specs.Written.{written, Put}
 use Rattle.writing.proofs.Parts.{State, Emits, rest, begin, emit-one, room-one, has-room}
 use Rattle.writing.proofs.WriteLaws.{too-short}
 use Rattle.text_lines.specs.Views.{StepAt}

@@ -1,14 +1,12 @@
 -- A text written byte by byte, and the tokens that it is from. Assumes nothing.
 use mathlib.Core.Path.{_≡_, refl, sym, ap, ap₂, _∙_, subst}
-use mathlib.Core.Bool.{Bool, true, false}
-use mathlib.Core.List.{List, [], _∷_, _++_, flatMap, append-nil, append-assoc}
-use Prim.Native.Nat.{ℕ, suc, _+_, _-_, _*_, _≤_, _<_}
+use mathlib.Core.Bool.{true}
+use mathlib.Core.List.{List, [], _∷_, _++_, flatMap}
+use Prim.Native.Nat.{ℕ, suc, _+_, _*_, _≤_, _<_}
 use native.Mathlib.Omega.{arith}
-use native.Mathlib.Numerals.{add-one}
 use lib.ListN.{length, take, drop, getD, set, length-append, drop-of-length-le}
-use lib.Dec.{ltb}
 use lib.Seq.{take-at}
-use Rattle.format.specs.Basics.{Outcome, refused, given, _>>=_, if_then_else_}
+use Rattle.format.specs.Basics.{refused, given}
 use Rattle.format.specs.Digits.{valueOf}
 use Rattle.format.specs.Tokens.{tokens}
 use Rattle.format.specs.TextReader.{unescape, unescapeAt}
@@ -18,14 +16,13 @@ use Rattle.writing.specs.Written.{Put}
 use Rattle.writing.proofs.EachLaws.{drop-at-place}
 use Rattle.writing.proofs.WriteLaws.{filled-fits, written-fits, length-into}
 use Rattle.encode.specs.Scalar.{scalarBytes}
-use Rattle.format.proofs.ListLaws.{by-test}
 use Rattle.format.proofs.WordsOnly.{bind-given, given-same}
-use Rattle.text_tables.specs.Debug.{lineView}
 use Rattle.text_source.specs.declared.Source.{Source}
 use Rattle.text_source.specs.Stream.{sourceFrom, bytesLeft}
 use Rattle.text_source.specs.Unescape.{tokensLeft, TokenAt}
 use borrow.Author.Tests.{lt-ltb, le-ltb}
-use Rattle.writing.proofs.Parts.{State, Emits, begin, emit-one, room-one, has-room, emitted, same}
+use Rattle.text_bound.proofs.Pieces.{encode-few}
+use Rattle.writing.proofs.Parts.{Emits, begin, emit-one, room-one, has-room, emitted, same}
 use Rattle.text_read.specs.declared.Held.{Held}
 use Rattle.text_read.specs.SourceText.{sourceAt, Unescapes, HeldIs, Texting, Ready, Pushes, Flushes}
 
@@ -184,13 +181,6 @@ pushing-end s start h room out i p l whole front more x =
     subst (λ (bs : List ℕ). Texting whole front (bs ++ more) out h) (drop-of-length-le s {i = i} l) (p .same whole front more x)
 
 -- A SCALAR VALUE
-pub encode-few : (v : ℕ) → length (encodeScalar v) ≤ 4
-unfolding encodeScalar
-encode-few v =
-    by-test (ltb v 0x80) (λ t. rw t (omega arith))
-    (λ a. by-test (ltb v 0x800) (λ t. rw (a, t) (omega arith))
-    (λ b. by-test (ltb v 0x10000) (λ t. rw (a, b, t) (omega arith)) (λ t. rw (a, b, t) (omega arith))))
-
 module _ (v : ℕ) (bytes after : List ℕ) (n : ℕ) (z : isScalar v ≡ true) (l : length bytes ≡ 4) (p : Put (scalarBytes v) bytes n after) where
   bytes-are : scalarBytes v ≡ encodeScalar v
   unfolding scalarBytes

@@ -1,8 +1,9 @@
 -- The source of a text file, unescaped. Assumes nothing.
 use mathlib.Core.Path.{_≡_}
 use mathlib.Core.List.{List, [], _∷_, _++_}
-use Prim.Native.Nat.{ℕ, _+_, _*_, _<_}
-use Rattle.format.specs.Basics.{Outcome, given}
+use Prim.Native.Nat.{ℕ, _+_, _*_, _^_, _<_}
+use lib.ListN.{length}
+use Rattle.format.specs.Basics.{given}
 use Rattle.format.specs.TextReader.{unescape}
 use Rattle.format.specs.Words.{textWords}
 use Rattle.writing.specs.Written.{Put}
@@ -11,8 +12,6 @@ use Rattle.text_tables.specs.Debug.{lineView}
 use Rattle.text_source.specs.Stream.{sourceFrom}
 use Rattle.text_debug.specs.DebugGroup.{sourceIn}
 use Rattle.text_read.specs.declared.Held.{Held}
-use Rattle.text_read.specs.declared.Count.{Count}
-use Rattle.text_read.specs.declared.Count.the-variants as count
 
 -- the source in the rows from a place on
 abbrev pub sourceAt : List ℕ → ℕ → List ℕ
@@ -21,6 +20,10 @@ sourceAt t rows = sourceIn (lineView t rows .0)
 -- the rows from a place on unescape
 abbrev pub Unescapes : List ℕ → ℕ → Type 0
 Unescapes t rows = unescape (sourceFrom t rows) ≡ given (sourceAt t rows)
+
+-- and 64 bits can count the bytes of the source
+abbrev pub Countable : List ℕ → ℕ → Type 0
+Countable t rows = Unescapes t rows × (length (sourceAt t rows) < 2 ^ 63)
 
 -- the bytes held over, at most two, whose value is kept low byte first
 abbrev pub HeldIs : Held → List ℕ → Type 0
@@ -49,8 +52,3 @@ Pushes bs h out r after = (whole room more : List ℕ) → Texting whole room (b
 -- the text ends, and all its words stand
 abbrev pub Flushes : Held → List ℕ → ℕ → List ℕ → Type 0
 Flushes h out r after = (whole room : List ℕ) → Texting whole room [] out h → Put whole room r after
-
--- so many bytes, or about as many as 64 bits can count, or more
-abbrev pub Counted : ℕ → Count → Type 0
-Counted bytes (count.Bytes n) = n ≡ bytes
-Counted bytes count.Many = 0xFFFF_FFFF_FFFF_FFF0 < bytes

@@ -15,17 +15,17 @@ use text_words::put_rows;
 use text_words::rows_room;
 use trim::trim;
 use units::Filled;
+use units::Measured;
 use writing::put_number_words;
 use writing::put_word;
 ghost use mathlib.Core.Path.{_≡_};
 ghost use mathlib.Core.Bool.{true, _||_, not};
 ghost use mathlib.Core.List.{[], _∷_, map};
-ghost use mathlib.Core.Option.{some};
-ghost use Prim.Native.Nat.{_^_, _≤_, _<_};
+ghost use Prim.Native.Nat.{_≤_};
 ghost use lib.ListN.{length, take};
 ghost use lib.Dec.{eqb};
-ghost use Rattle.format.specs.Calls.{readText, fill};
-ghost use Rattle.units.specs.Filled.{filledOf};
+ghost use Rattle.format.specs.Calls.{readText, fill, measured};
+ghost use Rattle.units.specs.Filled.{filledOf, measuredOf};
 ghost use Rattle.format.specs.Utf8.{isScalar, encodeScalar};
 ghost use Rattle.format.specs.Words.{memoryWord, textWords};
 ghost use Rattle.writing.specs.Written.{Put};
@@ -33,9 +33,9 @@ ghost use Rattle.text_tables.specs.Debug.{lineView};
 ghost use Rattle.text_debug.specs.DebugGroup.{addressIn, lineBlocksIn};
 ghost use Rattle.text_words.specs.Written.{PutEach};
 ghost use Rattle.text_words.specs.Room.{roomOf, roomFor, roomAfter};
-ghost use Rattle.text_read.specs.Runs.{addressesFrom, NextRun, blockWords, runWords, runParts, runRoom};
+ghost use Rattle.text_read.specs.Runs.{addressesFrom, NextRun, blockWords, runParts, runRoom};
 ghost use Rattle.text_read.specs.Parts.{joined, lineParts, sourceParts, relocationParts, objectParts};
-ghost use Rattle.text_read.specs.SourceText.{Counted, sourceAt, Unescapes, Ready, Pushes, Flushes};
+ghost use Rattle.text_read.specs.SourceText.{sourceAt, Unescapes, Countable, Ready, Pushes, Flushes};
 
 // A run of rows with an address: how many, and the place after the row without one that ends it; or one that reaches the last row.
 enum Run {
@@ -291,16 +291,10 @@ fn scalar_length(v: u32) -> usize
     4
 }
 
-// How many bytes the source has, or more than can be counted.
-enum Count {
-    Bytes(usize),
-    Many,
-}
-
 // How many bytes the source has.
-fn source_length(t: &[u8], rows: usize) -> Count
-    requires { ⌜ Unescapes (now t) rows ⌝ }
-    ensures { λ r. ⌜ Counted (length (sourceAt (now (t .entry)) rows)) r ⌝ }
+fn source_length(t: &[u8], rows: usize) -> usize
+    requires { ⌜ Countable (now t) rows ⌝ }
+    ensures { λ r. ⌜ r ≡ length (sourceAt (now (t .entry)) rows) ⌝ }
 {
     let mut n: usize = 0;
     let mut cur = Source {
@@ -309,9 +303,6 @@ fn source_length(t: &[u8], rows: usize) -> Count
         next: rows,
     };
     loop {
-        if 0xFFFF_FFFF_FFFF_FFF0 < n {
-            return Count::Many;
-        }
         let token = next_token(t, cur);
         match token {
             Token::Plain(_, d) => {
@@ -323,10 +314,10 @@ fn source_length(t: &[u8], rows: usize) -> Count
                 cur = d;
             }
             Token::Bad => {
-                return Count::Bytes(0);
+                return 0;
             }
             Token::Done => {
-                return Count::Bytes(n);
+                return n;
             }
         }
     }
@@ -342,18 +333,16 @@ fn take_room(room: usize, n: usize) -> Room
     Room::Left(room - n)
 }
 
-// The room, less than 2^62 words, after the source; a buffer of words is never longer.
+// The room after the source.
 fn source_room(t: &[u8], sourced: bool, rows: usize, room: usize) -> Room
-    requires { ⌜ (sourced ≡ true → Unescapes (now t) rows) × (room < 2 ^ 62) ⌝ }
+    requires { ⌜ (sourced ≡ true → Countable (now t) rows) ⌝ }
     ensures { λ r. ⌜ roomOf r ≡ roomAfter (sourceParts sourced (now (t .entry)) rows) room ⌝ }
 {
     if !sourced {
         return Room::Left(room);
     }
-    match source_length(t, rows) {
-        Count::Many => Room::Short,
-        Count::Bytes(n) => take_room(room, 1 + n / 3 + (n % 3 + 2) / 3),
-    }
+    let n = source_length(t, rows);
+    take_room(room, 1 + (n + 2) / 3)
 }
 
 // The room after the line blocks, if there are rows of lines.
@@ -420,9 +409,9 @@ fn keeps_relocations(sourced: bool, labels: usize) -> bool
     labels != 0
 }
 
-// The room, less than 2^62 words, after the five parts.
+// The room after the five parts.
 fn object_room(u: &[u8], t: &[u8], sourced: bool, rows: usize, room: usize) -> Room
-    requires { ⌜ (sourced ≡ true → Unescapes (now t) rows) × (room < 2 ^ 62) ⌝ }
+    requires { ⌜ (sourced ≡ true → Countable (now t) rows) ⌝ }
     ensures { λ r. ⌜ roomOf r ≡ roomAfter (objectParts (now (u .entry)) (now (t .entry)) sourced rows) room ⌝ }
 {
     let Room::Left(a) = rows_room(u, 0, room) else {
@@ -455,6 +444,34 @@ fn put_object(out: &mut [u32], u: &[u8], t: &[u8], sourced: bool, rows: usize) -
     let kept = keeps_relocations(sourced, n);
     at += put_relocations(&mut out[at..], u, kept);
     at
+}
+
+// How many words a text file makes, or the number of the first question that is answered no, 20 to 31. The room is never too short: a file
+// has at least as many bytes as its object has words.
+pub fn text_length(s: &[u8]) -> Measured
+    ensures { λ r. ⌜ measuredOf r ≡ measured (readText (now (s .entry))) ⌝ }
+{
+    let scanned = scan_text(s);
+    let number = scanned.number;
+    if number != 0 {
+        return Measured { number, len: 0 };
+    }
+    let w = trim(s, 0, s.len());
+    let from = w.start;
+    let to = w.end;
+    let end = scanned.end;
+    let most = 0xFFFF_FFFF_FFFF_FFFF;
+    let Room::Left(left) = object_room(
+        &s[from..to],
+        &s[0..end],
+        scanned.sourced,
+        scanned.rows,
+        most,
+    ) else {
+        return Measured { number: 3, len: 0 };
+    };
+    let n = most - left;
+    Measured { number: 0, len: n }
 }
 
 // The words of a text file, or the number of the first question that is answered no, 20 to 31; 3 where the buffer is too short.

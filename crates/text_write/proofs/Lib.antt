@@ -1,3 +1,5 @@
 pub mod WalkLaws
 pub mod PartLaws
 pub mod OnlyLaws
+pub mod GroupLaws
+pub mod FileLaws

@@ -1,6 +1,15 @@
 // Writing the text form: its parts, each a walk along the records of an object that is well formed. Rooms are measured first, so that
 // what is written fits.
+mod lines;
+
+use label_tables::measure_labels;
+use label_tables::measure_symbols;
+use label_tables::put_label_table;
+use label_tables::put_symbol_table;
+use lines::measure_source;
+use lines::put_source;
 use measuring::Room;
+use measuring::take;
 use object::body_end;
 use object::body_len;
 use object::goes_on;
@@ -12,17 +21,23 @@ use text_rows_out::put_address_line;
 use text_rows_out::put_count_line;
 use text_rows_out::put_linker_row;
 use text_rows_out::put_memory_line;
+use units::Filled;
+use writing::put_bytes;
+use writing::put_u8;
 ghost use mathlib.Core.Path.{_≡_};
 ghost use mathlib.Core.Bool.{not, _||_};
 ghost use lib.Dec.{eqb};
 ghost use Prim.Native.Nat.{_+_, _≤_, _<_};
 ghost use lib.ListN.{length};
-ghost use Rattle.format.specs.Calls.{checked};
+ghost use Rattle.format.specs.Basics.{isEmpty};
+ghost use Rattle.format.specs.Calls.{checked, fill, writeText};
+ghost use Rattle.units.specs.Filled.{filledOf};
 ghost use Rattle.format.specs.TextWriter.{blocksOnly};
 ghost use Rattle.writing.specs.Written.{Put};
 ghost use Rattle.object.specs.Bodies.{bodyAt, Text};
 ghost use Rattle.object.specs.Access.{kindAt};
 ghost use Rattle.measuring.specs.Room.{roomOf, lessPart};
+ghost use Rattle.text_write.specs.Groups.{linkerText, namesText, debugText, groupsText, fileText};
 ghost use Rattle.text_write.specs.Tables.{objectIn, memoryLines, blockPart, blocksText, relocationPart, relocationsText};
 
 // The memory words that go on at a place, a line each.
@@ -167,6 +182,49 @@ fn put_relocations(out: &mut [u8], ws: &[u32]) -> usize
     n
 }
 
+// Whether an object has relocations.
+fn has_relocations(ws: &[u32]) -> bool
+    requires { ⌜ checked (now ws) ≡ 0 ⌝ }
+    ensures { λ r. ⌜ r ≡ not (isEmpty (relocationsText (now (ws .entry)))) ⌝ }
+{
+    let mut at = 0;
+    while at < ws.len() {
+        if kind(ws[at]) == 5 {
+            return true;
+        }
+        at = body_end(ws, at + 1);
+    }
+    false
+}
+
+// The room that the linker table leaves: its header needs room only if there are rows.
+fn measure_linker(room: usize, ws: &[u32]) -> Room
+    requires { ⌜ checked (now ws) ≡ 0 ⌝ }
+    ensures { λ r. ⌜ roomOf r ≡ lessPart room (linkerText (now (ws .entry))) ⌝ }
+{
+    let Room::Left(left) = measure_relocations(room, ws) else {
+        return Room::Short;
+    };
+    if left == room {
+        return Room::Left(room);
+    }
+    take(left, 13)
+}
+
+// The linker table.
+fn put_linker(out: &mut [u8], ws: &[u32]) -> usize
+    requires { ⌜ (checked (now ws) ≡ 0) × (length (linkerText (now ws)) ≤ length (now out)) ⌝ }
+    ensures { λ r. ⌜ Put (linkerText (now (ws .entry))) (now (out .entry)) r (now (out .exit)) ⌝ }
+{
+    if !has_relocations(ws) {
+        return 0;
+    }
+    let mut n = 0;
+    n += put_bytes(&mut out[n..], b"ADDR | LABEL\n");
+    n += put_relocations(&mut out[n..], ws);
+    n
+}
+
 // Whether a record of this kind is neither a block nor a line block.
 fn is_symbolic(k: u32) -> bool
     ensures { λ r. ⌜ r ≡ not (eqb k 0 || eqb k 3) ⌝ }
@@ -193,4 +251,108 @@ fn blocks_only(ws: &[u32]) -> bool
         at = body_end(ws, at + 1);
     }
     true
+}
+
+// The room that the groups past .TEXT leave: their 81 bytes of fixed lines first, then the tables.
+fn measure_groups(room: usize, ws: &[u32]) -> Room
+    requires { ⌜ checked (now ws) ≡ 0 ⌝ }
+    ensures { λ r. ⌜ roomOf r ≡ lessPart room (groupsText (now (ws .entry))) ⌝ }
+{
+    if blocks_only(ws) {
+        return Room::Left(room);
+    }
+    let Room::Left(a) = take(room, 81) else {
+        return Room::Short;
+    };
+    let Room::Left(b) = measure_symbols(ws, a) else {
+        return Room::Short;
+    };
+    let Room::Left(c) = measure_linker(b, ws) else {
+        return Room::Short;
+    };
+    let Room::Left(d) = measure_labels(ws, c) else {
+        return Room::Short;
+    };
+    measure_source(d, ws)
+}
+
+// The room that the text file leaves: 22 bytes of fixed lines, the blocks, and the groups.
+fn measure_file(room: usize, ws: &[u32]) -> Room
+    requires { ⌜ checked (now ws) ≡ 0 ⌝ }
+    ensures { λ r. ⌜ roomOf r ≡ lessPart room (fileText (now (ws .entry))) ⌝ }
+{
+    let Room::Left(a) = take(room, 22) else {
+        return Room::Short;
+    };
+    let Room::Left(b) = measure_blocks(a, ws) else {
+        return Room::Short;
+    };
+    measure_groups(b, ws)
+}
+
+// .SYMBOL and .LINKER_INFO.
+fn put_names(out: &mut [u8], ws: &[u32]) -> usize
+    requires { ⌜ (checked (now ws) ≡ 0) × (length (namesText (now ws)) ≤ length (now out)) ⌝ }
+    ensures { λ r. ⌜ Put (namesText (now (ws .entry))) (now (out .entry)) r (now (out .exit)) ⌝ }
+{
+    let mut n = 0;
+    n += put_bytes(&mut out[n..], b".SYMBOL\n");
+    n += put_symbol_table(&mut out[n..], ws);
+    n += put_bytes(&mut out[n..], b"\n.LINKER_INFO\n");
+    n += put_linker(&mut out[n..], ws);
+    n
+}
+
+// .DEBUG, after an empty line.
+fn put_debug(out: &mut [u8], ws: &[u32]) -> usize
+    requires { ⌜ (checked (now ws) ≡ 0) × (length (debugText (now ws)) ≤ length (now out)) ⌝ }
+    ensures { λ r. ⌜ Put (debugText (now (ws .entry))) (now (out .entry)) r (now (out .exit)) ⌝ }
+{
+    let mut n = 0;
+    n += put_bytes(&mut out[n..], b"\n.DEBUG\n# DEBUG SYMBOLS FOR LC3TOOLS\n\n");
+    n += put_label_table(&mut out[n..], ws);
+    n += put_bytes(&mut out[n..], b"====================\n");
+    n += put_source(&mut out[n..], ws);
+    n
+}
+
+// The groups past .TEXT; none where the object has blocks only.
+fn put_groups(out: &mut [u8], ws: &[u32]) -> usize
+    requires { ⌜ (checked (now ws) ≡ 0) × (length (groupsText (now ws)) ≤ length (now out)) ⌝ }
+    ensures { λ r. ⌜ Put (groupsText (now (ws .entry))) (now (out .entry)) r (now (out .exit)) ⌝ }
+{
+    if blocks_only(ws) {
+        return 0;
+    }
+    let mut n = 0;
+    n += put_names(&mut out[n..], ws);
+    n += put_debug(&mut out[n..], ws);
+    n
+}
+
+// The text file of a well formed object.
+fn put_file(out: &mut [u8], ws: &[u32]) -> usize
+    requires { ⌜ (checked (now ws) ≡ 0) × (length (fileText (now ws)) ≤ length (now out)) ⌝ }
+    ensures { λ r. ⌜ Put (fileText (now (ws .entry))) (now (out .entry)) r (now (out .exit)) ⌝ }
+{
+    let mut n = 0;
+    n += put_bytes(&mut out[n..], b"LC-3 OBJ FILE\n\n.TEXT\n");
+    n += put_blocks(&mut out[n..], ws);
+    n += put_u8(&mut out[n..], 0x0A);
+    n += put_groups(&mut out[n..], ws);
+    n
+}
+
+// Writes the text file of an object. Every check comes before the first byte.
+pub fn write_text(object: &[u32], out: &mut [u8]) -> Filled
+    ensures { λ r. ⌜ filledOf r (now (out .exit)) ≡ fill (writeText (now (object .entry))) (now (out .entry)) ⌝ }
+{
+    let n = well_formed::check(object);
+    if n != 0 {
+        return Filled::refused(n);
+    }
+    let Room::Left(_) = measure_file(out.len(), object) else {
+        return Filled::refused(3);
+    };
+    Filled::given(put_file(out, object))
 }

@@ -6,9 +6,9 @@ use lib.ListN.{length}
 use denote.Ref.{now}
 use mathlib.Core.Option.{some}
 use borrow.Author.Tests.{not-true, not-false, leb-true, leb-false}
+use Rattle.measuring.proofs.RoomLaws.{less-none, less-some}
 use Rattle.label_tables.specs.Rows.{labelLine}
 use Rattle.label_tables.proofs.RowLaws.{label-size}
-use Rattle.label_tables.proofs.RoomLaws.{room-short, room-left}
 use Rattle.label_tables.proofs.label_row_room.Statement.{statement}
 use Rattle.label_tables.proofs.label_row_room.Tie as tie
 
@@ -45,7 +45,7 @@ module _ (t : tie.After-is-room) where
 returns : tie.Need-returns
 returns c =
     let t = c .before in
-    room-short (line t) (start t .args .room)
+    less-none (start t .args .room) (line t)
     (omega (
       arith,
       long t,
@@ -63,7 +63,7 @@ returns-2 c =
     let t = c .before in
     let room = start t .args .room in
     let e : room - first t - fill t - last t ≡ room - line t = omega (arith, long t, fits c) in
-    ap some e ∙ room-left (line t) room (omega (arith, long t, fits c))
+    ap some e ∙ less-some room (line t) (omega (arith, long t, fits c))
 
 pub label-row-room-spec : {M : Type 1} → statement M
 label-row-room-spec =

@@ -7,11 +7,12 @@ use lib.ListN.{length}
 use denote.Ref.{now}
 use borrow.Author.Tests.{not-true, not-false, leb-true, leb-false}
 use Rattle.format.specs.TextWriter.{labelHeader}
+use Rattle.measuring.specs.Room.{less, lessPart}
+use Rattle.measuring.proofs.RoomLaws.{less-none, less-on, less-nothing}
 use Rattle.label_order.specs.Labels.{placesFrom, labelPlaces}
 use Rattle.label_order.proofs.PlaceLaws.{found-next, found-none}
 use Rattle.label_tables.specs.Rows.{labelLine}
-use Rattle.label_tables.specs.Tables.{roomAfter, namesWidth, indicesWidth, labelsLength}
-use Rattle.label_tables.proofs.RoomLaws.{room-short, room-all, room-more}
+use Rattle.label_tables.specs.Tables.{namesWidth, indicesWidth, labelsLength}
 use Rattle.label_tables.proofs.FrameLaws.{table-none, table-size, label-header-size}
 use Rattle.label_tables.proofs.measure_labels.Statement.{statement}
 use Rattle.label_tables.proofs.measure_labels.Tie as tie
@@ -23,8 +24,8 @@ returns c =
     let a = m .before .before .args in
     let ws = now (a .ws) in
     let e = found-none ws 0 (m .next-label .result) (m .next-label .ensures .0) (c .enum-told2 .given .1) in
-    room-all (a .room)
-    ∙ ap (λ l. roomAfter (length l) (a .room)) (sym (table-none (labelHeader (namesWidth ws) (indicesWidth ws))
+    less-nothing (a .room)
+    ∙ ap (lessPart (a .room)) (sym (table-none (labelHeader (namesWidth ws) (indicesWidth ws))
     (labelLine (namesWidth ws) (indicesWidth ws) ws) (labelPlaces ws) (labelPlaces ws) e))
 
 -- where there is a label
@@ -64,7 +65,7 @@ module _ (t : tie.After-is-room) where
 returns-2 : tie.Need-returns-2
 returns-2 c =
     let t = c .before in
-    room-short (labelsLength (ws t)) (start t .args .room)
+    less-none (start t .args .room) (labelsLength (ws t))
     (omega (arith, size t, leb-false (head t) (start t .args .room) (sym (t .is-room .ensures) ∙ not-true _ (c .if1 .taken))))
 
 fits : (c : tie.Else1) → head (c .before) ≤ start (c .before) .args .room
@@ -77,11 +78,11 @@ returns-3 c =
     let left = room - 14 - t .before .before .past-header .result - t .before .past-header2 .result in
     let e : left ≡ room - head t = omega (arith, fits (c .before)) in
     c .label-rows-room .ensures
-    ∙ ap (λ k. roomAfter (length (flatMap (labelLine k (wide t .index-width .result) (ws t)) (labelPlaces (ws t)))) left)
+    ∙ ap (λ k. lessPart left (flatMap (labelLine k (wide t .index-width .result) (ws t)) (labelPlaces (ws t))))
     (wide t .before .label-width .ensures)
-    ∙ ap (λ k. roomAfter (length (flatMap (labelLine (namesWidth (ws t)) k (ws t)) (labelPlaces (ws t)))) left)
+    ∙ ap (λ k. lessPart left (flatMap (labelLine (namesWidth (ws t)) k (ws t)) (labelPlaces (ws t))))
     (wide t .index-width .ensures)
-    ∙ room-more (head t) room (lines t) left (fits (c .before)) e ∙ ap (λ n. roomAfter n room) (sym (size t))
+    ∙ ap (λ k. less k (lines t)) e ∙ less-on room (head t) (lines t) (fits (c .before)) ∙ ap (less room) (sym (size t))
 
 pub measure-labels-spec : {M : Type 1} → statement M
 measure-labels-spec =

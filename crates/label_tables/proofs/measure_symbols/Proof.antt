@@ -1,16 +1,17 @@
 use borrow.Author.Needs.{needs}
 use native.Mathlib.Omega.{arith}
-use mathlib.Core.Path.{_≡_, refl, sym, ap, _∙_}
+use mathlib.Core.Path.{_≡_, sym, ap, _∙_}
 use mathlib.Core.List.{flatMap}
 use Prim.Native.Nat.{_+_, _-_}
 use lib.ListN.{length}
 use denote.Ref.{now}
 use Rattle.format.specs.TextWriter.{symbolHeader}
+use Rattle.measuring.specs.Room.{less, lessPart}
+use Rattle.measuring.proofs.RoomLaws.{less-none, less-on, less-nothing}
 use Rattle.label_order.specs.Labels.{placesFrom, labelPlaces}
 use Rattle.label_order.proofs.PlaceLaws.{found-next, found-none}
 use Rattle.label_tables.specs.Rows.{symbolLine}
-use Rattle.label_tables.specs.Tables.{roomAfter, symbolsLength}
-use Rattle.label_tables.proofs.RoomLaws.{room-short, room-all, room-more}
+use Rattle.label_tables.specs.Tables.{symbolsLength}
 use Rattle.label_tables.proofs.FrameLaws.{table-none, table-size, symbol-header}
 use Rattle.label_tables.proofs.measure_symbols.Statement.{statement}
 use Rattle.label_tables.proofs.measure_symbols.Tie as tie
@@ -22,8 +23,8 @@ returns c =
     let a = m .before .before .args in
     let ws = now (a .ws) in
     let e = found-none ws 0 (m .next-label .result) (m .next-label .ensures .0) (c .enum-told2 .given .1) in
-    room-all (a .room) ∙ ap (λ l. roomAfter (length l) (a .room))
-    (sym (table-none symbolHeader (symbolLine ws) (labelPlaces ws) (labelPlaces ws) e))
+    less-nothing (a .room)
+    ∙ ap (lessPart (a .room)) (sym (table-none symbolHeader (symbolLine ws) (labelPlaces ws) (labelPlaces ws) e))
 
 -- where there is a label
 size : (c : tie.After-enum-told) → let ws = now (c .before .before .before .before .args .ws) in
@@ -39,16 +40,15 @@ size c =
 returns-2 : tie.Need-returns-2
 returns-2 c =
     let a = c .before .before .before .before .before .args in
-    room-short (symbolsLength (now (a .ws))) (a .room) (omega (arith, size (c .before), c .if1 .taken))
+    less-none (a .room) (symbolsLength (now (a .ws))) (omega (arith, size (c .before), c .if1 .taken))
 
 returns-3 : tie.Need-returns-3
 returns-3 c =
     let t = c .before .before in
     let a = t .before .before .before .before .args in
     let ws = now (a .ws) in
-    c .symbol-rows-room .ensures ∙ room-more 19 (a .room) (length (flatMap (symbolLine ws) (labelPlaces ws))) (a .room - 19)
-    (c .before .if1 .left) refl
-    ∙ ap (λ n. roomAfter n (a .room)) (sym (size t))
+    c .symbol-rows-room .ensures ∙ less-on (a .room) 19 (length (flatMap (symbolLine ws) (labelPlaces ws))) (c .before .if1 .left)
+    ∙ ap (less (a .room)) (sym (size t))
 
 pub measure-symbols-spec : {M : Type 1} → statement M
 measure-symbols-spec =

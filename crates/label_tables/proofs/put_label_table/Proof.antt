@@ -42,7 +42,7 @@ module _ (b : tie.After-enum-told) where
   fits : labelsLength ws ≤ length room
   fits =
       let m = b .before .before .measure-labels in
-      room-fits (labelsLength ws) (length room) (b .enum-told .given .0 .0) (m .result) (m .ensures) (b .enum-told .given .1)
+      room-fits (labelsLength ws) (length room) (m .result) (m .ensures) (b .enum-told .given .0 .0) (b .enum-told .given .1)
 
   is-fitting : fitting (labelsLength ws) (labelsOf ws) room ≡ labelsOf ws
   is-fitting = fitting-is (labelsLength ws) (labelsOf ws) room fits

@@ -35,7 +35,7 @@ module _ (b : tie.After-enum-told) where
   fits : symbolsLength ws ≤ length room
   fits =
       let m = b .before .before .measure-symbols in
-      room-fits (symbolsLength ws) (length room) (b .enum-told .given .0 .0) (m .result) (m .ensures) (b .enum-told .given .1)
+      room-fits (symbolsLength ws) (length room) (m .result) (m .ensures) (b .enum-told .given .0 .0) (b .enum-told .given .1)
 
   is-fitting : fitting (symbolsLength ws) (symbolsOf ws) room ≡ symbolsOf ws
   is-fitting = fitting-is (symbolsLength ws) (symbolsOf ws) room fits

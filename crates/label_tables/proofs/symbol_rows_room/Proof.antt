@@ -6,18 +6,17 @@ use Prim.Native.Nat.{_-_}
 use lib.ListN.{length}
 use denote.Ref.{now}
 use Rattle.gather.proofs.OrderLaws.{found-moves}
+use Rattle.measuring.specs.Room.{lessPart}
 use Rattle.label_order.specs.Labels.{placesFrom, labelPlaces}
 use Rattle.label_order.proofs.PlaceLaws.{found-next, found-none}
 use Rattle.label_tables.specs.Rows.{symbolLine}
-use Rattle.label_tables.specs.Tables.{roomAfter}
 use Rattle.label_tables.proofs.RoomLaws.{row-left, row-short, rows-none}
 use Rattle.label_tables.proofs.symbol_rows_room.Statement.{statement}
 use Rattle.label_tables.proofs.symbol_rows_room.Tie as tie
 
 abbrev Inv-loop : tie.InvT-loop
 Inv-loop ws room left₀ at₀ left at =
-    roomAfter (length (flatMap (symbolLine ws) (placesFrom ws at))) left
-    ≡ roomAfter (length (flatMap (symbolLine ws) (labelPlaces ws))) room
+    lessPart left (flatMap (symbolLine ws) (placesFrom ws at)) ≡ lessPart room (flatMap (symbolLine ws) (labelPlaces ws))
 
 abbrev μ-loop : tie.MeasureT-loop
 μ-loop ws room left₀ at₀ left at = length ws - at

@@ -1,12 +1,11 @@
 -- Part by part. Assumes nothing.
 use borrow.Author.Needs.{needs}
-use native.Mathlib.Omega.{arith}
 use mathlib.Core.Path.{_≡_, sym, ap, _∙_}
 use mathlib.Core.Option.{some}
 use denote.Ref.{now}
 use Rattle.text_words.specs.Room.{roomOf, roomAfter}
 use Rattle.text_read.specs.Parts.{rowParts, labelParts, lineParts, sourceParts}
-use Rattle.text_read.proofs.PartLaws.{short0, short1, short2, short3, below1, below, on3}
+use Rattle.text_read.proofs.PartLaws.{short0, short1, short2, short3, below1, on3}
 use Rattle.text_read.proofs.object_room.Statement.{statement}
 use Rattle.text_read.proofs.object_room.Tie as tie
 
@@ -54,13 +53,7 @@ returns-3 c =
     short2 _ _ _ _ _ _ (left0 (to-a b)) _ (left1 b) (sym (ap roomOf (c .enum-told3 .given .1)) ∙ l .lines-room .ensures)
 
 source-room-requires : tie.Need-source-room-requires
-source-room-requires c κs =
-    let x = c .before in
-    let b = to-b x in
-    let k = start (to-a b) in (
-      k .pre .0,
-      omega (arith, k .pre .1, below (now (k .args .u)) (now (k .args .t)) (k .args .sourced) (k .args .rows) _ _ (left0 (to-a b)) _ (left1 b) _ (left2 x)),
-    )
+source-room-requires c κs = start (to-a (to-b (c .before))) .pre
 
 returns-4 : tie.Need-returns-4
 returns-4 c =
@@ -80,11 +73,13 @@ returns-5 c =
     let d = c .before .before .before in
     let x = to-c d in
     let b = to-b x in
-    on3 _ _ _ _ _ _ (left0 (to-a b)) _ (left1 b) _ (left2 x) _ (left3 d) _ (c .before .keeps-relocations .ensures) _ (c .relocations-room .ensures)
+    on3 _ _ _ _ _ _ (left0 (to-a b)) _ (left1 b) _ (left2 x) _ (left3 d) _ (c .before .keeps-relocations .ensures) _
+    (c .relocations-room .ensures)
 
 pub object-room-spec : {M : Type 1} → statement M
 object-room-spec =
     tie.close
-    (tie.spec (λ c κs. search needs) (λ c. search needs) (λ c. search needs) returns (λ c κs. search needs) (λ c. search needs) (λ c. search needs) returns-2
-    (λ c κs. search needs) (λ c. search needs) (λ c. search needs) returns-3 source-room-requires (λ c. search needs) (λ c. search needs) returns-4
+    (tie.spec (λ c κs. search needs) (λ c. search needs) (λ c. search needs) returns (λ c κs. search needs) (λ c. search needs)
+    (λ c. search needs) returns-2 (λ c κs. search needs) (λ c. search needs) (λ c. search needs) returns-3 source-room-requires
+    (λ c. search needs) (λ c. search needs) returns-4
     sub-keeps-relocations (λ c κs. search needs) (λ c κs. search needs) returns-5)

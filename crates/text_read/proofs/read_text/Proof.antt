@@ -1,21 +1,20 @@
 -- The questions, the room, and the words. Assumes nothing.
 use borrow.Author.Needs.{needs}
 use native.Mathlib.Omega.{arith}
-use mathlib.Core.Path.{_≡_, refl, sym, ap, ap₂, _∙_, subst}
+use mathlib.Core.Path.{_≡_, sym, ap, _∙_, subst}
 use mathlib.Core.Bool.{true}
 use mathlib.Core.List.{List}
 use Prim.Native.Nat.{ℕ, _-_, _≤_}
-use lib.ListN.{length, take, drop, length-take}
+use lib.ListN.{length, take, drop}
 use denote.Ref.{now}
 use Rattle.format.specs.Utf8.{trim}
-use Rattle.format.specs.Calls.{Filled, fill, readText}
 use Rattle.units.specs.Filled.{filledOf}
 use Rattle.writing.specs.Written.{Put}
 use Rattle.text_lines.proofs.LineLaws.{to-end}
 use Rattle.text_words.specs.Room.{roomOf, roomAfter}
-use Rattle.text_read.specs.SourceText.{Unescapes}
+use Rattle.text_read.specs.SourceText.{Countable}
 use Rattle.text_read.specs.Parts.{joined, objectParts}
-use Rattle.text_read.proofs.FileLaws.{read-refused, read-unescapes, read-inside, read-short, read-fits, read-put}
+use Rattle.text_read.proofs.FileLaws.{read-refused, read-short, read-fits, read-put, lent-inside, lent-countable, lent-parts}
 use Rattle.text_read.proofs.read_text.Statement.{statement}
 use Rattle.text_read.proofs.read_text.Tie as tie
 
@@ -28,33 +27,34 @@ bytes c = now (scan c .before .before .before .args .s)
 abbrev room : tie.After-trim → List ℕ
 room c = now (scan c .before .before .before .args .out)
 
-abbrev trimmed : tie.After-trim → List ℕ
-trimmed c = take (c .trim .result .end - c .trim .result .start) (drop (c .trim .result .start) (bytes c))
-
-abbrev cut : tie.After-trim → List ℕ
-cut c = take (scan c .scan-text .result .end - 0) (bytes c)
-
-cut-is : (c : tie.After-trim) → take (scan c .scan-text .result .end) (bytes c) ≡ cut c
-cut-is c = let e : scan c .scan-text .result .end ≡ scan c .scan-text .result .end - 0 = omega arith in ap (λ (k : ℕ). take k (bytes c)) e
-
-trimmed-is : (c : tie.After-trim) → trim (bytes c) ≡ trimmed c
+trimmed-is : (c : tie.After-trim) → let w = c .trim .result in trim (bytes c) ≡ take (w .end - w .start) (drop (w .start) (bytes c))
 trimmed-is c = ap trim (sym (to-end (bytes c) 0)) ∙ sym (c .trim .ensures .1 .same)
 
 inside : (c : tie.After-trim) → scan c .scan-text .result .end ≤ length (bytes c)
-inside c =
-    let e = scan c .scan-text .result .end in
-    let i = read-inside (bytes c) _ _ (room c) (scan c .scan-text .ensures) (c .before .if1 .left) in
-    omega (arith, i, length-take e (bytes c))
+inside c = lent-inside (bytes c) (scan c .scan-text .result) (scan c .scan-text .ensures) (c .before .if1 .left)
 
-unescapes : (c : tie.After-trim) → let r = scan c .scan-text .result in (r .sourced ≡ true → Unescapes (cut c) (r .rows))
-unescapes c q =
+countable : (c : tie.After-trim) →
     let r = scan c .scan-text .result in
-    subst (λ (x : List ℕ). Unescapes x (r .rows)) (cut-is c) (read-unescapes (bytes c) _ _ (room c) (scan c .scan-text .ensures) (c .before .if1 .left) q)
+    (r .sourced ≡ true → Countable (take (r .end - 0) (bytes c)) (r .rows))
+countable c =
+    lent-countable (bytes c) (scan c .scan-text .result) (scan c .scan-text .ensures) (c .before .if1 .left)
+    (let h = scan c .before .before .shared-slice-known .given in omega arith)
 
-parts : (c : tie.After-trim) →
+abbrev parts : tie.After-trim → List (List ℕ)
+parts c = let r = scan c .scan-text .result in objectParts (trim (bytes c)) (take (r .end) (bytes c)) (r .sourced) (r .rows)
+
+parts-are : (c : tie.After-trim) →
     let r = scan c .scan-text .result in
-    objectParts (trimmed c) (cut c) (r .sourced) (r .rows) ≡ objectParts (trim (bytes c)) (take (r .end) (bytes c)) (r .sourced) (r .rows)
-parts c = let r = scan c .scan-text .result in ap₂ (λ (u t : List ℕ). objectParts u t (r .sourced) (r .rows)) (sym (trimmed-is c)) (sym (cut-is c))
+    let w = c .trim .result in
+    objectParts (take (w .end - w .start) (drop (w .start) (bytes c))) (take (r .end - 0) (bytes c)) (r .sourced) (r .rows) ≡ parts c
+parts-are c = lent-parts (bytes c) (scan c .scan-text .result) (scan c .scan-text .ensures) (c .before .if1 .left) _ (trimmed-is c)
+
+fits : (c : tie.After-object-room) →
+    let w = c .before .before .before in
+    roomOf (c .object-room .result) ≡ roomAfter (parts w) (length (room w))
+fits c =
+    let w = c .before .before .before in
+    c .object-room .ensures ∙ ap (λ (ps : List (List ℕ)). roomAfter ps (length (room w))) (parts-are w)
 
 returns : tie.Need-returns
 returns c =
@@ -69,17 +69,17 @@ returns-2 c =
     let w = o .before .before .before in
     ap (λ x. filledOf x (room w)) (c .refused2 .ensures)
     ∙ read-short (bytes w) _ _ (room w) (scan w .scan-text .ensures) (w .before .if1 .left)
-    (sym (ap roomOf (d .enum-told2 .given .1)) ∙ o .object-room .ensures ∙ ap (λ (ps : List (List ℕ)). roomAfter ps (length (room w))) (parts w))
+    (sym (ap roomOf (d .enum-told2 .given .1)) ∙ fits o)
 
 put-object-requires : tie.Need-put-object-requires
 put-object-requires c κs =
     let d = c .before .before .before in
     let o = d .before .before in
     let w = o .before .before .before in (
-      unescapes w,
-      subst (λ (ps : List (List ℕ)). length (joined ps) ≤ length (room w)) (sym (parts w))
+      λ q. countable w q .0,
+      subst (λ (ps : List (List ℕ)). length (joined ps) ≤ length (room w)) (sym (parts-are w))
           (read-fits (bytes w) _ _ (room w) (scan w .scan-text .ensures) (w .before .if1 .left) _
-          (sym (ap roomOf (d .enum-told .given .1)) ∙ o .object-room .ensures ∙ ap (λ (ps : List (List ℕ)). roomAfter ps (length (room w))) (parts w))),
+          (sym (ap roomOf (d .enum-told .given .1)) ∙ fits o)),
     )
 
 returns-3 : tie.Need-returns-3
@@ -90,16 +90,18 @@ returns-3 c =
     let w = o .before .before .before in
     ap (λ x. filledOf x (p .put-object .last .0)) (c .given .ensures)
     ∙ read-put (bytes w) _ _ (room w) (scan w .scan-text .ensures) (w .before .if1 .left) _
-    (sym (ap roomOf (d .enum-told .given .1)) ∙ o .object-room .ensures ∙ ap (λ (ps : List (List ℕ)). roomAfter ps (length (room w))) (parts w))
-    _ _ (subst (λ (ps : List (List ℕ)). Put (joined ps) (room w) (p .put-object .result) (p .put-object .last .0)) (parts w) (p .put-object .ensures))
+    (sym (ap roomOf (d .enum-told .given .1)) ∙ fits o) _ _
+    (subst (λ (ps : List (List ℕ)). Put (joined ps) (room w) (p .put-object .result) (p .put-object .last .0)) (parts-are w)
+    (p .put-object .ensures))
 
 object-room-requires : tie.Need-object-room-requires
-object-room-requires c κs = let w = c .before .before in (unescapes w, (let h = scan w .before .slice-known .given in omega arith))
+object-room-requires c κs = countable (c .before .before)
 
 pub read-text-spec : {M : Type 1} → statement M
 read-text-spec =
     tie.close
-    (tie.spec (λ c κs. search needs) (λ c κs. search needs) returns (λ c κs. search needs) (λ c. search needs) (λ c. search needs) (λ c. search needs)
-    (λ c. search needs) (λ c. search needs) (λ c. omega (arith, inside (c .before))) object-room-requires (λ c. search needs) (λ c. search needs)
-    (λ c κs. search needs) returns-2 (λ c. search needs) (λ c. search needs) (λ c. search needs) (λ c. search needs) (λ c. search needs)
-    (λ c. omega (arith, inside (c .before .before .before .before .before .before .before))) put-object-requires (λ c κs. search needs) (λ c. search needs) returns-3)
+    (tie.spec (λ c κs. search needs) (λ c κs. search needs) returns (λ c κs. search needs) (λ c. search needs) (λ c. search needs)
+    (λ c. search needs) (λ c. search needs) (λ c. search needs) (λ c. omega (arith, inside (c .before))) object-room-requires
+    (λ c. search needs) (λ c. search needs) (λ c κs. search needs) returns-2 (λ c. search needs) (λ c. search needs) (λ c. search needs)
+    (λ c. search needs) (λ c. search needs) (λ c. omega (arith, inside (c .before .before .before .before .before .before .before)))
+    put-object-requires (λ c κs. search needs) (λ c. search needs) returns-3)

@@ -1,0 +1,1 @@
+// How many words the object of a text file has at most (proofs/). There is no code here.

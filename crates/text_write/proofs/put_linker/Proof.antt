@@ -1,0 +1,97 @@
+-- The header, then the rows. Assumes nothing.
+use borrow.Author.Needs.{needs}
+use native.Mathlib.Omega.{arith}
+use mathlib.Core.Path.{_≡_, refl, sym, ap, _∙_}
+use mathlib.Core.Bool.{not}
+use mathlib.Core.List.{List, [], _++_, append-nil}
+use Prim.Native.Nat.{ℕ, _^_, _<_}
+use lib.ListN.{length}
+use denote.Ref.{now}
+use Rattle.format.specs.Basics.{ascii}
+use Rattle.format.specs.TextWriter.{textLine, linkerHeader}
+use Rattle.writing.proofs.Parts.{State, Emits, after, begin, emit, emitted, within, small, same}
+use Rattle.text_escape.proofs.EscapeLaws.{part-room}
+use Rattle.text_write.specs.Tables.{objectIn, relocationRows, relocationsText}
+use Rattle.text_write.specs.Groups.{linkerText}
+use Rattle.text_write.proofs.PartLaws.{nothing-put}
+use Rattle.text_write.proofs.GroupLaws.{not-not, linker-none, linker-some}
+use Rattle.text_write.proofs.put_linker.Statement.{statement}
+use Rattle.text_write.proofs.put_linker.Tie as tie
+
+returns : tie.Need-returns
+unfolding relocationRows
+returns c =
+    let k = c .before in
+    let s = k .before .before .before in
+    nothing-put (now (s .args .out)) (linker-none (objectIn (now (s .args .ws)) .relocations)
+    (sym (not-not _) ∙ sym (ap not (k .has-relocations .ensures)) ∙ c .if1 .taken))
+
+-- the object
+module _ (c : tie.Else1) where
+  abbrev s : tie.Start
+  s = c .before .before .before .before
+
+  abbrev ws : List ℕ
+  ws = now (s .args .ws)
+
+  abbrev room : List ℕ
+  room = now (s .args .out)
+
+  whole : linkerText ws ≡ textLine linkerHeader ++ relocationsText ws
+  unfolding relocationRows
+  whole =
+      linker-some (objectIn ws .relocations)
+      (sym (not-not _) ∙ sym (ap not (c .before .has-relocations .ensures)) ∙ c .if1 .left)
+
+  emits0 : Emits (linkerText ws) room (linkerText ws) (record { at = 0; out = room })
+  emits0 = begin _ _ (s .pre .1)
+
+  long : length room < 2 ^ 64
+  long = search needs
+
+-- its header
+module _ (c : tie.After-put-bytes) where
+  abbrev start : tie.Else1
+  start = c .before .before .before
+
+  abbrev state1 : State ℕ
+  state1 = after (record { at = 0; out = room start }) (c .put-bytes .result) (c .put-bytes .last .0)
+
+  emits1 : Emits (linkerText (ws start)) (room start) (relocationsText (ws start)) state1
+  unfolding ascii
+  emits1 = emit (emits0 start) (textLine linkerHeader) (relocationsText (ws start)) (whole start) (c .put-bytes .ensures)
+
+-- its rows
+module _ (c : tie.After-put-relocations) where
+  abbrev put : tie.After-put-bytes
+  put = c .before .before .before .before
+
+  emits2 : Emits (linkerText (ws (start put))) (room (start put)) []
+      (after (state1 put) (c .put-relocations .result) (c .put-relocations .last .0))
+  emits2 = emit (emits1 put) _ [] (sym (append-nil _)) (c .put-relocations .ensures)
+
+put-relocations-requires : tie.Need-put-relocations-requires
+put-relocations-requires c κs =
+    let p = c .before .before .before in
+    let rows = relocationsText (ws (start p)) in
+    (s (start p) .pre .0, part-room (emits1 p) rows [] (sym (append-nil rows)))
+
+pub put-linker-spec : {M : Type 1} → statement M
+put-linker-spec =
+    tie.close
+    (tie.spec
+    (λ c κs. search needs)
+    returns
+    (λ c. search needs)
+    (λ c. search needs)
+    (λ c. search needs)
+    (λ c. search needs)
+    (λ c κs. search needs)
+    (λ c. let p = c .before .before in small (emits1 p) (long (start p)))
+    (λ c. within (emits1 (c .before .before)))
+    (λ c. within (emits1 (c .before .before)))
+    (λ c. search needs)
+    put-relocations-requires
+    (λ c. let p = c .before .before in small (emits2 p) (long (start (put p))))
+    (λ c. same (emits2 (c .before .before)))
+    (λ c. emitted (emits2 (c .before .before)) refl))
