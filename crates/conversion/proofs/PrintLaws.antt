@@ -10,15 +10,15 @@ use lib.Dec.{leb}
 use borrow.Author.Tests.{le-leb, lt-leb, leb-true}
 use Rattle.format.specs.Basics.{Outcome, refused, given, _>>=_, if_then_else_}
 use Rattle.format.specs.TextWriter.{textLine, decimal}
-use Rattle.format.specs.Calls.{Filled, fill, message, fitting, readText, writeBinary, OrdersOf, WritesBinary}
+use Rattle.format.specs.Calls.{Filled, fill, message, fitting, readBinary, readText, writeBinary, writeText, OrdersOf, WritesBinary, bin2text}
 use Rattle.format.proofs.ListLaws.{by-test}
 use Rattle.format.proofs.WordsOnly.{given-same}
 use Rattle.io.specs.Counts.{Counts}
 use Rattle.writing.specs.Written.{into, filled, written, Put}
 use Rattle.writing.proofs.WriteLaws.{filled-fits, written-fits, length-into}
 use Rattle.text_debug.proofs.RefusalLaws.{Numbered, numbered-bind, numbered-ask}
-use Rattle.conversion.specs.Programs.{wordsRead, textToBinary, ConvertsText, text2bin, PrintsBinary}
-use Rattle.conversion.proofs.RefusalLaws.{text-read, binary-write}
+use Rattle.conversion.specs.Programs.{wordsRead, binaryToText, textToBinary, ConvertsText, text2bin, PrintsBinary, PrintsText}
+use Rattle.conversion.proofs.RefusalLaws.{binary-read, text-read, binary-write, text-write}
 
 -- A CALL THAT FILLS A BUFFER, as an outcome that asks for the buffer's length too
 
@@ -59,6 +59,18 @@ module _ (o : Outcome (List ℕ)) (buffer : List ℕ) (f : Filled) (e : f ≡ fi
   pub was-given : Numbered o → WhenGiven o buffer f
   was-given q = subst (WhenGiven o buffer) (sym e) (fill-given o buffer q)
 
+-- the length filled is within the buffer
+within : (o : Outcome (List ℕ)) (buffer : List ℕ) → fill o buffer .len ≤ length (fill o buffer .buffer)
+unfolding fill
+within (refused n) buffer = omega arith
+within (given out) buffer =
+    by-test (leb (length out) (length buffer)) (λ t. rw t (simp length-append (omega arith))) (λ t. rw t (omega arith))
+
+pub fill-counts : (o : Outcome (List ℕ)) (buffer : List ℕ) (f : Filled) → f ≡ fill o buffer → Counts (f .len) (f .buffer)
+fill-counts o buffer f e =
+    let h : f .len ≤ length (f .buffer) = subst (λ (x : Filled). x .len ≤ length (x .buffer)) (sym e) (within o buffer) in
+    (h, sym (length-take-le (f .len) (f .buffer) h))
+
 -- THE OBJECT THAT IS READ
 
 -- "an input longer than its buffer is 3"
@@ -82,10 +94,8 @@ module _ (read : List ℕ → Outcome (List ℕ)) (input : List ℕ) (h : length
         let g = was-given (read input) words f e q z in
         let front : take (f .len) (f .buffer) ≡ g .out =
         ap (take (f .len)) (g .after) ∙ take-at (g .out) (drop (length (g .out)) words) (f .len) (sym (g .len)) in
-        let inside : f .len ≤ length (f .buffer) =
-        omega (arith, g .len, g .fits, ap length (g .after), length-into (g .out) words (g .fits)) in
         let same = whole ∙ ap (λ k. fitting k (read input)) n ∙ g .is ∙ ap given (sym front) in
-        (same, (inside, sym (length-take-le (f .len) (f .buffer) inside)))
+        (same, fill-counts (read input) words f e)
 
 -- TEXT TO BINARY
 
@@ -192,3 +202,36 @@ module _ (input buffer : List ℕ) (f : Filled) (c : ConvertsText input buffer f
       let n = numbered-bind (wordsRead readText input) _ (words-numbered readText text-read input) λ ws. binary-write ws (c .0) (c .1) in
       let q = file-printed (textToBinary input (c .0) (c .1)) buffer f (c .3) n z in
       ((c .0, c .1, c .2, subst (λ (x : List ℕ). Put x buffer (f .len) (f .buffer)) (sym as-printed) (q .0)), q .1)
+
+-- BINARY TO TEXT
+
+module _ (input buffer : List ℕ) where
+  pub text-stops : (n : ℕ) → wordsRead readBinary input ≡ refused n → handed n buffer ≡ fill (binaryToText input) buffer
+  unfolding fill
+  text-stops n e = sym (ap (λ (o : Outcome (List ℕ)). fill (o >>= writeText) buffer) e)
+
+  pub text-goes-on :
+      (ws : List ℕ) (r : Filled) → wordsRead readBinary input ≡ given ws → r ≡ fill (writeText ws) buffer
+      → r ≡ fill (binaryToText input) buffer
+  text-goes-on ws r e w = w ∙ sym (ap (λ (o : Outcome (List ℕ)). fill (o >>= writeText) buffer) e)
+
+  module _ (f : Filled) (c : f ≡ fill (binaryToText input) buffer) where
+    -- the definition's questions, with the output's length last
+    text-printed : bin2text 65536 16384 (length buffer) input ≡ message (fitting (length buffer) (binaryToText input))
+    unfolding bin2text wordsRead
+    text-printed = ap message (fitting-last (fitting 65536 (given input)) (λ bs. fitting 16384 (readBinary bs)) writeText (length buffer))
+
+    abbrev Prints : ℕ → List ℕ → Type 0
+    Prints r after = PrintsText input buffer r after × Counts r after
+
+    pub text-number :
+        ¬ (f .number ≡ 0) → (r : ℕ) (after : List ℕ) → Put (textLine (decimal (f .number))) (f .buffer) r after → Prints r after
+    text-number z r after p =
+        let q = number-printed (binaryToText input) buffer f c z r after p in
+        (subst (λ (x : List ℕ). Put x buffer r after) (sym text-printed) (q .0), q .1)
+
+    pub text-file : f .number ≡ 0 → Prints (f .len) (f .buffer)
+    text-file z =
+        let n = numbered-bind (wordsRead readBinary input) _ (words-numbered readBinary binary-read input) text-write in
+        let q = file-printed (binaryToText input) buffer f c n z in
+        (subst (λ (x : List ℕ). Put x buffer (f .len) (f .buffer)) (sym text-printed) (q .0), q .1)

@@ -5,21 +5,23 @@ use mathlib.Core.List.{List, [], _∷_, map, flatMap}
 use mathlib.Core.Option.{Option}
 use Prim.Native.Nat.{ℕ, suc, _-_, _^_, _<_}
 use native.Mathlib.Omega.{arith}
-use lib.ListN.{length}
+use lib.ListN.{length, drop}
 use lib.Dec.{eqb}
 use Rattle.format.specs.Basics.{Outcome, refused, given, isGiven, isSome, isEmpty, eqs, beginsWith, ascii, All}
-use Rattle.format.specs.Tokens.{foldOutcome, partsAt}
+use Rattle.format.specs.Tokens.{tokens, foldOutcome, partsAt}
 use Rattle.format.specs.Utf8.{trim, isUtf8}
 use Rattle.format.specs.ObjectFile.{Label, Relocation, ObjectFile}
-use Rattle.format.specs.Records.{Question, textQuestions, askAll, concluded, emptyObject}
+use Rattle.format.specs.Records.{Record, Question, binaryQuestions, textQuestions, askAll, concluded, emptyObject, gatherRecords}
 use Rattle.format.specs.Words.{objectOf}
-use Rattle.format.specs.Binary.{countsFit}
+use Rattle.format.specs.Binary.{countsFit, header, recordAt, binaryRecords, binaryObject}
 use Rattle.format.specs.TextReader.{cellAt, splitn, sameCells, hex2u16, maybeHex2u16, parseDecimal, rowsUnder, keptLines}
 use Rattle.format.specs.TextReader.{parseSymbolRow, parseSymbolGroup, parseLinkerRow, parseLinkerGroup, parseLabelRow, parseLabelTable}
 use Rattle.format.specs.TextReader.{parseLineRows, parseLineTable, unescape, splitAtBar, upToBar, parseDebugGroup}
 use Rattle.format.specs.TextReader.{parseGroup, afterMagic, textObject}
-use Rattle.format.specs.Calls.{refusalOf, checked, readText, writeBinary}
+use Rattle.format.specs.Calls.{refusalOf, checked, readBinary, readText, writeBinary, writeText}
 use Rattle.object.proofs.RefusalLaws.{refusal-of}
+use Rattle.binary_read.proofs.AfterLaws as records
+use Rattle.binary_read.proofs.AfterLaws.{numbered-tokens}
 use Rattle.text_debug.proofs.RefusalLaws.{Numbered, numbered-bind, numbered-need, numbered-ask, numbered-if, numbered-fold}
 use Rattle.text_debug.proofs.RefusalLaws.{numbered-unescape}
 use Rattle.text_scan.proofs.WalkLaws.{text-numbered}
@@ -127,6 +129,23 @@ pub text-read : (bs : List ℕ) → Numbered (readText bs)
 unfolding readText
 text-read bs = numbered-bind (textObject bs) _ (text-object bs) λ h. tt
 
+-- THE BINARY READER
+
+binary-object : (bs : List ℕ) → Numbered (binaryObject bs)
+unfolding binaryObject binaryRecords
+binary-object bs =
+    numbered-bind (binaryRecords bs) _
+    (numbered-ask 10 (beginsWith header bs) _ (omega arith) (same (tokens recordAt 0 (drop 7 bs)) (numbered-tokens 0 (drop 7 bs)))) λ rs.
+    concludes binaryQuestions (gatherRecords emptyObject rs) (omega arith, tt)
+  where
+    same : (o : Outcome (List Record)) → records.Numbered o → Numbered o
+    same (refused n) h = h
+    same (given rs) h = h
+
+pub binary-read : (bs : List ℕ) → Numbered (readBinary bs)
+unfolding readBinary
+binary-read bs = numbered-bind (binaryObject bs) _ (binary-object bs) λ h. tt
+
 -- THE WRITERS
 
 object-numbered : (ws : List ℕ) → Numbered (objectOf ws)
@@ -140,3 +159,7 @@ object-numbered ws = go (objectOf ws) (refusal-of ws)
 pub binary-write : (ws : List ℕ) (ls : List Label) (rs : List Relocation) → Numbered (writeBinary ws ls rs)
 unfolding writeBinary
 binary-write ws ls rs = numbered-bind (objectOf ws) _ (object-numbered ws) λ h. numbered-ask 2 (countsFit h) _ (omega arith) tt
+
+pub text-write : (ws : List ℕ) → Numbered (writeText ws)
+unfolding writeText
+text-write ws = numbered-bind (objectOf ws) _ (object-numbered ws) λ h. tt

@@ -6,12 +6,16 @@ use Prim.Native.Nat.{ℕ}
 use lib.ListN.{length}
 use Rattle.format.specs.Basics.{Outcome, given, _>>=_}
 use Rattle.format.specs.ObjectFile.{Label, Relocation}
-use Rattle.format.specs.Calls.{Filled, fill, message, fitting, readText, writeBinary, OrdersOf}
+use Rattle.format.specs.Calls.{Filled, fill, message, fitting, readBinary, readText, writeBinary, writeText, OrdersOf, bin2text}
 use Rattle.writing.specs.Written.{Put}
 
 -- "3 if its buffers are short": the object that is read of an input
 unfoldable pub wordsRead : (List ℕ → Outcome (List ℕ)) → List ℕ → Outcome (List ℕ)
 wordsRead read input = fitting 65536 (given input) >>= λ bs. fitting 16384 (read bs)
+
+-- binary to text
+abbrev pub binaryToText : List ℕ → Outcome (List ℕ)
+binaryToText input = wordsRead readBinary input >>= writeText
 
 -- text to binary, with label and relocation records in the orders given
 abbrev pub textToBinary : List ℕ → List Label → List Relocation → Outcome (List ℕ)
@@ -37,3 +41,7 @@ abbrev pub PrintsBinary : List ℕ → List ℕ → ℕ → List ℕ → Type 0
 PrintsBinary input buffer r after =
     (ls : List Label) × (rs : List Relocation) × OrdersRead input ls rs
     × Put (text2bin 65536 16384 (length buffer) input ls rs) buffer r after
+
+-- the promise of `bin2text`
+abbrev pub PrintsText : List ℕ → List ℕ → ℕ → List ℕ → Type 0
+PrintsText input buffer r after = Put (bin2text 65536 16384 (length buffer) input) buffer r after

@@ -1,10 +1,11 @@
 // The host's three calls (document 01, "Rust to be recast"): byte slices and numbers in, structs of numbers out, and no buffer. None
 // asks anything of its caller.
 ghost use mathlib.Core.Path.{_≡_};
-ghost use Rattle.format.specs.Calls.{measured, readBinary};
+ghost use Rattle.format.specs.Calls.{measured, readBinary, readText};
 ghost use Rattle.format.specs.Source.{getPosPair};
 ghost use Rattle.host.specs.Answers.{measuredOf, positionOf};
 use binary_format::BinaryFormat;
+use text_read::text_length;
 
 // The number of the question that was answered no, or 0; and how many words the file's object has, 0 where it is refused.
 #[repr(C)]
@@ -29,6 +30,18 @@ pub extern "C" fn lc3_binary_length(bytes: &[u8]) -> Measured
     Measured {
         number: b.number,
         len: b.len,
+    }
+}
+
+// Does this read as text?
+#[no_mangle]
+pub extern "C" fn lc3_text_length(bytes: &[u8]) -> Measured
+    ensures { λ r. ⌜ measuredOf r ≡ measured (readText (now (bytes .entry))) ⌝ }
+{
+    let t = text_length(bytes);
+    Measured {
+        number: t.number,
+        len: t.len,
     }
 }
 
