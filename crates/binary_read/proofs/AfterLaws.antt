@@ -28,7 +28,7 @@ use Rattle.binary_read.specs.AfterHeader.{afterHeader, answerOf}
 use Rattle.binary_read.specs.Emission.{sourceWords, keepsRelocations, objectWords}
 
 -- A REFUSAL HAS A NUMBER
-abbrev Numbered : {A : Type 0} → Outcome A → Type 0
+abbrev pub Numbered : {A : Type 0} → Outcome A → Type 0
 Numbered (refused n) = 0 < n
 Numbered (given a) = Unit {0}
 
@@ -81,7 +81,7 @@ module _ (bs : List ℕ) where
       let h : 0 < 11 = omega arith in
       subst (λ (o : Outcome (Record × ℕ)). Numbered o) (sym (unknown-record bs j (omega arith))) h
 
-numbered-tokens : (k : ℕ) (xs : List ℕ) → Numbered (tokens recordAt k xs)
+pub numbered-tokens : (k : ℕ) (xs : List ℕ) → Numbered (tokens recordAt k xs)
 unfolding tokens
 numbered-tokens k [] = tt
 numbered-tokens (suc k) (a ∷ xs) = numbered-tokens k xs
