@@ -455,7 +455,7 @@ pub fn put_symbol_table(out: &mut [u8], ws: &[u32]) -> usize
         return 0;
     };
     let header = SYMBOL_HEADER;
-    let mut win = [0usize; 1024];
+    let mut win = [0usize; 4096];
     let mut at = 0;
     at += put_bytes(&mut out[at..], &header);
     at += put_symbol_windows(&mut out[at..], ws, &mut win);
@@ -495,7 +495,7 @@ pub fn put_label_table(out: &mut [u8], ws: &[u32]) -> usize
     };
     let names = label_width(ws);
     let indices = index_width(ws);
-    let mut win = [0usize; 1024];
+    let mut win = [0usize; 4096];
     let mut at = 0;
     at += put_label_header(&mut out[at..], names, indices);
     at += put_label_windows(&mut out[at..], ws, &mut win, names, indices);
