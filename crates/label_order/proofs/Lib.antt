@@ -1,3 +1,4 @@
 pub mod PlaceLaws
 pub mod KeyLaws
 pub mod ObjectLaws
+pub mod SortLaws

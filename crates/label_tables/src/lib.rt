@@ -27,7 +27,7 @@ ghost use Rattle.utf8.specs.Chars.{begins};
 ghost use Rattle.writing.specs.Written.{Put};
 ghost use Rattle.object.specs.Bodies.{numberAt};
 ghost use Rattle.object.specs.Texts.{textBytes};
-ghost use Rattle.label_tables.specs.Rows.{nameAt, symbolLine, labelLine};
+ghost use Rattle.label_tables.specs.Rows.{nameAt, symbolLine, labelLine, Ascii};
 ghost use Rattle.measuring.specs.Room.{roomOf, less, lessPart};
 ghost use Rattle.label_tables.specs.Tables.{namesWidth, indicesWidth, symbolsLength, labelsLength};
 ghost use Rattle.label_tables.specs.Tables.{byAddress, byStart, symbolsOf, labelsOf, fitting};
@@ -151,6 +151,36 @@ fn begins(b: u8) -> usize
     0
 }
 
+// Whether a word of three ASCII characters begins at byte i of a text of n bytes, as most words of names do.
+fn is_ascii(ws: &[u32], at: usize, i: usize, n: usize) -> bool
+    requires { ⌜ i < n ⌝ }
+    ensures { λ r. ⌜ Ascii (now (ws .entry)) at i n r ⌝ }
+{
+    if i % 3 != 0 {
+        return false;
+    }
+    if n - i < 3 {
+        return false;
+    }
+    if ws.len() <= at {
+        return false;
+    }
+    if ws.len() - at <= i / 3 {
+        return false;
+    }
+    let w = ws[at + i / 3];
+    if 0x7F < w % 256 {
+        return false;
+    }
+    if 0x7F < w / 256 % 256 {
+        return false;
+    }
+    if 0x7F < w / 65536 % 256 {
+        return false;
+    }
+    true
+}
+
 // How many characters the first n bytes of the text words from a place on have.
 fn characters(ws: &[u32], at: usize, n: usize) -> usize
     ensures { λ r. ⌜ r ≡ characters (textBytes (now (ws .entry)) at n) ⌝ }
@@ -158,8 +188,13 @@ fn characters(ws: &[u32], at: usize, n: usize) -> usize
     let mut count = 0;
     let mut i = 0;
     while i < n {
-        count += begins(text_byte(ws, at, i));
-        i += 1;
+        if is_ascii(ws, at, i, n) {
+            count += 3;
+            i += 3;
+        } else {
+            count += begins(text_byte(ws, at, i));
+            i += 1;
+        }
     }
     count
 }
@@ -455,7 +490,7 @@ pub fn put_symbol_table(out: &mut [u8], ws: &[u32]) -> usize
         return 0;
     };
     let header = SYMBOL_HEADER;
-    let mut win = [0usize; 1024];
+    let mut win = [0usize; 4096];
     let mut at = 0;
     at += put_bytes(&mut out[at..], &header);
     at += put_symbol_windows(&mut out[at..], ws, &mut win);
@@ -495,7 +530,7 @@ pub fn put_label_table(out: &mut [u8], ws: &[u32]) -> usize
     };
     let names = label_width(ws);
     let indices = index_width(ws);
-    let mut win = [0usize; 1024];
+    let mut win = [0usize; 4096];
     let mut at = 0;
     at += put_label_header(&mut out[at..], names, indices);
     at += put_label_windows(&mut out[at..], ws, &mut win, names, indices);

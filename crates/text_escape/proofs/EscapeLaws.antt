@@ -1,16 +1,16 @@
 -- Escapes, character by character. Assumes nothing.
-use mathlib.Core.Path.{_≡_, refl, sym, ap, subst, _∙_}
+use mathlib.Core.Path.{_≡_, refl, sym, ap, ap₂, subst, _∙_}
 use mathlib.Core.Bool.{Bool, true, false, _&&_}
 use mathlib.Core.Logic.{_⊎_, inl, inr}
 use mathlib.Core.List.{List, [], _∷_, _++_, flatMap, append-assoc}
 use mathlib.Core.Option.{Option, none, some, Option·getD}
 use Prim.Native.Nat.{ℕ, zero, suc, _+_, _-_, _*_, _/_, _%_, _≤_, _<_}
 use native.Mathlib.Omega.{arith}
-use lib.ListN.{length, drop, length-append, length-drop, drop-of-length-le}
+use lib.ListN.{length, drop, getD, length-append, length-drop, drop-of-length-le}
 use borrow.Rule.Slice.PartAt.{part-to-end}
 use lib.Seq.{drop-drop}
 use lib.Dec.{ltb, leb, eqb}
-use borrow.Author.Tests.{lt-ltb, le-ltb, le-leb, lt-leb, eq-eqb, ne-eqb}
+use borrow.Author.Tests.{lt-ltb, le-ltb, le-leb, lt-leb, eq-eqb, ne-eqb, eqb-true, eqb-false}
 use Rattle.format.specs.Basics.{if_then_else_, ascii, andThen, isSome}
 use Rattle.format.specs.Utf8.{charAt, scalarsFrom, isUtf8, isBetween}
 use Rattle.format.specs.TextWriter.{lowerDigit, numeral, escapeChar, escape}
@@ -24,6 +24,7 @@ use Rattle.format.specs.Digits.{digitsOf}
 use Rattle.format.specs.TextWriter.{hex4, decimal, memoryText, spaces, toRight, tableDiv, textLine}
 use Rattle.text_escape.specs.Rows.{lineLine}
 use Rattle.utf8.proofs.CharLaws.{front}
+use Rattle.word_chars.proofs.CharLaws.{char-low}
 use Rattle.text_escape.specs.Escaped.{letterOf, codeText, escapeNext, escapeFrom}
 
 -- THE NUMERAL: six digits hold a scalar value
@@ -150,6 +151,41 @@ module _ (t : List ℕ) (i : ℕ) (h : i < length t) where
     -- it is a scalar value
     pub char-bound : v < 0x110000
     char-bound = let f = front 0 t i h in scalar-bound v (char-reads _ (drop (i + 1) t) v n (ap charAt (sym f) ∙ sym e) .2)
+
+  -- a byte that stands for itself
+  pub escaped-plain : (b : ℕ) → b ≡ getD t i 0 → (b < 0x80) × (escapeChar b ≡ b ∷ [])
+      → escapeFrom 0 (drop i t) ≡ b ∷ escapeFrom 0 (drop (i + 1) t)
+  escaped-plain b e p =
+      let k : i + (0 + 1) ≡ i + 1 = omega arith in
+      escaped-char b 0 (char-low t i b h e (p .0))
+      ∙ ap₂ (λ (x y : List ℕ). x ++ y) (p .1) (ap (λ (j : ℕ). escapeFrom 0 (drop j t)) k)
+
+-- NO CHARACTER TAKES MORE THAN TEN BYTES
+others-short : (t : Bool) (c : ℕ) → length (if t then c ∷ [] else ascii "\\u{" ++ numeral 5 16 c [] ++ ascii "}") ≤ 10
+unfolding ascii
+others-short true c = omega arith
+others-short false c = let e = length-append (numeral 5 16 c []) (0x7D ∷ []) in omega (arith, length-numeral 5 16 c [])
+
+char-short : (c : ℕ) → length (escapeChar c) ≤ 10
+char-short c =
+    by-test (eqb (letterOf c) 0)
+    (λ u. omega (arith, ap length (without c (eqb-true (letterOf c) 0 u)), others-short (isBetween 0x20 0x7E c) c))
+    (λ u. omega (arith, ap length (by-letter c (eqb-false (letterOf c) 0 u))))
+
+from-short : (k : ℕ) (bs : List ℕ) → length (escapeFrom k bs) ≤ 10 * length bs
+unfolding escapeFrom
+from-short k [] = omega arith
+from-short (suc k) (b ∷ bs) = omega (arith, from-short k bs)
+from-short zero (b ∷ bs) = go (charAt (b ∷ bs)) (λ n. from-short n bs)
+  where
+    go : (o : Option (ℕ × ℕ)) → ((n : ℕ) → length (escapeFrom n bs) ≤ 10 * length bs)
+        → length (escapeNext o (λ n. escapeFrom n bs)) ≤ 10 * length (b ∷ bs)
+    go none ih = omega arith
+    go (some c) ih =
+        omega (arith, length-append (escapeChar (c .0)) (escapeFrom (c .1) bs), char-short (c .0), ih (c .1))
+
+pub escaped-short : (t : List ℕ) (i : ℕ) → length (escapeFrom 0 (drop i t)) ≤ 10 * (length t - i)
+escaped-short t i = omega (arith, from-short 0 (drop i t), length-drop i t)
 
 -- THE ESCAPES OF A TEXT are those of its scalar values
 scalars-escaped : (k : ℕ) (bs cs : List ℕ) → scalarsFrom k bs ≡ some cs → escapeFrom k bs ≡ flatMap escapeChar cs

@@ -1,8 +1,10 @@
 -- `escape_default`, character by character. That the escapes of a text are those of its scalar values is said in proofs/EscapeLaws.
 -- Assumes nothing.
+use mathlib.Core.Path.{_≡_}
+use mathlib.Core.Bool.{Bool, true}
 use mathlib.Core.List.{List, [], _∷_, _++_}
 use mathlib.Core.Option.{Option, none, some}
-use Prim.Native.Nat.{ℕ, zero, suc}
+use Prim.Native.Nat.{ℕ, zero, suc, _<_}
 use lib.ListN.{drop}
 use lib.Dec.{eqb}
 use Rattle.format.specs.Basics.{if_then_else_, ascii}
@@ -39,3 +41,7 @@ escapeFrom (suc k) (b ∷ bs) = escapeFrom k bs
 -- of the bytes from start up to end of the text at a place
 abbrev pub escapedIn : List ℕ → ℕ → ℕ → ℕ → List ℕ
 escapedIn ws at start end = escapeFrom 0 (drop start (textBytes ws at end))
+
+-- what a test says of a byte: it is a character that stands for itself
+abbrev pub Plain : ℕ → Bool → Type 0
+Plain b t = t ≡ true → (b < 0x80) × (escapeChar b ≡ b ∷ [])

@@ -1,5 +1,6 @@
 // `escape_default` of the source, as it lies in text words, and the rows of the line table, whose last cell it is.
 use measuring::Room;
+use object::text_byte;
 use text_numerals::count_digits;
 use text_numerals::count_hex;
 use text_numerals::put_hex;
@@ -11,11 +12,12 @@ use writing::put_u8;
 ghost use mathlib.Core.Path.{_≡_};
 ghost use Prim.Native.Nat.{_+_, _≤_, _<_};
 ghost use lib.ListN.{length};
+ghost use lib.Dec.{leb};
 ghost use Rattle.format.specs.TextWriter.{escapeChar, decimal, toRight};
 ghost use Rattle.writing.specs.Written.{Put};
 ghost use Rattle.measuring.specs.Room.{roomOf, lessPart};
 ghost use Rattle.text_numerals.specs.Memory.{knownWord};
-ghost use Rattle.text_escape.specs.Escaped.{letterOf, codeText, escapedIn};
+ghost use Rattle.text_escape.specs.Escaped.{letterOf, codeText, escapedIn, Plain};
 ghost use Rattle.text_escape.specs.Rows.{lineLine};
 
 // What a character is escaped with: \u{
@@ -107,6 +109,28 @@ fn put_escaped_char(out: &mut [u8], c: u32) -> usize
     put_u8(out, c as u8)
 }
 
+// Whether a byte is a character that stands for itself; most are, so the walks try this first.
+fn is_plain(b: u8) -> bool
+    ensures { λ r. ⌜ Plain b r ⌝ }
+{
+    if b < 0x20 {
+        return false;
+    }
+    if 0x7E < b {
+        return false;
+    }
+    if b == 0x22 {
+        return false;
+    }
+    if b == 0x27 {
+        return false;
+    }
+    if b == 0x5C {
+        return false;
+    }
+    true
+}
+
 // The room that the bytes from `start` up to `end` of a text leave, escaped.
 pub fn measure_escaped(room: usize, ws: &[u32], at: usize, start: usize, end: usize) -> Room
     ensures { λ r. ⌜ roomOf r ≡ lessPart room (escapedIn (now (ws .entry)) at start end) ⌝ }
@@ -114,15 +138,23 @@ pub fn measure_escaped(room: usize, ws: &[u32], at: usize, start: usize, end: us
     let mut left = room;
     let mut i = start;
     while i < end {
-        let Char::Scalar { value, more } = word_chars::char_in(ws, at, i, end) else {
-            return Room::Left(left);
-        };
-        let n = escaped_len(value);
-        if left < n {
-            return Room::Short;
+        if is_plain(text_byte(ws, at, i)) {
+            if left == 0 {
+                return Room::Short;
+            }
+            left -= 1;
+            i += 1;
+        } else {
+            let Char::Scalar { value, more } = word_chars::char_in(ws, at, i, end) else {
+                return Room::Left(left);
+            };
+            let n = escaped_len(value);
+            if left < n {
+                return Room::Short;
+            }
+            left -= n;
+            i += more + 1;
         }
-        left -= n;
-        i += more + 1;
     }
     Room::Left(left)
 }
@@ -135,23 +167,46 @@ fn put_chars(out: &mut [u8], ws: &[u32], at: usize, start: usize, end: usize) ->
     let mut n = 0;
     let mut i = start;
     while i < end {
-        let Char::Scalar { value, more } = word_chars::char_in(ws, at, i, end) else {
-            return n;
-        };
-        n += put_escaped_char(&mut out[n..], value);
-        i += more + 1;
+        let b = text_byte(ws, at, i);
+        if is_plain(b) {
+            out[n] = b;
+            n += 1;
+            i += 1;
+        } else {
+            let Char::Scalar { value, more } = word_chars::char_in(ws, at, i, end) else {
+                return n;
+            };
+            n += put_escaped_char(&mut out[n..], value);
+            i += more + 1;
+        }
     }
     n
+}
+
+// Whether they fit, escaped. No character takes more than ten bytes, so that in a wide room nothing is measured.
+fn escaped_fits(room: usize, ws: &[u32], at: usize, start: usize, end: usize) -> bool
+    ensures { λ r. ⌜ r ≡ leb (length (escapedIn (now (ws .entry)) at start end)) room ⌝ }
+{
+    if end <= start {
+        return true;
+    }
+    if end - start <= room / 10 {
+        return true;
+    }
+    match measure_escaped(room, ws, at, start, end) {
+        Room::Left(_) => true,
+        Room::Short => false,
+    }
 }
 
 // They, escaped.
 pub fn put_escaped(out: &mut [u8], ws: &[u32], at: usize, start: usize, end: usize) -> usize
     ensures { λ r. ⌜ Put (escapedIn (now (ws .entry)) at start end) (now (out .entry)) r (now (out .exit)) ⌝ }
 {
-    match measure_escaped(out.len(), ws, at, start, end) {
-        Room::Left(_) => put_chars(out, ws, at, start, end),
-        Room::Short => 0,
+    if !escaped_fits(out.len(), ws, at, start, end) {
+        return 0;
     }
+    put_chars(out, ws, at, start, end)
 }
 
 // How wide a number is in a column.
@@ -191,6 +246,29 @@ pub fn measure_line_row(
     measure_escaped(room - 11 - head, ws, at, start, end)
 }
 
+// Whether it fits: two dividers, an address and a newline take eleven bytes.
+fn row_fits(
+    room: usize,
+    width: usize,
+    number: u64,
+    ws: &[u32],
+    at: usize,
+    start: usize,
+    end: usize,
+) -> bool
+    ensures { λ r. ⌜ r
+        ≡ leb (11 + length (toRight width (decimal number)) + length (escapedIn (now (ws .entry)) at start end)) room ⌝ }
+{
+    if room <= 10 {
+        return false;
+    }
+    let head = column(width, number);
+    if room - 11 < head {
+        return false;
+    }
+    escaped_fits(room - 11 - head, ws, at, start, end)
+}
+
 // It, written.
 pub fn put_line_row(
     out: &mut [u8],
@@ -206,19 +284,9 @@ pub fn put_line_row(
     ensures { λ r. ⌜ Put (lineLine width number (knownWord known address) (escapedIn (now (ws .entry)) at start end))
         (now (out .entry)) r (now (out .exit)) ⌝ }
 {
-    let Room::Left(_) = measure_line_row(
-        out.len(),
-        width,
-        number,
-        known,
-        address,
-        ws,
-        at,
-        start,
-        end,
-    ) else {
+    if !row_fits(out.len(), width, number, ws, at, start, end) {
         return 0;
-    };
+    }
     let div = TABLE_DIV;
     let mut k = 0;
     k += put_right(&mut out[k..], width, number);

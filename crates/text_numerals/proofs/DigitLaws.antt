@@ -24,6 +24,52 @@ unfolding numeral
 numeral-last zero base v ds h = refl
 numeral-last (suc k) base v ds h = rw (lt-ltb v base h)
 
+-- HOW MANY DIGITS the numbers from b up to c have
+abbrev Sized : ℕ → ℕ → ℕ → ℕ → Type 0
+Sized k b c m = (n : ℕ) (ds : List ℕ) → b ≤ n → n < c → length (numeral k 10 n ds) ≡ m + length ds
+
+sized-one : (k b : ℕ) → Sized k b 10 1
+sized-one k b n ds h l = let e = ap length (numeral-last k 10 n ds l) in omega arith
+
+sized-more : (k b c m : ℕ) → 1 ≤ b → Sized k b c m → Sized (suc k) (10 * b) (10 * c) (m + 1)
+sized-more k b c m o s n ds h l =
+    let e = ap length (numeral-on k 10 n ds (omega arith)) in
+    let f = s (n / 10) (lowerDigit (n % 10) ∷ ds) (omega arith) (omega arith) in
+    omega arith
+
+module _ (n : ℕ) where
+  pub one-digit : n < 10 → 1 ≡ length (decimal n)
+  unfolding decimal
+  one-digit l = omega (arith, sized-one 19 0 n [] (omega arith) l)
+
+  pub two-digits : 10 ≤ n → n < 100 → 2 ≡ length (decimal n)
+  unfolding decimal
+  two-digits h l = omega (arith, sized-more 18 1 10 1 (omega arith) (sized-one 18 1) n [] h l)
+
+  pub three-digits : 100 ≤ n → n < 1000 → 3 ≡ length (decimal n)
+  unfolding decimal
+  three-digits h l =
+      omega (arith, sized-more 18 10 100 2 (omega arith) (sized-more 17 1 10 1 (omega arith) (sized-one 17 1)) n [] h l)
+
+  pub four-digits : 1000 ≤ n → n < 10000 → 4 ≡ length (decimal n)
+  unfolding decimal
+  four-digits h l =
+      omega (
+        arith,
+        sized-more 18 100 1000 3 (omega arith)
+            (sized-more 17 10 100 2 (omega arith) (sized-more 16 1 10 1 (omega arith) (sized-one 16 1))) n [] h l,
+      )
+
+  pub five-digits : 10000 ≤ n → n < 100000 → 5 ≡ length (decimal n)
+  unfolding decimal
+  five-digits h l =
+      omega (
+        arith,
+        sized-more 18 1000 10000 4 (omega arith)
+            (sized-more 17 100 1000 3 (omega arith)
+            (sized-more 16 10 100 2 (omega arith) (sized-more 15 1 10 1 (omega arith) (sized-one 15 1)))) n [] h l,
+      )
+
 pub drop-set : (xs : List ℕ) (j x : ℕ) → j < length xs → drop j (set xs j x) ≡ x ∷ drop (suc j) xs
 drop-set [] j x h = absurd (omega arith)
 drop-set (b ∷ bs) zero x h = refl

@@ -92,10 +92,25 @@ fn digits_of(n: u64, base: u64) -> Digits
     }
 }
 
-// How many digits the decimal numeral of `n` has.
+// How many digits the decimal numeral of `n` has; most numbers are short, and these are compared.
 pub fn count_digits(n: u64) -> usize
     ensures { λ r. ⌜ r ≡ length (decimal n) ⌝ }
 {
+    if n < 10 {
+        return 1;
+    }
+    if n < 100 {
+        return 2;
+    }
+    if n < 1000 {
+        return 3;
+    }
+    if n < 10000 {
+        return 4;
+    }
+    if n < 100000 {
+        return 5;
+    }
     let m = digits_of(n, 10);
     20 - m.start
 }

@@ -2,7 +2,7 @@
 use borrow.Author.Needs.{needs}
 use native.Mathlib.Omega.{arith}
 use mathlib.Core.Path.{_≡_, refl, sym, ap, _∙_}
-use mathlib.Core.List.{List, [], _++_}
+use mathlib.Core.List.{List, [], _∷_, _++_}
 use mathlib.Core.Option.{Option, none, some}
 use Prim.Native.Nat.{ℕ, _+_, _-_, _≤_, _<_}
 use lib.ListN.{length, drop}
@@ -12,9 +12,9 @@ use Rattle.format.specs.TextWriter.{escapeChar}
 use Rattle.utf8.specs.Chars.{charOf}
 use Rattle.utf8.proofs.CharLaws.{char-inside}
 use Rattle.object.specs.Texts.{textBytes}
-use Rattle.word_chars.proofs.CharLaws.{size-is}
+use Rattle.word_chars.proofs.CharLaws.{byte-is, size-is}
 use Rattle.text_escape.specs.Escaped.{escapedIn}
-use Rattle.text_escape.proofs.EscapeLaws.{escaped-end, escaped-none, escaped-char, char-bound}
+use Rattle.text_escape.proofs.EscapeLaws.{escaped-end, escaped-none, escaped-char, escaped-plain, char-bound}
 use Rattle.measuring.specs.Room.{less, lessPart}
 use Rattle.measuring.proofs.RoomLaws.{less-some, less-none, less-nothing, part-fits, part-short}
 use Rattle.word_chars.proofs.char_in.Reads as char-in-reads
@@ -45,7 +45,7 @@ module _ (c : tie.In-loop Inv-loop μ-loop) where
 -- a character
 module _ (c : tie.After-known-told Inv-loop μ-loop) where
   abbrev l : tie.In-loop Inv-loop μ-loop
-  l = c .before .before .before .before
+  l = c .before .before .before .before .before .before .before
 
   abbrev v : ℕ
   v = c .before .value .given .0 .0
@@ -68,11 +68,28 @@ module _ (c : tie.After-known-told Inv-loop μ-loop) where
 -- no character
 nothing :
     (c : tie.After-enum-told Inv-loop μ-loop)
-    → escapedIn (now (a (c .before .before .before) .args .ws)) (a (c .before .before .before) .args .at) (i (c .before .before .before))
-    (a (c .before .before .before) .args .end) ≡ []
+    → escapedIn (now (a (c .before .before .before .before .before .before) .args .ws)) (a (c .before .before .before .before .before .before) .args .at) (i (c .before .before .before .before .before .before))
+    (a (c .before .before .before .before .before .before) .args .end) ≡ []
 nothing c =
-    let l = c .before .before .before in
+    let l = c .before .before .before .before .before .before in
     escaped-none (t l) (i l) (inside l) (sym (ap charOf (c .enum-told .given .1)) ∙ c .before .before .char-in .ensures)
+
+-- a byte that stands for itself
+module _ (c : tie.Then1 Inv-loop μ-loop) where
+  abbrev pl : tie.In-loop Inv-loop μ-loop
+  pl = c .before .before .before
+
+  abbrev b : ℕ
+  b = c .before .before .text-byte .result
+
+  abbrev others : List ℕ
+  others = escapedIn (now (a pl .args .ws)) (a pl .args .at) (i pl + 1) (a pl .args .end)
+
+  itself : escapedIn (now (a pl .args .ws)) (a pl .args .at) (i pl) (a pl .args .end) ≡ b ∷ others
+  itself =
+      escaped-plain (t pl) (i pl) (inside pl) b
+      (c .before .before .text-byte .ensures ∙ byte-is (now (a pl .args .ws)) (a pl .args .at) (a pl .args .end) (i pl) (pl .loop-test .taken))
+      (c .before .is-plain .ensures (c .if1 .taken))
 
 loop-holds : tie.Need-loop-holds Inv-loop μ-loop
 loop-holds c = refl
@@ -88,35 +105,51 @@ enum-told c = search needs
 
 returns : tie.Need-returns Inv-loop μ-loop
 returns c =
-    let l = c .before .before .before .before in
-    less-nothing (l .loop .left) ∙ ap (lessPart (l .loop .left)) (sym (nothing c)) ∙ l .loop .inv
+    let k = c .before in
+    let o = pl k .before .loop in
+    part-short (o .left) (b k ∷ []) (others k) (itself k) (less-none (o .left) 1 (omega (arith, c .if2 .taken))) ∙ o .inv
+
+-- there is room for it
+one : (c : tie.Else2 Inv-loop μ-loop) → 1 ≤ pl (c .before) .before .loop .left
+one c = let d = c .if2 .left in omega arith
+
+loop-again : tie.Need-loop-again Inv-loop μ-loop
+loop-again c =
+    let k = c .before in
+    let o = pl k .before .loop in
+    part-fits (o .left) (b k ∷ []) (others k) (itself k) (less-some (o .left) 1 (one c)) ∙ o .inv
+
+returns-2 : tie.Need-returns-2 Inv-loop μ-loop
+returns-2 c =
+    let o = c .before .before .before .before .before .before .before .loop in
+    less-nothing (o .left) ∙ ap (lessPart (o .left)) (sym (nothing c)) ∙ o .inv
 
 escaped-len-requires : tie.Need-escaped-len-requires Inv-loop μ-loop
 escaped-len-requires c κs = char-bound (t (l c)) (i (l c)) (inside (l c)) (v c) (n c) (char c)
 
-returns-2 : tie.Need-returns-2 Inv-loop μ-loop
-returns-2 c = let k = c .before .before in
+returns-3 : tie.Need-returns-3 Inv-loop μ-loop
+returns-3 c = let k = c .before .before in
     let o = l k .before .loop in
     part-short (o .left) (escapeChar (v k)) (left k) (next k)
-    (less-none (o .left) (length (escapeChar (v k))) (omega (arith, c .if1 .taken, c .before .escaped-len .ensures))) ∙ o .inv
-
-add-i : tie.Need-add-i Inv-loop μ-loop
-add-i c = omega (arith, lies (c .before .before))
+    (less-none (o .left) (length (escapeChar (v k))) (omega (arith, c .if3 .taken, c .before .escaped-len .ensures))) ∙ o .inv
 
 add-i-2 : tie.Need-add-i-2 Inv-loop μ-loop
 add-i-2 c = omega (arith, lies (c .before .before))
 
-loop-less : tie.Need-loop-less Inv-loop μ-loop
-loop-less c = omega (arith, lies (c .before .before))
+add-i-3 : tie.Need-add-i-3 Inv-loop μ-loop
+add-i-3 c = omega (arith, lies (c .before .before))
 
-loop-again : tie.Need-loop-again Inv-loop μ-loop
-loop-again c = let k = c .before .before in
+loop-less-2 : tie.Need-loop-less-2 Inv-loop μ-loop
+loop-less-2 c = omega (arith, lies (c .before .before))
+
+loop-again-2 : tie.Need-loop-again-2 Inv-loop μ-loop
+loop-again-2 c = let k = c .before .before in
     let o = l k .before .loop in
     part-fits (o .left) (escapeChar (v k)) (left k) (next k)
-    (less-some (o .left) (c .before .escaped-len .result) (c .if1 .left) ∙ ap (less (o .left)) (c .before .escaped-len .ensures)) ∙ o .inv
+    (less-some (o .left) (c .before .escaped-len .result) (c .if3 .left) ∙ ap (less (o .left)) (c .before .escaped-len .ensures)) ∙ o .inv
 
-returns-3 : tie.Need-returns-3 Inv-loop μ-loop
-returns-3 c = let o = c .before .loop in
+returns-4 : tie.Need-returns-4 Inv-loop μ-loop
+returns-4 c = let o = c .before .loop in
     let a = c .before .before .before .args in
     less-nothing (o .left)
     ∙ ap (lessPart (o .left))
@@ -131,14 +164,21 @@ measure-escaped-spec =
     Inv-loop
     μ-loop
     loop-holds
+    (λ c κs. search needs)
+    (λ c κs. search needs)
+    returns
+    (λ c. omega (arith, one c))
+    (λ c. omega (arith, pl (c .before) .loop-test .taken))
+    (λ c. omega (arith, pl (c .before) .loop-test .taken))
+    loop-again
     char-in-requires
     enum-known-value
     enum-told
-    returns
-    escaped-len-requires
     returns-2
-    add-i
+    escaped-len-requires
+    returns-3
     add-i-2
-    loop-less
-    loop-again
-    returns-3)
+    add-i-3
+    loop-less-2
+    loop-again-2
+    returns-4)

@@ -2,7 +2,7 @@
 use borrow.Author.Needs.{needs}
 use native.Mathlib.Omega.{arith}
 use mathlib.Core.Path.{_≡_, refl, sym, ap, _∙_}
-use mathlib.Core.List.{List, [], _++_}
+use mathlib.Core.List.{List, [], _∷_, _++_}
 use mathlib.Core.Option.{Option, none, some}
 use Prim.Native.Nat.{ℕ, _+_, _-_, _≤_, _<_}
 use lib.ListN.{length, drop}
@@ -12,10 +12,10 @@ use Rattle.format.specs.TextWriter.{escapeChar}
 use Rattle.utf8.specs.Chars.{charOf}
 use Rattle.utf8.proofs.CharLaws.{char-inside}
 use Rattle.object.specs.Texts.{textBytes}
-use Rattle.word_chars.proofs.CharLaws.{size-is}
+use Rattle.word_chars.proofs.CharLaws.{byte-is, size-is}
 use Rattle.text_escape.specs.Escaped.{escapedIn}
-use Rattle.text_escape.proofs.EscapeLaws.{escaped-end, escaped-none, escaped-char, char-bound}
-use Rattle.writing.proofs.Parts.{State, Emits, after, begin, emit, emitted, within, small, same}
+use Rattle.text_escape.proofs.EscapeLaws.{escaped-end, escaped-none, escaped-char, escaped-plain, char-bound}
+use Rattle.writing.proofs.Parts.{State, Emits, after, begin, emit, emit-one, room-one, emitted, within, small, same}
 use Rattle.word_chars.proofs.char_in.Reads as char-in-reads
 use Rattle.text_escape.proofs.put_escaped_char.Reads as put-escaped-char-reads
 use Rattle.text_escape.proofs.put_chars.Statement.{statement}
@@ -45,7 +45,7 @@ module _ (c : tie.In-loop Inv-loop μ-loop) where
 -- a character
 module _ (c : tie.After-known-told Inv-loop μ-loop) where
   abbrev l : tie.In-loop Inv-loop μ-loop
-  l = c .before .before .before .before
+  l = c .before .before .before .before .before .before .before
 
   abbrev v : ℕ
   v = c .before .value .given .0 .0
@@ -68,11 +68,34 @@ module _ (c : tie.After-known-told Inv-loop μ-loop) where
 -- no character
 nothing :
     (c : tie.After-enum-told Inv-loop μ-loop)
-    → escapedIn (now (a (c .before .before .before) .args .ws)) (a (c .before .before .before) .args .at) (i (c .before .before .before))
-    (a (c .before .before .before) .args .end) ≡ []
+    → escapedIn (now (a (c .before .before .before .before .before .before) .args .ws)) (a (c .before .before .before .before .before .before) .args .at) (i (c .before .before .before .before .before .before))
+    (a (c .before .before .before .before .before .before) .args .end) ≡ []
 nothing c =
-    let l = c .before .before .before in
+    let l = c .before .before .before .before .before .before in
     escaped-none (t l) (i l) (inside l) (sym (ap charOf (c .enum-told .given .1)) ∙ c .before .before .char-in .ensures)
+
+-- a byte that stands for itself
+module _ (c : tie.Then1 Inv-loop μ-loop) where
+  abbrev pl : tie.In-loop Inv-loop μ-loop
+  pl = c .before .before .before
+
+  abbrev b : ℕ
+  b = c .before .before .text-byte .result
+
+  abbrev others : List ℕ
+  others = escapedIn (now (a pl .args .ws)) (a pl .args .at) (i pl + 1) (a pl .args .end)
+
+  itself : escapedIn (now (a pl .args .ws)) (a pl .args .at) (i pl) (a pl .args .end) ≡ b ∷ others
+  itself =
+      escaped-plain (t pl) (i pl) (inside pl) b
+      (c .before .before .text-byte .ensures ∙ byte-is (now (a pl .args .ws)) (a pl .args .at) (a pl .args .end) (i pl) (pl .loop-test .taken))
+      (c .before .is-plain .ensures (c .if1 .taken))
+
+slice-write-out : tie.Need-slice-write-out Inv-loop μ-loop
+slice-write-out c = room-one (pl c .before .loop .inv) (b c) (others c) (itself c)
+
+loop-again : tie.Need-loop-again Inv-loop μ-loop
+loop-again c = emit-one (pl c .before .loop .inv) (b c) (others c) (itself c)
 
 emits :
     (c : tie.After-put-escaped-char Inv-loop μ-loop)
@@ -98,10 +121,10 @@ enum-told : tie.Need-enum-told Inv-loop μ-loop
 enum-told c = search needs
 
 same-length : tie.Need-same-length Inv-loop μ-loop
-same-length c = same (c .before .before .before .before .loop .inv)
+same-length c = same (c .before .before .before .before .before .before .before .loop .inv)
 
 returns : tie.Need-returns Inv-loop μ-loop
-returns c = emitted (c .before .before .before .before .loop .inv) (nothing c)
+returns c = emitted (c .before .before .before .before .before .before .before .loop .inv) (nothing c)
 
 sub-put-escaped-char : tie.Need-sub-put-escaped-char Inv-loop μ-loop
 sub-put-escaped-char c = within (l c .before .loop .inv)
@@ -115,20 +138,20 @@ part-put-escaped-char-end c = search needs
 put-escaped-char-requires : tie.Need-put-escaped-char-requires Inv-loop μ-loop
 put-escaped-char-requires c κs = let k = c .before in char-bound (t (l k)) (i (l k)) (inside (l k)) (v k) (m k) (char k)
 
-add-n : tie.Need-add-n Inv-loop μ-loop
-add-n c = small (emits (c .before .before)) (omega arith)
-
-add-i : tie.Need-add-i Inv-loop μ-loop
-add-i c = omega (arith, lies (c .before .before .before .before))
+add-n-2 : tie.Need-add-n-2 Inv-loop μ-loop
+add-n-2 c = small (emits (c .before .before)) (omega arith)
 
 add-i-2 : tie.Need-add-i-2 Inv-loop μ-loop
 add-i-2 c = omega (arith, lies (c .before .before .before .before))
 
-loop-less : tie.Need-loop-less Inv-loop μ-loop
-loop-less c = omega (arith, lies (c .before .before .before .before))
+add-i-3 : tie.Need-add-i-3 Inv-loop μ-loop
+add-i-3 c = omega (arith, lies (c .before .before .before .before))
 
-loop-again : tie.Need-loop-again Inv-loop μ-loop
-loop-again c = emits (c .before .before)
+loop-less-2 : tie.Need-loop-less-2 Inv-loop μ-loop
+loop-less-2 c = omega (arith, lies (c .before .before .before .before))
+
+loop-again-2 : tie.Need-loop-again-2 Inv-loop μ-loop
+loop-again-2 c = emits (c .before .before)
 
 same-length-2 : tie.Need-same-length-2 Inv-loop μ-loop
 same-length-2 c = same (c .before .loop .inv)
@@ -146,6 +169,13 @@ put-chars-spec =
     Inv-loop
     μ-loop
     loop-holds
+    (λ c κs. search needs)
+    (λ c κs. search needs)
+    slice-write-out
+    (λ c. small (loop-again c) (omega arith))
+    (λ c. omega (arith, pl c .loop-test .taken))
+    (λ c. omega (arith, pl c .loop-test .taken))
+    loop-again
     char-in-requires
     enum-known-value
     enum-told
@@ -155,10 +185,10 @@ put-chars-spec =
     part-put-escaped-char-start
     part-put-escaped-char-end
     put-escaped-char-requires
-    add-n
-    add-i
+    add-n-2
     add-i-2
-    loop-less
-    loop-again
+    add-i-3
+    loop-less-2
+    loop-again-2
     same-length-2
     returns-2)

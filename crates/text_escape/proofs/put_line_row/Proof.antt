@@ -1,22 +1,20 @@
 -- Six parts. Assumes nothing.
 use borrow.Author.Needs.{needs}
 use native.Mathlib.Omega.{arith}
-use mathlib.Core.Path.{_≡_, refl, sym, ap, _∙_}
+use mathlib.Core.Path.{_≡_, refl, sym, _∙_}
 use mathlib.Core.List.{List, [], _∷_, _++_, append-nil}
 use Prim.Native.Nat.{ℕ, _+_, _-_, _^_, _≤_, _<_}
 use lib.ListN.{length}
 use denote.Ref.{now}
+use borrow.Author.Tests.{not-true, not-false, leb-true, leb-false}
 use Rattle.writing.proofs.WriteLaws.{too-short}
 use Rattle.writing.proofs.Parts.{State, Emits, rest, after, begin, emit, emitted, within, small, same}
 use Rattle.format.specs.Basics.{ascii}
 use Rattle.format.specs.TextWriter.{decimal, toRight, memoryText, tableDiv, textLine}
 use Rattle.text_numerals.specs.Memory.{knownWord}
-use Rattle.measuring.specs.Room.{roomOf}
-use Rattle.measuring.proofs.RoomLaws.{fits, short}
 use Rattle.text_escape.specs.Escaped.{escapedIn}
 use Rattle.text_escape.specs.Rows.{lineLine}
-use Rattle.text_escape.proofs.EscapeLaws.{line-parts, part-room}
-use Rattle.text_escape.proofs.measure_line_row.Reads as measure-line-row-reads
+use Rattle.text_escape.proofs.EscapeLaws.{line-length, line-parts, part-room}
 use Rattle.text_escape.proofs.put_chars.Reads as put-chars-reads
 use Rattle.text_numerals.proofs.put_memory.Reads as put-memory-reads
 use Rattle.text_numerals.proofs.put_right.Reads as put-right-reads
@@ -36,16 +34,20 @@ whole t =
 abbrev state0 : tie.Start → State ℕ
 state0 t = record { at = 0; out = room t }
 
-abbrev start0 : tie.After-enum-told → tie.Start
-start0 c = c .before .before .before .before .before
+abbrev start0 : tie.Else1 → tie.Start
+start0 c = c .before .before .before .before
 
-bound : (c : tie.After-enum-told) → length (room (start0 c)) < 2 ^ 64
+bound : (c : tie.Else1) → length (room (start0 c)) < 2 ^ 64
 bound c = omega arith
 
-emits0 : (c : tie.After-enum-told) → Emits (whole (start0 c)) (room (start0 c)) (whole (start0 c)) (state0 (start0 c))
-emits0 c = let a = start0 c .args in
-    begin _ _ (fits (length (room (start0 c))) (length (whole (start0 c))) (sym
-    (ap roomOf (c .enum-told .given .1)) ∙ c .before .before .measure-line-row .ensures) .0)
+emits0 : (c : tie.Else1) → Emits (whole (start0 c)) (room (start0 c)) (whole (start0 c)) (state0 (start0 c))
+emits0 c =
+    let t = start0 c in
+    let a = t .args in
+    let cell = escapedIn (now (a .ws)) (a .at) (a .start) (a .end) in
+    let h = leb-true (11 + length (toRight (a .width) (decimal (a .number))) + length cell) (length (room t))
+    (sym (c .before .row-fits .ensures) ∙ not-false _ (c .if1 .left)) in
+    begin (whole t) (room t) (omega (arith, h, line-length (a .width) (a .number) (knownWord (a .known) (a .address)) cell))
 
 abbrev left1 : tie.Start → List ℕ
 left1 t =
@@ -144,20 +146,18 @@ emits6 c =
     let t = start6 c in
     emit (emits5 (c .before .before .before .before)) (0x0A ∷ []) (left6 t) (sym (append-nil _)) (c .put-u8 .ensures)
 
-measure-line-row-requires : tie.Need-measure-line-row-requires
-measure-line-row-requires c κs = search needs
-
-enum-told : tie.Need-enum-told
-enum-told c = search needs
-
-enum-told-2 : tie.Need-enum-told-2
-enum-told-2 c = search needs
+row-fits-requires : tie.Need-row-fits-requires
+row-fits-requires c κs = search needs
 
 returns : tie.Need-returns
 returns c =
-    let m = c .before .before in
-    too-short _ _ _ refl (short (length (now (m .before .before .before .args .out))) _ (sym
-    (ap roomOf (c .enum-told2 .given .1)) ∙ m .measure-line-row .ensures))
+    let t = c .before .before .before .before in
+    let a = t .args in
+    let cell = escapedIn (now (a .ws)) (a .at) (a .start) (a .end) in
+    let h = leb-false (11 + length (toRight (a .width) (decimal (a .number))) + length cell) (length (room t))
+    (sym (c .before .row-fits .ensures) ∙ not-true _ (c .if1 .taken)) in
+    too-short (whole t) (room t) (length (whole t)) refl
+    (omega (arith, h, line-length (a .width) (a .number) (knownWord (a .known) (a .address)) cell))
 
 sub-put-right : tie.Need-sub-put-right
 sub-put-right c = search needs
@@ -272,9 +272,7 @@ pub put-line-row-spec : {M : Type 1} → statement M
 put-line-row-spec =
     tie.close
     (tie.spec
-    measure-line-row-requires
-    enum-told
-    enum-told-2
+    row-fits-requires
     returns
     sub-put-right
     part-put-right-start
