@@ -92,10 +92,14 @@ fn windows_length(s: &[u8], kind: u8, win: &mut [usize]) -> usize
     }
 }
 
-// How many words the records of a kind have.
+// How many words the records of a kind have. Labels, of which a file has many in any order, go by larger windows.
 pub fn part_length(s: &[u8], kind: u8) -> usize
     ensures { λ r. ⌜ r ≡ length (partWords kind (now (s .entry))) ⌝ }
 {
+    if kind == 1 {
+        let mut names = [0usize; 4096];
+        return windows_length(s, kind, &mut names);
+    }
     let mut win = [0usize; 1024];
     windows_length(s, kind, &mut win)
 }

@@ -49,7 +49,7 @@ bytes-clipped s a e at n p q =
     take-none (suc m) = refl
 
 -- COUNTS fit two bytes
-take-below : (n b : ℕ) (xs : List ℕ) → 0 < b → ((k : ℕ) → getD xs k 0 < b) → (k : ℕ) → getD (take n xs) k 0 < b
+pub take-below : (n b : ℕ) (xs : List ℕ) → 0 < b → ((k : ℕ) → getD xs k 0 < b) → (k : ℕ) → getD (take n xs) k 0 < b
 take-below zero b xs p h k = p
 take-below (suc n) b [] p h k = p
 take-below (suc n) b (x ∷ xs) p h zero = h 0

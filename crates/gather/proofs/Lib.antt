@@ -3,3 +3,5 @@ pub mod CompareLaws
 pub mod HeldLaws
 pub mod WalkLaws
 pub mod OrderLaws
+pub mod MergeLaws
+pub mod TagLaws

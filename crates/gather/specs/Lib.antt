@@ -1,3 +1,4 @@
 pub mod Window
 pub mod Places
 pub mod Order
+pub mod Tags
