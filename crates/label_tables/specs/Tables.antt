@@ -50,8 +50,12 @@ labelsOf ws = labelsIn ws (byStart ws)
 abbrev pub symbolsLength : List ℕ → ℕ
 symbolsLength ws = length (symbolsIn ws (labelPlaces ws))
 
+abbrev pub columnsLength : ℕ → ℕ → List ℕ → ℕ  -- in columns of these widths
+columnsLength names indices ws =
+    length (tableOf (labelHeader names indices) (labelLine names indices ws) (labelPlaces ws) (labelPlaces ws))
+
 abbrev pub labelsLength : List ℕ → ℕ
-labelsLength ws = length (labelsIn ws (labelPlaces ws))
+labelsLength ws = columnsLength (namesWidth ws) (indicesWidth ws) ws
 
 -- a part, where so many bytes fit in the room
 abbrev pub fitting : ℕ → List ℕ → List ℕ → List ℕ

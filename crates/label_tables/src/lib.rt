@@ -29,7 +29,7 @@ ghost use Rattle.object.specs.Bodies.{numberAt};
 ghost use Rattle.object.specs.Texts.{textBytes};
 ghost use Rattle.label_tables.specs.Rows.{nameAt, symbolLine, labelLine, Ascii};
 ghost use Rattle.measuring.specs.Room.{roomOf, less, lessPart};
-ghost use Rattle.label_tables.specs.Tables.{namesWidth, indicesWidth, symbolsLength, labelsLength};
+ghost use Rattle.label_tables.specs.Tables.{namesWidth, indicesWidth, symbolsLength, columnsLength, labelsLength};
 ghost use Rattle.label_tables.specs.Tables.{byAddress, byStart, symbolsOf, labelsOf, fitting};
 ghost use Rattle.label_order.specs.Labels.{labelPlaces};
 
@@ -266,33 +266,26 @@ fn larger(a: usize, b: usize) -> usize
     a
 }
 
-// The width of the name column: the longest name in bytes, at least 5.
-pub fn label_width(ws: &[u32]) -> usize
-    ensures { λ r. ⌜ r ≡ namesWidth (now (ws .entry)) ⌝ }
-{
-    let mut width = 5;
-    let mut at = 0;
-    loop {
-        let Found::At(p, next) = next_label(ws, at) else {
-            return width;
-        };
-        let name = name_of(ws, p);
-        width = larger(name.len, width);
-        at = next;
-    }
+// The widths of the label table's columns.
+struct Widths {
+    names: usize,
+    indices: usize,
 }
 
-// The width of the index column: the longest index, at least 5.
-pub fn index_width(ws: &[u32]) -> usize
-    ensures { λ r. ⌜ r ≡ indicesWidth (now (ws .entry)) ⌝ }
+// The longest name in bytes, at least 5, and the longest index, at least 5.
+fn column_widths(ws: &[u32]) -> Widths
+    ensures { λ r. ⌜ (r .names ≡ namesWidth (now (ws .entry))) × (r .indices ≡ indicesWidth (now (ws .entry))) ⌝ }
 {
-    let mut digits = 5;
+    let mut names = 5;
+    let mut indices = 5;
     let mut at = 0;
     loop {
         let Found::At(p, next) = next_label(ws, at) else {
-            return digits;
+            return Widths { names, indices };
         };
-        digits = larger(count_digits(start_at(ws, p)), digits);
+        let name = name_of(ws, p);
+        names = larger(name.len, names);
+        indices = larger(count_digits(start_at(ws, p)), indices);
         at = next;
     }
 }
@@ -382,21 +375,27 @@ fn past_header(width: usize) -> usize
     width - 5
 }
 
-// The room that the label table leaves.
-pub fn measure_labels(ws: &[u32], room: usize) -> Room
-    ensures { λ r. ⌜ roomOf r ≡ less room (labelsLength (now (ws .entry))) ⌝ }
+// The room that the label table leaves, in columns of these widths.
+fn label_room(ws: &[u32], names: usize, indices: usize, room: usize) -> Room
+    ensures { λ r. ⌜ roomOf r ≡ less room (columnsLength names indices (now (ws .entry))) ⌝ }
 {
     let Found::At(_, _) = next_label(ws, 0) else {
         return Room::Left(room);
     };
-    let names = label_width(ws);
-    let indices = index_width(ws);
     let a = past_header(names);
     let b = past_header(indices);
     if !is_room(room, 14, a, b) {
         return Room::Short;
     }
     label_rows_room(ws, names, indices, room - 14 - a - b)
+}
+
+// The room that the label table leaves.
+pub fn measure_labels(ws: &[u32], room: usize) -> Room
+    ensures { λ r. ⌜ roomOf r ≡ less room (labelsLength (now (ws .entry))) ⌝ }
+{
+    let w = column_widths(ws);
+    label_room(ws, w.names, w.indices, room)
 }
 
 // The rows of .SYMBOL at the first n places of a window.
@@ -522,14 +521,15 @@ pub fn put_label_table(out: &mut [u8], ws: &[u32]) -> usize
     ensures { λ r. ⌜ Put (fitting (labelsLength (now (ws .entry))) (labelsOf (now (ws .entry))) (now (out .entry)))
         (now (out .entry)) r (now (out .exit)) ⌝ }
 {
-    let Room::Left(_) = measure_labels(ws, out.len()) else {
+    let w = column_widths(ws);
+    let names = w.names;
+    let indices = w.indices;
+    let Room::Left(_) = label_room(ws, names, indices, out.len()) else {
         return 0;
     };
     let Found::At(_, _) = next_label(ws, 0) else {
         return 0;
     };
-    let names = label_width(ws);
-    let indices = index_width(ws);
     let mut win = [0usize; 4096];
     let mut at = 0;
     at += put_label_header(&mut out[at..], names, indices);

@@ -13,7 +13,8 @@ use Rattle.label_order.specs.Labels.{placesFrom, labelPlaces, labelKey}
 use Rattle.label_order.specs.declared.By.the-variants as by
 use Rattle.label_order.proofs.PlaceLaws.{found-next, found-none}
 use Rattle.label_tables.specs.Rows.{labelLine}
-use Rattle.label_tables.specs.Tables.{namesWidth, indicesWidth, byStart, labelsOf, labelsLength, fitting}
+use Rattle.label_tables.specs.Tables.{namesWidth, indicesWidth, byStart, labelsOf, columnsLength, labelsLength, fitting}
+use Rattle.measuring.specs.Room.{less, roomOf}
 use Rattle.label_tables.proofs.RoomLaws.{room-fits, room-lacks}
 use Rattle.label_tables.proofs.FrameLaws.{table-none, table-some, table-size, put-nothing, fitting-not, fitting-is}
 use Rattle.label_tables.proofs.HandedLaws.{sorted-rows, lent-room}
@@ -30,8 +31,14 @@ module _ (ws : List ℕ) where
 
 -- it fits
 module _ (b : tie.After-enum-told) where
+  abbrev room-of : tie.After-label-room
+  room-of = b .before .before
+
+  abbrev wide : tie.After-column-widths
+  wide = room-of .before
+
   abbrev start : tie.Start
-  start = b .before .before .before .before .before
+  start = wide .before .before .before
 
   abbrev ws : List ℕ
   ws = now (start .args .ws)
@@ -39,10 +46,13 @@ module _ (b : tie.After-enum-told) where
   abbrev room : List ℕ
   room = now (start .args .out)
 
+  measured : roomOf (room-of .label-room .result) ≡ less (length room) (labelsLength ws)
+  measured =
+      room-of .label-room .ensures
+      ∙ ap₂ (λ x y. less (length room) (columnsLength x y ws)) (wide .column-widths .ensures .0) (wide .column-widths .ensures .1)
+
   fits : labelsLength ws ≤ length room
-  fits =
-      let m = b .before .before .measure-labels in
-      room-fits (labelsLength ws) (length room) (m .result) (m .ensures) (b .enum-told .given .0 .0) (b .enum-told .given .1)
+  fits = room-fits (labelsLength ws) (length room) (room-of .label-room .result) measured (b .enum-told .given .0 .0) (b .enum-told .given .1)
 
   is-fitting : fitting (labelsLength ws) (labelsOf ws) room ≡ labelsOf ws
   is-fitting = fitting-is (labelsLength ws) (labelsOf ws) room fits
@@ -51,18 +61,15 @@ module _ (b : tie.After-enum-told) where
   tight = omega arith
 
 -- and there are labels
-module _ (t : tie.After-index-width) where
-  abbrev told : tie.After-enum-told3
-  told = t .before .before
-
+module _ (t : tie.After-enum-told3) where
   abbrev b : tie.After-enum-told
-  b = told .before .before .before
+  b = t .before .before .before
 
   abbrev names : ℕ
-  names = t .before .label-width .result
+  names = wide b .column-widths .result .names
 
   abbrev indices : ℕ
-  indices = t .index-width .result
+  indices = wide b .column-widths .result .indices
 
   abbrev head : List ℕ
   head = textLine (labelHeader names indices)
@@ -70,24 +77,24 @@ module _ (t : tie.After-index-width) where
   abbrev rows : List ℕ
   rows = flatMap (labelLine names indices (ws b)) (byStart (ws b))
 
-  found : labelPlaces (ws b) ≡ told .enum-told3 .given .0 .0 ∷ placesFrom (ws b) (told .enum-told3 .given .0 .1 .0)
+  found : labelPlaces (ws b) ≡ t .enum-told3 .given .0 .0 ∷ placesFrom (ws b) (t .enum-told3 .given .0 .1 .0)
   unfolding labelPlaces
   found =
-      let m = told .before .before in
-      let g = told .enum-told3 .given in
+      let m = t .before .before in
+      let g = t .enum-told3 .given in
       found-next (ws b) 0 (m .next-label .result) (m .next-label .ensures .0) (g .0 .0) (g .0 .1 .0) (g .1)
 
   is-table : head ++ rows ≡ labelsOf (ws b)
   is-table =
-      let g = told .enum-told3 .given in
-      ap₂ (λ x y. textLine (labelHeader x y) ++ flatMap (labelLine x y (ws b)) (byStart (ws b))) (t .before .label-width .ensures)
-      (t .index-width .ensures)
+      let g = t .enum-told3 .given in
+      ap₂ (λ x y. textLine (labelHeader x y) ++ flatMap (labelLine x y (ws b)) (byStart (ws b))) (wide b .column-widths .ensures .0)
+      (wide b .column-widths .ensures .1)
       ∙ sym (table-some (header (ws b)) (line (ws b)) (labelPlaces (ws b)) (byStart (ws b)) (g .0 .0) (placesFrom (ws b) (g .0 .1 .0))
       found)
 
   short : length (head ++ rows) ≤ length (room b)
   short =
-      let g = told .enum-told3 .given in
+      let g = t .enum-told3 .given in
       let qs = placesFrom (ws b) (g .0 .1 .0) in
       let ps = labelPlaces (ws b) in
       let n = length (textLine (header (ws b))) in
@@ -107,7 +114,7 @@ emits1 c =
     let t = c .before .before in
     emit (begin (head t ++ rows t) (room (b t)) (short t)) (head t) (rows t) refl (c .put-label-header .ensures)
 
-abbrev base2 : tie.After-put-label-windows → tie.After-index-width
+abbrev base2 : tie.After-put-label-windows → tie.After-enum-told3
 base2 c = c .before .before .before .before .before .before .before
 
 abbrev State2 : tie.After-put-label-windows → State ℕ
@@ -124,12 +131,16 @@ emits2 c =
 returns : tie.Need-returns
 returns c =
     let m = c .before .before in
-    let s = m .before .before .before in
+    let wide = m .before in
+    let s = wide .before .before .before in
     let space = now (s .args .out) in
-    let n = labelsLength (now (s .args .ws)) in
+    let ws = now (s .args .ws) in
+    let n = labelsLength ws in
+    let e = m .label-room .ensures
+    ∙ ap₂ (λ x y. less (length space) (columnsLength x y ws)) (wide .column-widths .ensures .0) (wide .column-widths .ensures .1) in
     subst (λ l. Put l space 0 space)
-    (sym (fitting-not n (labelsOf (now (s .args .ws))) space
-    (room-lacks n (length space) (m .measure-labels .result) (m .measure-labels .ensures) (c .enum-told2 .given .1)))) (put-nothing space)
+    (sym (fitting-not n (labelsOf ws) space (room-lacks n (length space) (m .label-room .result) e (c .enum-told2 .given .1))))
+    (put-nothing space)
 
 returns-2 : tie.Need-returns-2
 unfolding labelPlaces
@@ -158,6 +169,7 @@ put-label-table-spec =
     tie.close
     (tie.spec
     (λ c κs. search needs)
+    (λ c κs. search needs)
     (λ c. search needs)
     (λ c. search needs)
     returns
@@ -165,8 +177,6 @@ put-label-table-spec =
     (λ c. search needs)
     (λ c. search needs)
     returns-2
-    (λ c κs. search needs)
-    (λ c κs. search needs)
     (λ c. search needs)
     (λ c. search needs)
     (λ c. search needs)
