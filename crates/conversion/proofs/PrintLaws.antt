@@ -10,12 +10,13 @@ use lib.Dec.{leb}
 use borrow.Author.Tests.{le-leb, lt-leb, leb-true}
 use Rattle.format.specs.Basics.{Outcome, refused, given, _>>=_, if_then_else_}
 use Rattle.format.specs.TextWriter.{textLine, decimal}
-use Rattle.format.specs.Calls.{Filled, fill, message, fitting, readBinary, readText, writeBinary, writeText, OrdersOf, WritesBinary, bin2text}
+use Rattle.format.specs.Calls.{Filled, fill, message, fitting, readBinary, readText, writeBinary, writeText, OrdersOf, WritesBinary}
+use Rattle.format.specs.Calls.{bin2text}
 use Rattle.format.proofs.ListLaws.{by-test}
 use Rattle.format.proofs.WordsOnly.{given-same}
 use Rattle.io.specs.Counts.{Counts}
 use Rattle.writing.specs.Written.{into, filled, written, Put}
-use Rattle.writing.proofs.WriteLaws.{filled-fits, written-fits, length-into}
+use Rattle.writing.proofs.WriteLaws.{filled-fits, written-fits}
 use Rattle.text_debug.proofs.RefusalLaws.{Numbered, numbered-bind, numbered-ask}
 use Rattle.conversion.specs.Programs.{wordsRead, binaryToText, textToBinary, ConvertsText, text2bin, PrintsBinary, PrintsText}
 use Rattle.conversion.proofs.RefusalLaws.{binary-read, text-read, binary-write, text-write}

@@ -29,7 +29,8 @@ module _ (c : tie.After-deserialize) where
   f = filledOf (c .deserialize .result) (c .deserialize .last .1 .1 .0)
 
   read : f .number ≡ 0 → (wordsRead readBinary input ≡ given (take (f .len) (f .buffer))) × Counts (f .len) (f .buffer)
-  read z = is-read readBinary input (room .before .if1 .left) _ (room .object-room .ensures) f (c .deserialize .ensures) (binary-read input) z
+  read z =
+      is-read readBinary input (room .before .if1 .left) _ (room .object-room .ensures) f (c .deserialize .ensures) (binary-read input) z
 
 returns : tie.Need-returns
 returns c =
