@@ -265,6 +265,10 @@ fn put_source_text(out: &mut [u32], t: &[u8], rows: usize) -> usize
                 h = push_scalar(out, h, v);
                 cur = d;
             }
+            Token::Stretch(a, e, d) => {
+                h = push_bytes(out, h, &t[a..e]);
+                cur = d;
+            }
             Token::Bad => {
                 return 0;
             }
@@ -320,6 +324,13 @@ fn source_length(t: &[u8], rows: usize) -> Count
             }
             Token::Scalar(v, d) => {
                 n += scalar_length(v);
+                cur = d;
+            }
+            Token::Stretch(a, e, d) => {
+                if 0xFFFF_FFFF_FFFF_FFF0 - n < e - a {
+                    return Count::Many;
+                }
+                n += e - a;
                 cur = d;
             }
             Token::Bad => {
