@@ -103,12 +103,25 @@ pub fn decimal(s: &[u8], max: u64) -> Number
     read_number(s, 10, max)
 }
 
-// Four hexadecimal digits, or three after a `+`.
+// Four hexadecimal digits, or three after a `+`: the former without a loop.
 pub fn hex2u16(s: &[u8]) -> Number
     ensures { λ r. ⌜ numberRead r ≡ hex2u16 (now (s .entry)) ⌝ }
 {
     if s.len() != 4 {
         return Number::Nothing;
+    }
+    let a = digit(s[0]);
+    let b = digit(s[1]);
+    let c = digit(s[2]);
+    let d = digit(s[3]);
+    if a < 16 {
+        if b < 16 {
+            if c < 16 {
+                if d < 16 {
+                    return Number::Value(((a * 16 + b) * 16 + c) * 16 + d);
+                }
+            }
+        }
     }
     read_number(s, 16, 0xFFFF)
 }

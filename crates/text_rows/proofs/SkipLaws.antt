@@ -4,86 +4,21 @@ use mathlib.Core.Bool.{Bool, true, false}
 use mathlib.Core.List.{List, [], _∷_}
 use Prim.Native.Nat.{ℕ, zero, suc, _+_, _-_, _≤_, _<_}
 use native.Mathlib.Omega.{arith}
-use lib.ListN.{length, take, drop, getD, length-drop}
-use lib.Seq.{getD-drop, getD-take}
+use lib.ListN.{length, getD}
 use lib.Dec.{eqb, ltb}
-use borrow.Author.Tests.{eq-eqb, ne-eqb, eqb-true, eqb-false, ltb-true, ltb-false}
+use borrow.Author.Tests.{ne-eqb, eqb-true, eqb-false, ltb-true, ltb-false}
 use Rattle.format.specs.Basics.{if_then_else_, ascii, beginsWith, isEmpty}
 use Rattle.format.specs.Utf8.{charAt, isWhiteSpace, trimFrom, trimStart, isBlank}
 use Rattle.format.specs.TextReader.{lines}
 use Rattle.format.specs.Tokens.{Parts, partsAt}
 use Rattle.trim.specs.Span.{part}
-use Rattle.text_lines.specs.Lines.{lineLength, LineAt, isKept, kept}
+use Rattle.text_lines.specs.Lines.{LineAt, isKept, kept}
 use Rattle.text_lines.specs.Groups.{partsFrom}
-use Rattle.text_lines.proofs.LineLaws.{line-on, line-fits, line-lf, line-crlf, line-last, line-done, kept-yes, kept-no, kept-done, length-part, begins-at, begins-none}
+use Rattle.text_lines.proofs.LineLaws.{line-done, kept-yes, kept-no, kept-done, length-part, begins-at, begins-none}
+use Rattle.text_lines.proofs.ShortLaws.{line-there, first-byte}
 use Rattle.text_lines.proofs.RowLaws.{row-line, row-none, row-groups, parts-done, parts-of}
-use Rattle.text_lines.proofs.TestLaws.{by-test, front}
+use Rattle.text_lines.proofs.TestLaws.{by-test}
 use Rattle.text_rows.specs.Steps.{Headless, DotAfter, GroupEnd}
-
--- before a line's end there is no LF
-no-lf : (bs : List ℕ) (i : ℕ) → i < lineLength bs → getD bs i 0 ≡ 0x0A → ⊥
-unfolding lineLength
-no-lf [] i h e = omega arith
-no-lf (b ∷ bs) zero h e = let z : 0 < 0 = simp (eq-eqb b 0x0A e) at h in omega arith
-no-lf (b ∷ bs) (suc i) h e =
-    by-test (eqb b 0x0A)
-    (λ t. let z : suc i < 0 = simp t at h in omega arith)
-    (λ t. let z : suc i < suc (lineLength bs) = simp t at h in no-lf bs i (omega arith) e)
-
--- a line that is not the last ends at LF
-stops : (bs : List ℕ) → lineLength bs < length bs → getD bs (lineLength bs) 0 ≡ 0x0A
-unfolding lineLength
-stops [] h = absurd (omega arith)
-stops (b ∷ bs) h =
-    by-test (eqb b 0x0A)
-    (λ t. simp t (eqb-true b 0x0A t))
-    (λ t. let z : suc (lineLength bs) < suc (length bs) = simp t at h in simp t (stops bs (omega arith)))
-
-module _ (t : List ℕ) (at : ℕ) (h : at < length t) where
-  abbrev end : ℕ
-  end = at + lineLength (drop at t)
-
-  fits : end ≤ length t
-  fits = omega (arith, line-fits (drop at t), length-drop at t)
-
-  inner : (i : ℕ) → at ≤ i → i < end → getD t i 0 ≡ 0x0A → ⊥
-  inner i l k e =
-      let m : at + (i - at) ≡ i = omega arith in
-      no-lf (drop at t) (i - at) (omega arith) (getD-drop at t (i - at) 0 ∙ ap (λ (j : ℕ). getD t j 0) m ∙ e)
-
-  dotted : getD t at 0 ≡ 0x2E → at < end
-  dotted d = omega (arith, line-on t at h (λ q. let z : 0x2E ≡ 0x0A = sym d ∙ q in omega arith))
-
-  lf : end < length t → (i : ℕ) → i + 1 ≡ end + 1 → getD t i 0 ≡ 0x0A
-  lf b i q =
-      let z : i ≡ at + lineLength (drop at t) = omega arith in
-      ap (λ (j : ℕ). getD t j 0) z ∙ sym (getD-drop at t (lineLength (drop at t)) 0) ∙ stops (drop at t) (omega (arith, length-drop at t))
-
-  -- the line at a place, which has no LF before its last byte, and is not empty where it begins with `.`
-  line-there : {P : Type 0} → ((e n : ℕ) → LineAt lines t at at e n → ((i : ℕ) → at ≤ i → i + 1 < n → getD t i 0 ≡ 0x0A → ⊥)
-      → (getD t at 0 ≡ 0x2E → at < e) → (n < length t → (i : ℕ) → i + 1 ≡ n → getD t i 0 ≡ 0x0A) → P) → P
-  line-there k =
-      by-test (eqb end (length t))
-      (λ w. k end end (line-last t at end (omega arith) refl h (eqb-true end (length t) w)) (λ i l m e. inner i l (omega arith) e) dotted
-      (λ x. let z = eqb-true end (length t) w in absurd (omega arith)))
-      (λ w.
-      let b : end < length t = let n = eqb-false end (length t) w in omega (arith, fits) in
-      by-test (ltb at end)
-      (λ u.
-      let g : at < end = ltb-true at end u in
-      by-test (eqb (getD t (end - 1) 0) 0x0D)
-      (λ v. k (end - 1) (end + 1) (line-crlf t at end (omega arith) refl g b (eqb-true _ _ v)) (λ i l m e. inner i l (omega arith) e)
-      (λ d. let c : (at ≡ end - 1) → ⊥ = λ q. let z : 0x2E ≡ 0x0D = sym d ∙ ap (λ (j : ℕ). getD t j 0) q ∙ eqb-true _ _ v in omega arith in omega arith) (λ _. lf b))
-      (λ v. k end (end + 1) (line-lf t at end (omega arith) refl b (λ _ q. eqb-false _ _ v q)) (λ i l m e. inner i l (omega arith) e) dotted (λ _. lf b)))
-      (λ u.
-      let g : end ≤ at = ltb-false at end u in
-      k end (end + 1) (line-lf t at end (omega arith) refl b (λ x _. absurd (omega arith))) (λ i l m e. inner i l (omega arith) e) dotted (λ _. lf b)))
-
--- a line's first byte
-first-byte : (t : List ℕ) (a e : ℕ) → a ≤ e → e ≤ length t → 0 < length (part a e t) → getD (part a e t) 0 0 ≡ getD t a 0
-first-byte t a e h k l =
-    let z : a + 0 ≡ a = omega arith in
-    getD-take (e - a) (drop a t) 0 0 (omega (arith, length-part a e t h k)) ∙ getD-drop a t 0 0 ∙ ap (λ (j : ℕ). getD t j 0) z
 
 module _ (t : List ℕ) (at e n : ℕ) (l : LineAt lines t at at e n) where
   not-dot : (getD t at 0 ≡ 0x2E → ⊥) → beginsWith (46 ∷ []) (part at e t) ≡ false
@@ -92,7 +27,7 @@ module _ (t : List ℕ) (at e n : ℕ) (l : LineAt lines t at at e n) where
       (λ w. sym (begins-none 46 (part at e t) (eqb-true _ _ w)))
       (λ w.
       let p : 0 < length (part at e t) = let z = eqb-false (length (part at e t)) 0 w in omega arith in
-      sym (begins-at 46 (part at e t) p) ∙ ap (eqb 46) (first-byte t at e (l .ordered) (omega (arith, l .inside, l .next)) p)
+      sym (begins-at 46 (part at e t) p) ∙ ap (eqb 46) (first-byte t at e (omega (arith, length-part at e t (l .ordered) (omega (arith, l .inside, l .next)))))
       ∙ ne-eqb 46 (getD t at 0) (λ q. d (sym q)))
 
   -- a line that begins with no `.` leaves the groups after it
@@ -115,9 +50,12 @@ kept-dot (b ∷ bs) e =
 pub dot-none : (t : List ℕ) (at : ℕ) → at < length t → getD t at 0 ≡ 0x2E → partsFrom t at .before ≡ []
 dot-none t at h d =
     line-there t at h λ e n l none full last.
-    let p : 0 < length (part at e t) = omega (arith, full d, length-part at e t (l .ordered) (omega (arith, l .inside, l .next))) in
+    let g : at < e =
+    full at h (λ j p q x. let z : j ≡ at = omega arith in let y : getD t at 0 ≡ 0x0A = ap (λ (k : ℕ). getD t k 0) (sym z) ∙ x in omega arith)
+    (λ x. omega arith) in
+    let p : 0 < length (part at e t) = omega (arith, length-part at e t (l .ordered) (omega (arith, l .inside, l .next))) in
     let b : beginsWith (46 ∷ []) (part at e t) ≡ true =
-    sym (begins-at 46 (part at e t) p) ∙ ap (eqb 46) (first-byte t at e (l .ordered) (omega (arith, l .inside, l .next)) p ∙ d) in
+    sym (begins-at 46 (part at e t) p) ∙ ap (eqb 46) (first-byte t at e (omega (arith, length-part at e t (l .ordered) (omega (arith, l .inside, l .next)))) ∙ d) in
     row-none t at at e n (kept-yes t at at e n l (kept-dot (part at e t) b)) b
 
 end-none : (t : List ℕ) (at : ℕ) → length t ≤ at → partsFrom t at .before ≡ []

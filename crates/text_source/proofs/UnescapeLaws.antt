@@ -358,7 +358,7 @@ token-stretch t c e p q h l n =
     let w : e ≤ length t = subst (λ (x : ℕ). x ≤ length t) (sym q) (at-most (c .end) (length t)) in
     let z : c .at + (p - c .at) ≡ p = omega arith in
     let b : bytesLeft t c ≡ part (c .at) e t ++ sourceFrom t (c .next) =
-        ap (λ (x : List ℕ). x ++ sourceFrom t (c .next)) (sym (part-most t (c .at) (c .end)) ∙ ap (λ (x : ℕ). part (c .at) x t) (sym q)) in (
+    ap (λ (x : List ℕ). x ++ sourceFrom t (c .next)) (sym (part-most t (c .at) (c .end)) ∙ ap (λ (x : ℕ). part (c .at) x t) (sym q)) in (
       omega arith,
       omega arith,
       record {
