@@ -31,29 +31,78 @@ pub enum Divider {
     Nothing,
 }
 
-// The value of a digit; 16 if it is none.
+// The values of the bytes from `0` up to `f`; 16 for one that is no digit.
+const DIGITS: [u8; 55] = [
+    0,
+    1,
+    2,
+    3,
+    4,
+    5,
+    6,
+    7,
+    8,
+    9,
+    16,
+    16,
+    16,
+    16,
+    16,
+    16,
+    16,
+    10,
+    11,
+    12,
+    13,
+    14,
+    15,
+    16,
+    16,
+    16,
+    16,
+    16,
+    16,
+    16,
+    16,
+    16,
+    16,
+    16,
+    16,
+    16,
+    16,
+    16,
+    16,
+    16,
+    16,
+    16,
+    16,
+    16,
+    16,
+    16,
+    16,
+    16,
+    16,
+    10,
+    11,
+    12,
+    13,
+    14,
+    15,
+];
+
+// The value of a digit; 16 if it is none. By a table, since no branch foresees the digits of a word.
 pub fn digit(b: u8) -> u64
     ensures { λ r. ⌜ (r ≡ digitOr16 b) × (r ≤ 16) ⌝ }
 {
     if b < 48 {
         return 16;
     }
-    if b <= 57 {
-        return (b - 48) as u64;
-    }
-    if b < 65 {
+    if 102 < b {
         return 16;
     }
-    if b <= 70 {
-        return (b - 55) as u64;
-    }
-    if b < 97 {
-        return 16;
-    }
-    if b <= 102 {
-        return (b - 87) as u64;
-    }
-    16
+    let i = (b - 48) as usize;
+    let d = DIGITS[i];
+    d as u64
 }
 
 // Past a `+`.

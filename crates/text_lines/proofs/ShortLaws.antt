@@ -13,7 +13,7 @@ use Rattle.format.specs.Utf8.{charAt, isWhiteSpace, trimFrom, trimStart, isBlan
 use Rattle.format.specs.TextReader.{lines}
 use Rattle.trim.specs.Span.{part}
 use Rattle.text_lines.specs.Lines.{lineLength, LineAt, isKept, kept}
-use Rattle.text_lines.specs.Groups.{partsFrom, RowAt, Spaces}
+use Rattle.text_lines.specs.Groups.{partsFrom, RowAt, Spaces, ShowsRow}
 use Rattle.text_lines.proofs.LineLaws.{line-here, line-on, line-fits, line-lf, line-crlf, line-last, kept-yes, length-part, begins-at}
 use Rattle.text_lines.proofs.RowLaws.{row-line, rows-on}
 use Rattle.text_lines.proofs.TestLaws.{by-test, within-low, within-high}
@@ -208,3 +208,15 @@ row-some t at a e n l = ap (λ (ls : List (List ℕ)). not (isEmpty ls)) (sym (r
 pub row-end : (t : List ℕ) (at : ℕ) → partsFrom t at .before ≡ [] → false ≡ not (isEmpty (partsFrom t at .before))
 unfolding isEmpty
 row-end t at e = ap (λ (ls : List (List ℕ)). not (isEmpty ls)) (sym e)
+
+-- a line is kept
+pub kept-shown : (s : List ℕ) (i : ℕ) → i < length s → Spaces s 0 i → ShowsRow (getD s i 0) (ltb 0 i) → true ≡ isKept s
+kept-shown s i h p w =
+    sym
+    (kept-by s
+    (by-test (ltb 0 i)
+    (λ u. sym (begins-at 35 s (omega arith)) ∙ ne-eqb 35 (getD s 0 0) (λ q. let z = p .1 0 (omega arith) (ltb-true 0 i u) in omega arith))
+    (λ u.
+    let z : i ≡ 0 = omega (arith, ltb-false 0 i u) in
+    sym (begins-at 35 s (omega arith)) ∙ ne-eqb 35 (getD s 0 0) (λ q. w .2 u .0 (ap (λ (k : ℕ). getD s k 0) z ∙ sym q))))
+    (past-spaces i s h (λ j k. p .1 j (omega arith) k) (w .0) (w .1)))

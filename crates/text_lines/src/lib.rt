@@ -75,10 +75,49 @@ pub fn begins_with(s: &[u8], b: u8) -> bool
     b == s[0]
 }
 
-// Neither a comment nor blank.
+// Past the spaces from a place on.
+fn spaces_end(t: &[u8], at: usize) -> usize
+    ensures { λ r. ⌜ Spaces (now (t .entry)) at r ⌝ }
+{
+    let mut i = at;
+    while i < t.len() {
+        if t[i] != 0x20 {
+            return i;
+        }
+        i += 1;
+    }
+    i
+}
+
+// Whether a line is kept and opens no group by its first byte past spaces, where there are spaces or none.
+fn shows_row(b: u8, spaced: bool) -> bool
+    ensures { λ r. ⌜ (r ≡ true → ShowsRow b spaced) ⌝ }
+{
+    if b < 0x21 {
+        return false;
+    }
+    if 0x7E < b {
+        return false;
+    }
+    if spaced {
+        return true;
+    }
+    if b == b'#' {
+        return false;
+    }
+    b != b'.'
+}
+
+// Neither a comment nor blank, by the first byte past spaces where it shows it.
 fn is_kept(s: &[u8]) -> bool
     ensures { λ r. ⌜ r ≡ isKept (now (s .entry)) ⌝ }
 {
+    let i = spaces_end(s, 0);
+    if i < s.len() {
+        if shows_row(s[i], 0 < i) {
+            return true;
+        }
+    }
     if begins_with(s, b'#') {
         return false;
     }
@@ -203,40 +242,7 @@ pub fn next_row(t: &[u8], at: usize) -> Line
     find_row(t, at)
 }
 
-// Past the spaces from a place on.
-fn spaces_end(t: &[u8], at: usize) -> usize
-    ensures { λ r. ⌜ Spaces (now (t .entry)) at r ⌝ }
-{
-    let mut i = at;
-    while i < t.len() {
-        if t[i] != 0x20 {
-            return i;
-        }
-        i += 1;
-    }
-    i
-}
-
-// Whether a line is kept and opens no group by its first byte past spaces, where there are spaces or none.
-fn shows_row(b: u8, spaced: bool) -> bool
-    ensures { λ r. ⌜ (r ≡ true → ShowsRow b spaced) ⌝ }
-{
-    if b < 0x21 {
-        return false;
-    }
-    if 0x7E < b {
-        return false;
-    }
-    if spaced {
-        return true;
-    }
-    if b == b'#' {
-        return false;
-    }
-    b != b'.'
-}
-
-// Whether the group has a line left, by that byte where it shows it.
+// Whether the group has a line left, by the first byte past spaces where it shows it.
 pub fn has_row(t: &[u8], at: usize) -> bool
     ensures { λ r. ⌜ r ≡ not (isEmpty (partsFrom (now (t .entry)) at .before)) ⌝ }
 {
