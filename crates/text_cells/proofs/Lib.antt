@@ -1,3 +1,4 @@
 pub mod NumberLaws
 pub mod CellLaws
 pub mod HeaderLaws
+pub mod DigitLaws

@@ -1,6 +1,6 @@
 -- Numbers, digit by digit.
 -- Assumes nothing.
-use mathlib.Core.Path.{_≡_, refl, sym, _∙_}
+use mathlib.Core.Path.{_≡_, refl, sym, ap, _∙_}
 use mathlib.Core.Bool.{true, false}
 use mathlib.Core.List.{List, [], _∷_}
 use mathlib.Core.Option.{Option, none, some}
@@ -99,6 +99,25 @@ hex-no s h = rw (ne-eqb (length s) 4 h)
 pub hex-yes : (s : List ℕ) → length s ≡ 4 → parseNumber 16 65536 s ≡ hex2u16 s
 unfolding hex2u16
 hex-yes s h = rw (eq-eqb (length s) 4 h)
+
+-- four digits
+module _ (s : List ℕ) (l : length s ≡ 4) (a b c d : ℕ) (ea : a ≡ digitOr16 (getD s 0 0)) (eb : b ≡ digitOr16 (getD s 1 0)) (ec : c ≡ digitOr16 (getD s 2 0))
+    (ed : d ≡ digitOr16 (getD s 3 0)) (la : a < 16) (lb : b < 16) (lc : c < 16) (ld : d < 16) where
+  no-plus : getD s 0 0 ≡ 0x2B → ⊥
+  unfolding digitOr16
+  no-plus e = let z : a ≡ 16 = ea ∙ ap digitOr16 e in omega arith
+
+  read-four : digitsFrom 16 0 (drop 0 s) ≡ some (((a * 16 + b) * 16 + c) * 16 + d)
+  read-four =
+      let v : (((0 * 16 + digitOr16 (getD s 0 0)) * 16 + digitOr16 (getD s 1 0)) * 16 + digitOr16 (getD s 2 0)) * 16 + digitOr16 (getD s 3 0)
+      ≡ ((a * 16 + b) * 16 + c) * 16 + d = omega arith in
+      from-on 16 0 s 0 (omega arith) (omega arith) ∙ from-on 16 _ s 1 (omega arith) (omega arith) ∙ from-on 16 _ s 2 (omega arith) (omega arith)
+      ∙ from-on 16 _ s 3 (omega arith) (omega arith) ∙ from-end 16 _ s 4 (omega arith) ∙ ap (λ (n : ℕ). some n) v
+
+  pub hex-four : some (((a * 16 + b) * 16 + c) * 16 + d) ≡ hex2u16 s
+  hex-four =
+      sym (ap (belowLimit 65536) read-four ∙ below-some 65536 (((a * 16 + b) * 16 + c) * 16 + d) (omega arith))
+      ∙ number-from 16 65536 s 0 (plus-no s (omega arith) no-plus) (omega arith) ∙ hex-yes s l
 
 -- a number that was read is below the limit
 below-small : (limit v : ℕ) (o : Option ℕ) → belowLimit limit o ≡ some v → v < limit

@@ -31,29 +31,78 @@ pub enum Divider {
     Nothing,
 }
 
-// The value of a digit; 16 if it is none.
+// The values of the bytes from `0` up to `f`; 16 for one that is no digit.
+const DIGITS: [u8; 55] = [
+    0,
+    1,
+    2,
+    3,
+    4,
+    5,
+    6,
+    7,
+    8,
+    9,
+    16,
+    16,
+    16,
+    16,
+    16,
+    16,
+    16,
+    10,
+    11,
+    12,
+    13,
+    14,
+    15,
+    16,
+    16,
+    16,
+    16,
+    16,
+    16,
+    16,
+    16,
+    16,
+    16,
+    16,
+    16,
+    16,
+    16,
+    16,
+    16,
+    16,
+    16,
+    16,
+    16,
+    16,
+    16,
+    16,
+    16,
+    16,
+    16,
+    10,
+    11,
+    12,
+    13,
+    14,
+    15,
+];
+
+// The value of a digit; 16 if it is none. By a table, since no branch foresees the digits of a word.
 pub fn digit(b: u8) -> u64
     ensures { λ r. ⌜ (r ≡ digitOr16 b) × (r ≤ 16) ⌝ }
 {
     if b < 48 {
         return 16;
     }
-    if b <= 57 {
-        return (b - 48) as u64;
-    }
-    if b < 65 {
+    if 102 < b {
         return 16;
     }
-    if b <= 70 {
-        return (b - 55) as u64;
-    }
-    if b < 97 {
-        return 16;
-    }
-    if b <= 102 {
-        return (b - 87) as u64;
-    }
-    16
+    let i = (b - 48) as usize;
+    let d = DIGITS[i];
+    d as u64
 }
 
 // Past a `+`.
@@ -103,12 +152,25 @@ pub fn decimal(s: &[u8], max: u64) -> Number
     read_number(s, 10, max)
 }
 
-// Four hexadecimal digits, or three after a `+`.
+// Four hexadecimal digits, or three after a `+`: the former without a loop.
 pub fn hex2u16(s: &[u8]) -> Number
     ensures { λ r. ⌜ numberRead r ≡ hex2u16 (now (s .entry)) ⌝ }
 {
     if s.len() != 4 {
         return Number::Nothing;
+    }
+    let a = digit(s[0]);
+    let b = digit(s[1]);
+    let c = digit(s[2]);
+    let d = digit(s[3]);
+    if a < 16 {
+        if b < 16 {
+            if c < 16 {
+                if d < 16 {
+                    return Number::Value(((a * 16 + b) * 16 + c) * 16 + d);
+                }
+            }
+        }
     }
     read_number(s, 16, 0xFFFF)
 }

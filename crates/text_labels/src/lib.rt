@@ -198,8 +198,8 @@ fn put_joined(out: &mut [u32], t: &[u8], symbols: &mut [usize], starts: &mut [us
 pub fn put_labels(out: &mut [u32], t: &[u8]) -> usize
     ensures { λ r. ⌜ PutEach (map recordWords (map label (labelsOf (now (t .entry))))) (now (out .entry)) r (now (out .exit)) ⌝ }
 {
-    let mut symbols = [0usize; 1024];
-    let mut starts = [0usize; 1024];
+    let mut symbols = [0usize; 4096];
+    let mut starts = [0usize; 4096];
     put_joined(out, t, &mut symbols, &mut starts)
 }
 
@@ -261,7 +261,7 @@ fn joined_room(t: &[u8], symbols: &mut [usize], starts: &mut [usize], room: usiz
 pub fn labels_room(t: &[u8], room: usize) -> Room
     ensures { λ r. ⌜ roomOf r ≡ roomAfter (map recordWords (map label (labelsOf (now (t .entry))))) room ⌝ }
 {
-    let mut symbols = [0usize; 1024];
-    let mut starts = [0usize; 1024];
+    let mut symbols = [0usize; 4096];
+    let mut starts = [0usize; 4096];
     joined_room(t, &mut symbols, &mut starts, room)
 }

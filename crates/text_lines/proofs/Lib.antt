@@ -1,3 +1,4 @@
 pub mod TestLaws
 pub mod LineLaws
 pub mod RowLaws
+pub mod ShortLaws

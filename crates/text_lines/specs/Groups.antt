@@ -1,11 +1,11 @@
 -- Groups from a place on: the lines left of the group that a place is in, and the groups after it.
 -- Assumes nothing.
 use mathlib.Core.Path.{_≡_}
-use mathlib.Core.Bool.{false}
+use mathlib.Core.Bool.{Bool, false}
 use mathlib.Core.List.{List, []}
 use mathlib.Core.Option.{none}
 use Prim.Native.Nat.{ℕ, _≤_, _<_}
-use lib.ListN.{length, drop}
+use lib.ListN.{length, drop, getD}
 use Rattle.format.specs.Basics.{if_then_else_, ascii, eqs, beginsWith, isEmpty}
 use Rattle.format.specs.Tokens.{Parts, headOf, partsAt}
 use Rattle.text_lines.specs.declared.Line.{Line}
@@ -30,6 +30,14 @@ RowAt t at a e n = StepAt (groupView t) t at a e n
 abbrev pub NextRow : List ℕ → ℕ → Line → Type 0
 NextRow t at (ln.At a e n) = RowAt t at a e n
 NextRow t at ln.Done = partsFrom t at .before ≡ []
+
+-- spaces stand from a place up to another
+abbrev pub Spaces : List ℕ → ℕ → ℕ → Type 0
+Spaces t at e = (at ≤ e) × ((i : ℕ) → at ≤ i → i < e → getD t i 0 ≡ 0x20)
+
+-- a line is kept and opens no group by its first byte past spaces, where there are spaces or none
+abbrev pub ShowsRow : ℕ → Bool → Type 0
+ShowsRow b spaced = (0x21 ≤ b) × (b ≤ 0x7E) × (spaced ≡ false → (b ≡ 0x23 → ⊥) × (b ≡ 0x2E → ⊥))
 
 -- the groups by their headers; 4 is none of them
 unfoldable pub kindOf : List ℕ → ℕ

@@ -1,13 +1,13 @@
 // The text reader's lines: kept lines, the lines of a group, and the line that opens a group, in place on the input. Positions go by value.
 use trim::is_blank;
 ghost use mathlib.Core.Path.{_≡_};
-ghost use mathlib.Core.Bool.{true};
+ghost use mathlib.Core.Bool.{true, not};
 ghost use Prim.Native.Nat.{_+_, _-_, _≤_, _<_};
 ghost use lib.ListN.{length, take, drop};
-ghost use Rattle.format.specs.Basics.{eqs};
+ghost use Rattle.format.specs.Basics.{eqs, isEmpty};
 ghost use Rattle.format.specs.TextReader.{lines};
 ghost use Rattle.text_lines.specs.Lines.{lineLength, Next, kept, beginsByte, isKept};
-ghost use Rattle.text_lines.specs.Groups.{NextRow, kindOf, NextHead};
+ghost use Rattle.text_lines.specs.Groups.{partsFrom, RowAt, NextRow, Spaces, ShowsRow, kindOf, NextHead};
 
 // A line: where it starts and ends, and the place after it.
 pub enum Line {
@@ -75,10 +75,49 @@ pub fn begins_with(s: &[u8], b: u8) -> bool
     b == s[0]
 }
 
-// Neither a comment nor blank.
+// Past the spaces from a place on.
+fn spaces_end(t: &[u8], at: usize) -> usize
+    ensures { λ r. ⌜ Spaces (now (t .entry)) at r ⌝ }
+{
+    let mut i = at;
+    while i < t.len() {
+        if t[i] != 0x20 {
+            return i;
+        }
+        i += 1;
+    }
+    i
+}
+
+// Whether a line is kept and opens no group by its first byte past spaces, where there are spaces or none.
+fn shows_row(b: u8, spaced: bool) -> bool
+    ensures { λ r. ⌜ (r ≡ true → ShowsRow b spaced) ⌝ }
+{
+    if b < 0x21 {
+        return false;
+    }
+    if 0x7E < b {
+        return false;
+    }
+    if spaced {
+        return true;
+    }
+    if b == b'#' {
+        return false;
+    }
+    b != b'.'
+}
+
+// Neither a comment nor blank, by the first byte past spaces where it shows it.
 fn is_kept(s: &[u8]) -> bool
     ensures { λ r. ⌜ r ≡ isKept (now (s .entry)) ⌝ }
 {
+    let i = spaces_end(s, 0);
+    if i < s.len() {
+        if shows_row(s[i], 0 < i) {
+            return true;
+        }
+    }
     if begins_with(s, b'#') {
         return false;
     }
@@ -144,8 +183,36 @@ pub enum Head {
     Done,
 }
 
-// The next line of the group.
-pub fn next_row(t: &[u8], at: usize) -> Line
+// Whether a line of four bytes stands at a place that belongs to the group by its first byte, as the entries of .TEXT do.
+fn is_short_row(t: &[u8], at: usize) -> bool
+    ensures { λ r. ⌜ (r ≡ true → RowAt (now (t .entry)) at at (at + 4) (at + 4 + 1)) ⌝ }
+{
+    if t.len() < 5 {
+        return false;
+    }
+    if t.len() - 5 < at {
+        return false;
+    }
+    if t[at] < 0x2F {
+        return false;
+    }
+    if 0x7E < t[at] {
+        return false;
+    }
+    if t[at + 1] == 0x0A {
+        return false;
+    }
+    if t[at + 2] == 0x0A {
+        return false;
+    }
+    if t[at + 3] < 0x0E {
+        return false;
+    }
+    t[at + 4] == 0x0A
+}
+
+// The next line of the group, past comments and blank lines.
+fn find_row(t: &[u8], at: usize) -> Line
     ensures { λ r. ⌜ NextRow (now (t .entry)) at r ⌝ }
 {
     let Line::At { start, end, next } = next_kept(t, at) else {
@@ -158,6 +225,40 @@ pub fn next_row(t: &[u8], at: usize) -> Line
         start: start,
         end: end,
         next: next,
+    }
+}
+
+// The next line of the group.
+pub fn next_row(t: &[u8], at: usize) -> Line
+    ensures { λ r. ⌜ NextRow (now (t .entry)) at r ⌝ }
+{
+    if is_short_row(t, at) {
+        return Line::At {
+            start: at,
+            end: at + 4,
+            next: at + 4 + 1,
+        };
+    }
+    find_row(t, at)
+}
+
+// Whether the group has a line left, by the first byte past spaces where it shows it.
+pub fn has_row(t: &[u8], at: usize) -> bool
+    ensures { λ r. ⌜ r ≡ not (isEmpty (partsFrom (now (t .entry)) at .before)) ⌝ }
+{
+    let i = spaces_end(t, at);
+    if i < t.len() {
+        if shows_row(t[i], at < i) {
+            return true;
+        }
+    }
+    match next_row(t, at) {
+        Line::At {
+            start: _,
+            end: _,
+            next: _,
+        } => true,
+        Line::Done => false,
     }
 }
 

@@ -16,6 +16,7 @@ use Rattle.writing.specs.Written.{Put}
 use Rattle.writing.proofs.EachLaws.{drop-at-place}
 use Rattle.writing.proofs.WriteLaws.{filled-fits, written-fits, length-into}
 use Rattle.encode.specs.Scalar.{scalarBytes}
+use Rattle.format.proofs.ListLaws.{flatMap-append}
 use Rattle.format.proofs.WordsOnly.{bind-given, given-same}
 use Rattle.text_source.specs.declared.Source.{Source}
 use Rattle.text_source.specs.Stream.{sourceFrom, bytesLeft}
@@ -246,8 +247,11 @@ module _ (t : List ℕ) (cur : Source) (left : List ℕ) (r : Drains t cur left)
   pub drains-on : (bs : List ℕ) (d : Source) → TokenAt t cur bs d → (more : List ℕ) × (left ≡ bs ++ more) × Drains t d more
   unfolding flatMap
   drains-on bs d k =
-      let b = bind-given (tokensLeft t d) (λ ts. given (bs ∷ ts)) (r .ts) (sym (k .same) ∙ r .given-these) in
-      (joined (b .0), sym (r .bytes) ∙ ap joined (sym (given-same (b .2))), record { ts = b .0; given-these = b .1; bytes = refl })
+      let b = bind-given (tokensLeft t d) (λ ts. given (k .parts ++ ts)) (r .ts) (sym (k .same) ∙ r .given-these) in (
+        joined (b .0),
+        sym (r .bytes) ∙ ap joined (sym (given-same (b .2))) ∙ flatMap-append (λ x. x) (k .parts) (b .0) ∙ ap (λ (x : List ℕ). x ++ joined (b .0)) (k .bytes),
+        record { ts = b .0; given-these = b .1; bytes = refl },
+      )
 
 -- written
 pub record Draining (t : List ℕ) (rows : ℕ) (room out : List ℕ) (cur : Source) (h : Held) : Type 0 where

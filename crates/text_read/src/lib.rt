@@ -265,6 +265,10 @@ fn put_source_text(out: &mut [u32], t: &[u8], rows: usize) -> usize
                 h = push_scalar(out, h, v);
                 cur = d;
             }
+            Token::Stretch(a, e, d) => {
+                h = push_bytes(out, h, &t[a..e]);
+                cur = d;
+            }
             Token::Bad => {
                 return 0;
             }
@@ -311,6 +315,10 @@ fn source_length(t: &[u8], rows: usize) -> usize
             }
             Token::Scalar(v, d) => {
                 n += scalar_length(v);
+                cur = d;
+            }
+            Token::Stretch(a, e, d) => {
+                n += e - a;
                 cur = d;
             }
             Token::Bad => {

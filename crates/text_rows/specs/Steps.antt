@@ -1,8 +1,8 @@
 -- What the walk over a kind's rows finds at a place. Assumes nothing.
 use mathlib.Core.Path.{_≡_}
 use mathlib.Core.List.{List, [], _∷_, _++_, flatMap}
-use Prim.Native.Nat.{ℕ, suc, _≤_, _<_}
-use lib.ListN.{length, drop}
+use Prim.Native.Nat.{ℕ, suc, _+_, _≤_, _<_}
+use lib.ListN.{length, drop, getD}
 use Rattle.format.specs.Records.{Record}
 use Rattle.text_lines.specs.Groups.{partsFrom}
 use Rattle.text_rows.specs.Rows.{countIn, rowsIn, underHeader, groupRows, rowsFrom, rowsOf, rowAt}
@@ -16,6 +16,17 @@ pub record Skips (t : List ℕ) (at n q : ℕ) : Type 0 where
   pub from : at ≤ q
   pub inside : at ≤ length t → q ≤ length t
   pub same : partsFrom t q ≡ record { before = drop n (partsFrom t at .before); groups = partsFrom t at .groups }
+
+-- no LF from a place up to another stands before a `.`
+abbrev pub Headless : List ℕ → ℕ → ℕ → Type 0
+Headless t a e = (i : ℕ) → a ≤ i → i < e → getD t i 0 ≡ 0x0A → getD t (i + 1) 0 ≡ 0x2E → ⊥
+
+-- the first line after the one at a place that begins with `.`, or the end
+pub record DotAfter (t : List ℕ) (at q : ℕ) : Type 0 where
+  pub from : at ≤ q
+  pub inside : q ≤ length t
+  pub none : (i : ℕ) → at ≤ i → i + 1 < q → getD t i 0 ≡ 0x0A → getD t (i + 1) 0 ≡ 0x2E → ⊥
+  pub there : q < length t → (getD t q 0 ≡ 0x2E) × ((i : ℕ) → i + 1 ≡ q → (at ≤ i) × (getD t i 0 ≡ 0x0A))
 
 -- all lines of the group were passed over
 pub record GroupEnd (t : List ℕ) (at q : ℕ) : Type 0 where

@@ -8,12 +8,13 @@ use text_lines::begins_with;
 use text_lines::next_head;
 use text_lines::next_row;
 ghost use mathlib.Core.Path.{_≡_};
-ghost use Prim.Native.Nat.{suc};
+ghost use mathlib.Core.Bool.{true};
+ghost use Prim.Native.Nat.{suc, _+_, _≤_, _<_};
 ghost use lib.ListN.{length};
 ghost use Rattle.format.specs.TextReader.{parseDecimal};
 ghost use Rattle.text_lines.specs.Groups.{partsFrom};
 ghost use Rattle.text_rows.specs.Rows.{orZero, countIn};
-ghost use Rattle.text_rows.specs.Steps.{Skips, GroupEnd, FirstRow, NextTable, RowEnd, NextPlace, BeginsAt};
+ghost use Rattle.text_rows.specs.Steps.{Skips, Headless, DotAfter, GroupEnd, FirstRow, NextTable, RowEnd, NextPlace, BeginsAt};
 
 // A place in the input, or none.
 pub enum Place {
@@ -68,22 +69,71 @@ fn block_end(t: &[u8], at: usize) -> usize
     skip_rows(t, next, count_of(&t[start..end]))
 }
 
-// Past all lines of the group.
+// Whether no LF among the 64 bytes from a place on stands before a `.`. They are counted, so that the loop has no exit in the middle and is
+// done by vector instructions.
+fn is_headless_block(t: &[u8], at: usize) -> bool
+    requires { ⌜ at + 64 < length (now t) ⌝ }
+    ensures { λ r. ⌜ (r ≡ true → Headless (now (t .entry)) at (at + 64)) ⌝ }
+{
+    let mut heads: u8 = 0;
+    let mut k = 0;
+    while k < 64 {
+        let a = t[at + k];
+        let b = t[at + k + 1];
+        if a == 0x0A {
+            if b == 0x2E {
+                heads += 1;
+            }
+        }
+        k += 1;
+    }
+    heads == 0
+}
+
+// A place up to which no LF stands before a `.`: past the whole blocks.
+fn headless_blocks(t: &[u8], at: usize) -> usize
+    requires { ⌜ at ≤ length (now t) ⌝ }
+    ensures { λ r. ⌜ (at ≤ r) × (r ≤ length (now (t .entry))) × Headless (now (t .entry)) at r ⌝ }
+{
+    let mut i = at;
+    while 64 < t.len() - i {
+        if is_headless_block(t, i) {
+            i += 64;
+        } else {
+            return i;
+        }
+    }
+    i
+}
+
+// The next line that begins with `.`, after the one at a place; else the end.
+fn next_dot(t: &[u8], at: usize) -> usize
+    requires { ⌜ at ≤ length (now t) ⌝ }
+    ensures { λ r. ⌜ DotAfter (now (t .entry)) at r ⌝ }
+{
+    let mut i = headless_blocks(t, at);
+    while 1 < t.len() - i {
+        if t[i] == 0x0A {
+            if t[i + 1] == 0x2E {
+                return i + 1;
+            }
+        }
+        i += 1;
+    }
+    t.len()
+}
+
+// Past all lines of the group: kept or not, they begin with no `.`.
 fn end_of_group(t: &[u8], from: usize) -> usize
     ensures { λ r. ⌜ GroupEnd (now (t .entry)) from r ⌝ }
 {
-    let mut at = from;
-    loop {
-        let Line::At {
-            start: _,
-            end: _,
-            next,
-        } = next_row(t, at)
-        else {
-            return at;
-        };
-        at = next;
+    if t.len() <= from {
+        return from;
     }
+    if t[from] == 0x2E {
+        return from;
+    }
+    next_dot(t, from)
 }
 
 // Past the header of a table; .TEXT has none.

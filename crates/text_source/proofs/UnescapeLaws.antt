@@ -1,17 +1,17 @@
 -- Escapes at a cursor.
 -- Assumes nothing.
-use mathlib.Core.Path.{_≡_, refl, sym, ap, _∙_}
+use mathlib.Core.Path.{_≡_, refl, sym, ap, _∙_, subst}
 use mathlib.Core.Bool.{Bool, true, false, _&&_}
-use mathlib.Core.List.{List, [], _∷_, flatMap}
+use mathlib.Core.List.{List, [], _∷_, _++_, map, flatMap, append-nil}
 use mathlib.Core.Option.{Option, none, some}
-use Prim.Native.Nat.{ℕ, suc, _+_, _-_, _*_, _^_, _≤_, _<_}
+use Prim.Native.Nat.{ℕ, zero, suc, _+_, _-_, _*_, _^_, _≤_, _<_}
 use native.Mathlib.Omega.{arith}
 use native.Mathlib.Nat.{pow-suc, pow-zero, pow-le-pow-right}
 use native.Mathlib.Numerals.{add-one}
-use lib.ListN.{length, take, drop, length-drop}
+use lib.ListN.{length, take, drop, getD, length-drop, length-append}
 use lib.Seq.{drop-drop}
-use lib.Dec.{eqb}
-use borrow.Author.Tests.{lt-ltb, le-ltb, le-leb, lt-leb, eq-eqb, ne-eqb}
+use lib.Dec.{eqb, ltb}
+use borrow.Author.Tests.{lt-ltb, le-ltb, le-leb, lt-leb, eq-eqb, ne-eqb, ltb-true, ltb-false}
 use Rattle.format.specs.Basics.{Outcome, refused, given, _>>=_, ask, beginsWith, ascii, if_then_else_, isSome}
 use Rattle.format.specs.Calls.{refusalOf}
 use Rattle.format.specs.Tokens.{tokens}
@@ -19,8 +19,11 @@ use Rattle.format.specs.Utf8.{encodeScalar, isScalar, isBetween}
 use Rattle.format.specs.TextReader.{digitValue, digitsFrom, hexDigits, scalarOf, unicodeEscape, afterBackslash, unescapeAt, unescape}
 use Rattle.format.proofs.Laws.{tokens-step, tokens-stop}
 use Rattle.text_cells.specs.Cells.{digitOr16}
-use Rattle.text_source.specs.Stream.{bytesLeft}
-use Rattle.text_source.specs.Unescape.{escapeByte, EscapeAt, tokensLeft, TokenAt, NextDigits, NextEscape}
+use Rattle.trim.specs.Span.{part}
+use Rattle.text_lines.proofs.LineLaws.{length-part}
+use Rattle.text_source.specs.Stream.{bytesLeft, sourceFrom, atMost}
+use Rattle.text_source.proofs.StreamLaws.{part-front, part-end, part-most, at-most}
+use Rattle.text_source.specs.Unescape.{escapeByte, EscapeAt, tokensLeft, Plain, TokenAt, NextDigits, NextEscape}
 use Rattle.text_source.specs.declared.Unicode.{Unicode}
 use Rattle.text_source.specs.declared.Unicode.the-variants as un
 use Rattle.text_source.specs.declared.Source.{Source}
@@ -263,9 +266,12 @@ at-escape b bs h = rw (eq-eqb b 0x5C h)
 
 module _ (t : List ℕ) (c d : Source) (b : ℕ) (k : bytesLeft t c ≡ b ∷ bytesLeft t d) where
   pub token-plain : (b ≡ 0x5C → ⊥) → TokenAt t c (b ∷ []) d
+  unfolding flatMap
   token-plain h =
       record {
         less = rw k (omega arith);
+        parts = (b ∷ []) ∷ [];
+        bytes = append-nil (b ∷ []);
         same = ap (tokens unescapeAt 0) k ∙ tokens-step unescapeAt b (bytesLeft t d) (b ∷ []) 0 (at-plain b (bytesLeft t d) h);
       }
 
@@ -277,9 +283,12 @@ module _ (t : List ℕ) (c d : Source) (b : ℕ) (k : bytesLeft t c ≡ b ∷ by
     escape = at-escape b (bytesLeft t d) h ∙ ap afterBackslash j
 
     pub token-byte : (x : ℕ) → x ≡ escapeByte e → (x ≡ 0 → ⊥) → TokenAt t c (x ∷ []) f
+    unfolding flatMap
     token-byte x q z =
         record {
           less = rw (k, j) (omega arith);
+          parts = (x ∷ []) ∷ [];
+          bytes = append-nil (x ∷ []);
           same = ap (tokens unescapeAt 0) k
               ∙ tokens-step unescapeAt b (bytesLeft t d) (x ∷ []) 1 (escape ∙ after-plain e (bytesLeft t f) (λ y. z (q ∙ y)) ∙ ap (λ (y : ℕ). given (y ∷ [], 1)) (sym q))
               ∙ ap (λ (r : List ℕ). tokens unescapeAt 0 (drop 1 r) >>= λ ts. given ((x ∷ []) ∷ ts)) j;
@@ -292,10 +301,13 @@ module _ (t : List ℕ) (c d : Source) (b : ℕ) (k : bytesLeft t c ≡ b ∷ by
     token-none q z u = ap (tokens unescapeAt 0) k ∙ tokens-stop unescapeAt b (bytesLeft t d) 30 (escape ∙ after-u e (bytesLeft t f) (sym q) z ∙ u)
 
     pub token-scalar : (v : ℕ) (g : Source) → 0 ≡ escapeByte e → e ≡ 0x75 → EscapeAt t f v g → TokenAt t c (encodeScalar v) g × (isScalar v ≡ true)
+    unfolding flatMap
     token-scalar v g q z u =
         let s : 1 + u .bytes ≡ suc (u .bytes) = omega arith in (
           record {
             less = rw (k, j) (let w : length (bytesLeft t g) ≡ length (bytesLeft t f) - u .bytes = ap length (sym (u .rest)) ∙ length-drop (u .bytes) (bytesLeft t f) in omega arith);
+            parts = encodeScalar v ∷ [];
+            bytes = append-nil (encodeScalar v);
             same = ap (tokens unescapeAt 0) k
                 ∙ tokens-step unescapeAt b (bytesLeft t d) (encodeScalar v) (1 + u .bytes) (escape ∙ after-u e (bytesLeft t f) (sym q) z ∙ u .read)
                 ∙ ap (λ (r : List ℕ). tokens unescapeAt 0 (drop (1 + u .bytes) r) >>= λ ts. given (encodeScalar v ∷ ts)) j
@@ -304,6 +316,58 @@ module _ (t : List ℕ) (c d : Source) (b : ℕ) (k : bytesLeft t c ≡ b ∷ by
           },
           u .scalar,
         )
+
+-- A PLAIN STRETCH
+abbrev singles : List ℕ → List (List ℕ)
+singles bs = map (λ b. b ∷ []) bs
+
+singles-bytes : (bs : List ℕ) → flatMap (λ x. x) (singles bs) ≡ bs
+unfolding flatMap
+singles-bytes [] = refl
+singles-bytes (b ∷ bs) = ap (λ (l : List ℕ). b ∷ l) (singles-bytes bs)
+
+none-more : {A : Type 0} (o : Outcome (List A)) → o ≡ (o >>= λ ts. given ([] ++ ts))
+none-more (refused n) = refl
+none-more (given ts) = refl
+
+one-more : {A : Type 0} (o : Outcome (List A)) (a : A) (xs : List A)
+    → ((o >>= λ ts. given (xs ++ ts)) >>= λ ts. given (a ∷ ts)) ≡ (o >>= λ ts. given ((a ∷ xs) ++ ts))
+one-more (refused n) a xs = refl
+one-more (given ts) a xs = refl
+
+module _ (t : List ℕ) (end : ℕ) (inside : end ≤ length t) (rest : List ℕ) where
+  abbrev from : ℕ → Outcome (List (List ℕ))
+  from at = tokens unescapeAt 0 (part at end t ++ rest)
+
+  stretch : (k at : ℕ) → at + k ≤ end → Plain t at (at + k) → from at ≡ (from (at + k) >>= λ ts. given (singles (part at (at + k) t) ++ ts))
+  stretch zero at h p =
+      let z : at + 0 ≡ at = omega arith in
+      rw z (rw (part-end t at at (omega arith)) (none-more (from at)))
+  stretch (suc k) at h p =
+      let z : at + suc k ≡ at + 1 + k = omega arith in
+      rw z
+      (rw (part-front t at (at + 1 + k) (omega arith) (omega arith))
+      (ap (λ (l : List ℕ). tokens unescapeAt 0 (l ++ rest)) (part-front t at end (omega arith) inside)
+      ∙ tokens-step unescapeAt (getD t at 0) (part (at + 1) end t ++ rest) (getD t at 0 ∷ []) 0 (at-plain _ _ (p at (omega arith) (omega arith)))
+      ∙ ap (λ (o : Outcome (List (List ℕ))). o >>= λ ts. given ((getD t at 0 ∷ []) ∷ ts)) (stretch k (at + 1) (omega arith) (λ i a b. p i (omega arith) (omega arith)))
+      ∙ one-more (from (at + 1 + k)) (getD t at 0 ∷ []) (singles (part (at + 1) (at + 1 + k) t))))
+
+pub token-stretch : (t : List ℕ) (c : Source) (e p : ℕ) → e ≡ atMost (c .end) (length t) → c .at < p → p ≤ e → Plain t (c .at) p
+    → (c .at ≤ p) × (p ≤ length t) × TokenAt t c (part (c .at) p t) (record { at = p; end = e; next = c .next })
+token-stretch t c e p q h l n =
+    let w : e ≤ length t = subst (λ (x : ℕ). x ≤ length t) (sym q) (at-most (c .end) (length t)) in
+    let z : c .at + (p - c .at) ≡ p = omega arith in
+    let b : bytesLeft t c ≡ part (c .at) e t ++ sourceFrom t (c .next) =
+    ap (λ (x : List ℕ). x ++ sourceFrom t (c .next)) (sym (part-most t (c .at) (c .end)) ∙ ap (λ (x : ℕ). part (c .at) x t) (sym q)) in (
+      omega arith,
+      omega arith,
+      record {
+        less = rw b (simp length-append (omega (arith, length-part (c .at) e t (omega arith) w, length-part p e t l w)));
+        parts = singles (part (c .at) p t);
+        bytes = singles-bytes (part (c .at) p t);
+        same = ap (tokens unescapeAt 0) b ∙ (rw z at (stretch t e w (sourceFrom t (c .next)) (p - c .at) (c .at) (omega arith) (λ i x y. n i x (omega arith))));
+      },
+    )
 
 -- the braces
 pub escape-some : (t : List ℕ) (c d : Source) (b : ℕ) → bytesLeft t c ≡ b ∷ bytesLeft t d → b ≡ 0x7B → (v : ℕ) (g : Source) (n : ℕ) → unicodeEscape (0x7B ∷ bytesLeft t d) ≡ given (encodeScalar v, 1 + (1 + n + 1)) → drop (n + 1) (bytesLeft t d) ≡ bytesLeft t g → isScalar v ≡ true → EscapeAt t c v g
@@ -319,12 +383,12 @@ pub escape-bad : (t : List ℕ) (c d : Source) (b : ℕ) → bytesLeft t c ≡ b
 escape-bad t c d b k h e = ap unicodeEscape (k ∙ ap (λ (x : ℕ). x ∷ bytesLeft t d) h) ∙ e
 
 -- whether a source unescapes
-number-more : {A : Type 0} (o : Outcome (List A)) (a : A) → refusalOf (o >>= λ ts. given (a ∷ ts)) ≡ refusalOf o
-number-more (refused n) a = refl
-number-more (given ts) a = refl
+number-more : {A : Type 0} (o : Outcome (List A)) (xs : List A) → refusalOf (o >>= λ ts. given (xs ++ ts)) ≡ refusalOf o
+number-more (refused n) xs = refl
+number-more (given ts) xs = refl
 
 pub number-on : (t : List ℕ) (c : Source) (bs : List ℕ) (d : Source) → TokenAt t c bs d → refusalOf (tokensLeft t d) ≡ refusalOf (tokensLeft t c)
-number-on t c bs d k = sym (ap refusalOf (k .same) ∙ number-more (tokensLeft t d) bs)
+number-on t c bs d k = sym (ap refusalOf (k .same) ∙ number-more (tokensLeft t d) (k .parts))
 
 joined : (o : Outcome (List (List ℕ))) → refusalOf (o >>= λ ts. given (flatMap (λ (x : List ℕ). x) ts)) ≡ refusalOf o
 joined (refused n) = refl
@@ -341,3 +405,8 @@ number-end t c e = sym (ap (λ (bs : List ℕ). refusalOf (tokens unescapeAt 0 b
 pub escape-of : (t : List ℕ) (c d : Source) (b : ℕ) → bytesLeft t c ≡ b ∷ bytesLeft t d → b ≡ 0x7B → (r : Unicode) → NextDigits t d r → NextEscape t c r
 escape-of t c d b k h (un.Scalar v g) i = escape-some t c d b k h v g (i .0) (i .1) (i .2) (i .3)
 escape-of t c d b k h un.Bad i = escape-bad t c d b k h i
+
+-- one byte more
+pub plain-more : (t : List ℕ) (a e : ℕ) → Plain t a e → (getD t e 0 ≡ 0x5C → ⊥) → Plain t a (e + 1)
+plain-more t a e h n i p q x =
+    by-test (ltb i e) (λ w. h i p (ltb-true i e w) x) (λ w. let z : i ≡ e = omega (arith, ltb-false i e w) in n (ap (λ (j : ℕ). getD t j 0) (sym z) ∙ x))

@@ -2,14 +2,15 @@
 -- Assumes nothing.
 use mathlib.Core.Path.{_≡_}
 use mathlib.Core.Bool.{true}
-use mathlib.Core.List.{List, [], _∷_}
-use Prim.Native.Nat.{ℕ, _+_, _<_}
-use lib.ListN.{length, drop}
+use mathlib.Core.List.{List, [], _∷_, _++_, flatMap}
+use Prim.Native.Nat.{ℕ, _+_, _≤_, _<_}
+use lib.ListN.{length, drop, getD}
 use lib.Dec.{eqb}
 use Rattle.format.specs.Basics.{Outcome, refused, given, _>>=_, if_then_else_}
 use Rattle.format.specs.Tokens.{tokens}
 use Rattle.format.specs.Utf8.{encodeScalar, isScalar}
 use Rattle.format.specs.TextReader.{unescapeAt, unicodeEscape}
+use Rattle.trim.specs.Span.{part}
 use Rattle.text_source.specs.declared.Source.{Source}
 use Rattle.text_source.specs.declared.Unicode.{Unicode}
 use Rattle.text_source.specs.declared.Unicode.the-variants as un
@@ -43,11 +44,19 @@ NextEscape t c un.Bad = unicodeEscape (bytesLeft t c) ≡ refused 30
 abbrev pub tokensLeft : List ℕ → Source → Outcome (List (List ℕ))
 tokensLeft t c = tokens unescapeAt 0 (bytesLeft t c)
 
+-- from a place up to another there is no backslash
+abbrev pub Plain : List ℕ → ℕ → ℕ → Type 0
+Plain t a e = (i : ℕ) → a ≤ i → i < e → getD t i 0 ≡ 0x5C → ⊥
+
+-- the next tokens, whose bytes these are
 pub record TokenAt (t : List ℕ) (c : Source) (bs : List ℕ) (d : Source) : Type 0 where
   pub less : length (bytesLeft t d) < length (bytesLeft t c)
-  pub same : tokensLeft t c ≡ (tokensLeft t d >>= λ ts. given (bs ∷ ts))
+  pub parts : List (List ℕ)
+  pub bytes : flatMap (λ x. x) parts ≡ bs
+  pub same : tokensLeft t c ≡ (tokensLeft t d >>= λ ts. given (parts ++ ts))
 
 abbrev pub NextToken : List ℕ → Source → Token → Type 0
+NextToken t c (tk.Stretch a e d) = (a ≤ e) × (e ≤ length t) × TokenAt t c (part a e t) d
 NextToken t c (tk.Plain b d) = TokenAt t c (b ∷ []) d
 NextToken t c (tk.Scalar v d) = TokenAt t c (encodeScalar v) d × (isScalar v ≡ true)
 NextToken t c tk.Bad = tokensLeft t c ≡ refused 30

@@ -5,11 +5,12 @@ use text_lines::Line;
 use text_tables::next_source_line;
 ghost use mathlib.Core.Path.{_≡_};
 ghost use mathlib.Core.Bool.{true};
-ghost use Prim.Native.Nat.{_+_, _-_, _<_};
+ghost use Prim.Native.Nat.{_+_, _-_, _≤_, _<_};
+ghost use lib.ListN.{length};
 ghost use Rattle.format.specs.Calls.{refusalOf};
 ghost use Rattle.format.specs.TextReader.{unescape};
 ghost use Rattle.text_source.specs.Stream.{atMost, NextByte, bytesLeft};
-ghost use Rattle.text_source.specs.Unescape.{NextEscape, NextDigits, NextToken, escapeByte};
+ghost use Rattle.text_source.specs.Unescape.{NextEscape, NextDigits, NextToken, Plain, escapeByte};
 
 // A place in the source column: in a cell, and the place of the next line.
 pub struct Source {
@@ -72,10 +73,11 @@ pub enum Unicode {
     Bad,
 }
 
-// A part of the unescaped source.
+// A part of the unescaped source: bytes that stand in the text as they are, one byte, or a scalar value.
 pub enum Token {
     Plain(u8, Source),
     Scalar(u32, Source),
+    Stretch(usize, usize, Source),
     Bad,
     Done,
 }
@@ -157,8 +159,8 @@ fn escaped_byte(e: u8) -> u8
     0
 }
 
-// The next part of the unescaped source.
-pub fn next_token(t: &[u8], c: Source) -> Token
+// The next byte of the unescaped source, or the scalar value that is escaped there.
+fn one_token(t: &[u8], c: Source) -> Token
     ensures { λ r. ⌜ NextToken (now (t .entry)) c r ⌝ }
 {
     let Byte::Is(b, d) = next_byte(t, c) else {
@@ -183,6 +185,42 @@ pub fn next_token(t: &[u8], c: Source) -> Token
     Token::Scalar(v, g)
 }
 
+// Up to the next backslash before the end.
+fn plain_end(t: &[u8], at: usize, end: usize) -> usize
+    requires { ⌜ end ≤ length (now t) ⌝ }
+    ensures { λ r. ⌜ (at < r → (r ≤ end) × Plain (now (t .entry)) at r) ⌝ }
+{
+    let mut i = at;
+    while i < end {
+        if t[i] == 0x5C {
+            return i;
+        }
+        i += 1;
+    }
+    i
+}
+
+// The next part of the unescaped source: what stands as it is in one go.
+pub fn next_token(t: &[u8], c: Source) -> Token
+    ensures { λ r. ⌜ NextToken (now (t .entry)) c r ⌝ }
+{
+    let at = c.at;
+    let end = at_most(c.end, t.len());
+    let plain = plain_end(t, at, end);
+    if at < plain {
+        return Token::Stretch(
+            at,
+            plain,
+            Source {
+                at: plain,
+                end: end,
+                next: c.next,
+            },
+        );
+    }
+    one_token(t, c)
+}
+
 // Whether the source column unescapes: 30 where it does not.
 pub fn unescape(t: &[u8], c: Source) -> u8
     ensures { λ r. ⌜ r ≡ refusalOf (unescape (bytesLeft (now (t .entry)) c)) ⌝ }
@@ -195,6 +233,9 @@ pub fn unescape(t: &[u8], c: Source) -> u8
                 cur = d;
             }
             Token::Scalar(_, d) => {
+                cur = d;
+            }
+            Token::Stretch(_, _, d) => {
                 cur = d;
             }
             Token::Bad => {

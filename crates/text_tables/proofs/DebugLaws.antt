@@ -1,12 +1,12 @@
 -- .DEBUG's tables at places.
 -- Assumes nothing.
 use mathlib.Core.Path.{_≡_, refl, sym, ap, _∙_}
-use mathlib.Core.Bool.{Bool, true, false}
+use mathlib.Core.Bool.{Bool, true, false, true≢false, not}
 use mathlib.Core.List.{List, [], _∷_}
 use mathlib.Core.Option.{Option, none, some}
 use Prim.Native.Nat.{ℕ}
 use native.Mathlib.Omega.{arith}
-use Rattle.format.specs.Basics.{andThen, beginsWith, ascii, if_then_else_, isSome}
+use Rattle.format.specs.Basics.{andThen, beginsWith, ascii, if_then_else_, isSome, isEmpty}
 use Rattle.format.specs.TextReader.{Split, inFront, splitAtBar, upToBar, isBar}
 use Rattle.trim.specs.Span.{part}
 use Rattle.text_lines.specs.Views.{StepAt}
@@ -44,6 +44,16 @@ last-bar [] = refl
 last-bar (l ∷ []) = sym (some-if (beginsWith (61 ∷ []) l) [])
 last-bar (l ∷ m ∷ ls) = last-bar (m ∷ ls) ∙ sym (some-then l (upToBar (m ∷ ls)))
 
+last-line : (l : List ℕ) (ls : List (List ℕ)) → not (isEmpty ls) ≡ false → butLast (l ∷ ls) ≡ []
+unfolding butLast isEmpty
+last-line l [] q = refl
+last-line l (k ∷ ls) q = absurd (true≢false q)
+
+more-lines : (l : List ℕ) (ls : List (List ℕ)) → not (isEmpty ls) ≡ true → butLast (l ∷ ls) ≡ l ∷ butLast ls
+unfolding butLast isEmpty
+more-lines l [] q = absurd (true≢false (sym q))
+more-lines l (k ∷ ls) q = refl
+
 module _ (t : List ℕ) (at a e n : ℕ) (l : RowAt t at a e n) where
   abbrev first : List ℕ
   first = part a e t
@@ -78,21 +88,18 @@ module _ (t : List ℕ) (at a e n : ℕ) (l : RowAt t at a e n) where
   last-on b = sym (ap (lastBar b) (rows-on t at a e n l))
 
   -- the last line of the group is no line of the table
-  pub source-end : partsFrom t n .before ≡ [] → lineView t at .0 ≡ []
-  unfolding butLast
-  source-end q = ap butLast (rows-on t at a e n l ∙ ap (λ (ls : List (List ℕ)). first ∷ ls) q)
+  pub source-end : not (isEmpty (partsFrom t n .before)) ≡ false → lineView t at .0 ≡ []
+  source-end q = ap butLast (rows-on t at a e n l) ∙ last-line first (partsFrom t n .before) q
 
-  pub source-line : (c f m : ℕ) → RowAt t n c f m → StepAt (lineView t) t at a e n
-  unfolding butLast
-  source-line c f m k =
-      let two : partsFrom t n .before ≡ part c f t ∷ partsFrom t m .before = rows-on t n c f m k in
+  pub source-line : not (isEmpty (partsFrom t n .before)) ≡ true → StepAt (lineView t) t at a e n
+  source-line q =
       record {
         ordered = l .ordered;
         inside = l .inside;
         on = l .on;
         next = l .next;
-        same = ap (λ (ls : List (List ℕ)). (butLast ls, partsFrom t at .groups)) (rows-on t at a e n l ∙ ap (λ (ls : List (List ℕ)). first ∷ ls) two)
-            ∙ ap (λ (ls : List (List ℕ)). (first ∷ butLast ls, partsFrom t at .groups)) (sym two)
+        same = ap (λ (ls : List (List ℕ)). (butLast ls, partsFrom t at .groups)) (rows-on t at a e n l)
+            ∙ ap (λ (ls : List (List ℕ)). (ls, partsFrom t at .groups)) (more-lines first (partsFrom t n .before) q)
             ∙ ap (λ (g : Groups). (first ∷ butLast (partsFrom t n .before), g)) (sym (row-groups t at a e n l));
       }
 

@@ -10,6 +10,7 @@ use text_lines::Group;
 use text_lines::Line;
 use text_lines::Passed;
 use text_lines::begins_with;
+use text_lines::has_row;
 use text_lines::next_row;
 ghost use mathlib.Core.Path.{_≡_};
 ghost use mathlib.Core.List.{map};
@@ -218,19 +219,14 @@ pub fn next_source_line(t: &[u8], at: usize) -> Line
     let Line::At { start, end, next } = next_row(t, at) else {
         return Line::Done;
     };
-    let Line::At {
-        start: _,
-        end: _,
-        next: _,
-    } = next_row(t, next)
-    else {
-        return Line::Done;
-    };
-    Line::At {
-        start: start,
-        end: end,
-        next: next,
+    if has_row(t, next) {
+        return Line::At {
+            start: start,
+            end: end,
+            next: next,
+        };
     }
+    Line::Done
 }
 
 // A row of the label table: where its name stands, and its index.

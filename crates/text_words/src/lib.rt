@@ -248,7 +248,7 @@ fn put_windows(out: &mut [u32], t: &[u8], kind: u8, win: &mut [usize]) -> usize
 pub fn put_rows(out: &mut [u32], t: &[u8], kind: u8) -> usize
     ensures { λ r. ⌜ PutEach (map recordWords (sorted rowKey (rowsOf kind (now (t .entry))))) (now (out .entry)) r (now (out .exit)) ⌝ }
 {
-    let mut win = [0usize; 1024];
+    let mut win = [0usize; 4096];
     put_windows(out, t, kind, &mut win)
 }
 
@@ -333,6 +333,6 @@ fn windows_room(t: &[u8], kind: u8, win: &mut [usize], room: usize) -> Room
 pub fn rows_room(t: &[u8], kind: u8, room: usize) -> Room
     ensures { λ r. ⌜ roomOf r ≡ roomAfter (map recordWords (sorted rowKey (rowsOf kind (now (t .entry))))) room ⌝ }
 {
-    let mut win = [0usize; 1024];
+    let mut win = [0usize; 4096];
     windows_room(t, kind, &mut win, room)
 }

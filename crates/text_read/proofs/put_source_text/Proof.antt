@@ -6,6 +6,7 @@ use lib.ListN.{length}
 use denote.Ref.{now}
 use Rattle.text_source.specs.Stream.{bytesLeft}
 use Rattle.text_source.specs.Unescape.{NextToken}
+use Rattle.text_source.specs.declared.Token.the-variants as tk
 use Rattle.text_read.proofs.TextLaws.{Draining, draining-begin, draining-long, draining-ready, draining-on, draining-last, draining-end, drains-bad}
 use Rattle.text_read.proofs.put_source_text.Statement.{statement}
 use Rattle.text_read.proofs.put_source_text.Tie as tie
@@ -63,6 +64,20 @@ loop-again-2 c =
     let k = subst (NextToken (now (l .before .before .before .args .t)) (l .loop .cur)) (d .token2 .given .1) (d .before .before .next-token .ensures) in
     draining-on _ _ _ _ _ _ (l .loop .inv) _ _ (k .0) _ _ (p .push-scalar .ensures)
 
+stretch : (d : tie.After-token3 Inv-loop μ-loop) → NextToken (now (d .before .before .before .before .before .before .args .t)) (d .before .before .before .loop .cur) (tk.Stretch (d .token3 .given .0 .0) (d .token3 .given .0 .1 .0) (d .token3 .given .0 .1 .1 .0))
+stretch d = subst (NextToken (now (d .before .before .before .before .before .before .args .t)) (d .before .before .before .loop .cur)) (d .token3 .given .1) (d .before .before .next-token .ensures)
+
+push-bytes-requires : tie.Need-push-bytes-requires Inv-loop μ-loop
+push-bytes-requires c κs =
+    let d = c .before .before .before in
+    draining-ready _ _ _ _ _ _ (d .before .before .before .loop .inv) _ _ (stretch d .2)
+
+loop-again-3 : tie.Need-loop-again-3 Inv-loop μ-loop
+loop-again-3 c =
+    let p = c .before .before in
+    let d = p .before .before .before .before in
+    draining-on _ _ _ _ _ _ (d .before .before .before .loop .inv) _ _ (stretch d .2) _ _ (p .push-bytes .ensures)
+
 same-length : tie.Need-same-length Inv-loop μ-loop
 same-length c = draining-long _ _ _ _ _ _ (c .before .before .before .loop .inv)
 
@@ -98,4 +113,6 @@ pub put-source-text-spec : {M : Type 1} → statement M
 put-source-text-spec =
     tie.close
     (tie.spec Inv-loop μ-loop loop-holds (λ c κs. search needs) (λ c. search needs) push-requires loop-less loop-again (λ c. search needs)
-    push-scalar-requires loop-less-2 loop-again-2 (λ c. search needs) same-length returns (λ c. search needs) flush-requires same-length-2 returns-2)
+    push-scalar-requires loop-less-2 loop-again-2 (λ c. search needs) (λ c. omega (arith, stretch (c .before .before) .0))
+    (λ c. omega (arith, stretch (c .before .before) .0)) (λ c. omega (arith, stretch (c .before .before) .1)) push-bytes-requires
+    (λ c. stretch (c .before .before .before .before .before .before) .2 .less) loop-again-3 (λ c. search needs) same-length returns (λ c. search needs) flush-requires same-length-2 returns-2)

@@ -30,6 +30,12 @@ loop-less-2 c = let k = subst (NextToken (now (c .before .before .before .before
 loop-again-2 : tie.Need-loop-again-2 Inv-loop μ-loop
 loop-again-2 c = let k = subst (NextToken (now (c .before .before .before .before .before .before .args .t)) (c .before .before .before .before .loop .cur)) (c .before .token2 .given .1) (c .before .before .before .next-token .ensures) in number-on _ _ _ _ (k .0) ∙ c .before .before .before .before .loop .inv
 
+loop-less-3 : tie.Need-loop-less-3 Inv-loop μ-loop
+loop-less-3 c = let k = subst (NextToken (now (c .before .before .before .before .before .before .args .t)) (c .before .before .before .before .loop .cur)) (c .before .token3 .given .1) (c .before .before .before .next-token .ensures) in k .2 .less
+
+loop-again-3 : tie.Need-loop-again-3 Inv-loop μ-loop
+loop-again-3 c = let k = subst (NextToken (now (c .before .before .before .before .before .before .args .t)) (c .before .before .before .before .loop .cur)) (c .before .token3 .given .1) (c .before .before .before .next-token .ensures) in number-on _ _ _ _ (k .2) ∙ c .before .before .before .before .loop .inv
+
 returns : tie.Need-returns Inv-loop μ-loop
 returns c = sym (ap refusalOf (subst (NextToken (now (c .before .before .before .before .before .args .t)) (c .before .before .before .loop .cur)) (c .enum-told .given .1) (c .before .before .next-token .ensures))) ∙ c .before .before .before .loop .inv ∙ number-all _
 
@@ -37,4 +43,4 @@ returns-2 : tie.Need-returns-2 Inv-loop μ-loop
 returns-2 c = number-end (now (c .before .before .before .before .before .args .t)) (c .before .before .before .loop .cur) (subst (NextToken (now (c .before .before .before .before .before .args .t)) (c .before .before .before .loop .cur)) (c .enum-told2 .given .1) (c .before .before .next-token .ensures)) ∙ c .before .before .before .loop .inv ∙ number-all _
 
 pub unescape-spec : {M : Type 1} → statement M
-unescape-spec = tie.close (tie.spec Inv-loop μ-loop loop-holds (λ c κs. search needs) (λ c. search needs) loop-less loop-again (λ c. search needs) loop-less-2 loop-again-2 (λ c. search needs) returns (λ c. search needs) returns-2)
+unescape-spec = tie.close (tie.spec Inv-loop μ-loop loop-holds (λ c κs. search needs) (λ c. search needs) loop-less loop-again (λ c. search needs) loop-less-2 loop-again-2 (λ c. search needs) loop-less-3 loop-again-3 (λ c. search needs) returns (λ c. search needs) returns-2)
