@@ -1,6 +1,7 @@
 #!/bin/sh
 # bench.sh: times of our calls beside the crate's, both built for release. Tables in markdown on standard output; a picture of each call
-# in docs/pictures. It wants a quiet machine, some minutes, and the Rattle toolchain for the library.
+# in docs/pictures. Times are the thread's processor time, so other work on the machine matters little. It takes some minutes, and needs
+# the Rattle toolchain for the library.
 set -eu
 here=$(cd "$(dirname "$0")" && pwd)
 cd "$here/.."
