@@ -16,7 +16,7 @@ use units::Filled;
 const INPUT: usize = 65536;
 
 // Room for the words of an object: 64 KiB.
-pub fn object_room() -> [u32; 16384]
+fn object_room() -> [u32; 16384]
     ensures { λ r. ⌜ 16384 ≡ length r ⌝ }
 {
     [0; 16384]
