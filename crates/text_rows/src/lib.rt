@@ -69,8 +69,20 @@ fn block_end(t: &[u8], at: usize) -> usize
     skip_rows(t, next, count_of(&t[start..end]))
 }
 
-// Whether no LF among the 64 bytes from a place on stands before a `.`. They are counted, so that the loop has no exit in the middle and is
-// done by vector instructions.
+// 1 for an LF before a `.`.
+fn is_head(a: u8, b: u8) -> u8
+    ensures { λ r. ⌜ (r ≤ 1) × (r ≡ 0 → a ≡ 0x0A → b ≡ 0x2E → ⊥) ⌝ }
+{
+    if a != 0x0A {
+        return 0;
+    }
+    if b != 0x2E {
+        return 0;
+    }
+    1
+}
+
+// Whether no LF among the 64 bytes from a place on stands before a `.`. They are counted, so that the loop has no exit in the middle.
 fn is_headless_block(t: &[u8], at: usize) -> bool
     requires { ⌜ at + 64 < length (now t) ⌝ }
     ensures { λ r. ⌜ (r ≡ true → Headless (now (t .entry)) at (at + 64)) ⌝ }
@@ -78,13 +90,7 @@ fn is_headless_block(t: &[u8], at: usize) -> bool
     let mut heads: u8 = 0;
     let mut k = 0;
     while k < 64 {
-        let a = t[at + k];
-        let b = t[at + k + 1];
-        if a == 0x0A {
-            if b == 0x2E {
-                heads += 1;
-            }
-        }
+        heads += is_head(t[at + k], t[at + k + 1]);
         k += 1;
     }
     heads == 0

@@ -1,9 +1,7 @@
 -- Where no LF was counted before a `.`, none stands among the bytes passed. Assumes nothing.
 use native.Mathlib.Omega.{arith}
 use mathlib.Core.Path.{_≡_}
-use mathlib.Core.Logic.{⊎-elim}
 use Prim.Native.Nat.{ℕ, _+_, _≤_, _-_}
-use lib.ListN.{getD}
 use denote.Ref.{now}
 use borrow.Author.Tests.{eqb-true}
 use Rattle.text_rows.specs.Steps.{Headless}
@@ -20,16 +18,11 @@ abbrev μ-loop : tie.MeasureT-loop
 loop-again : tie.Need-loop-again Inv-loop μ-loop
 loop-again c =
     let l = c .before .before .before .before .loop in
-    let a = c .before .before .before .before .before .args in
-    let t = now (a .t) in
-    let p : (c .if1 .heads ≤ l .k + 1)
-    × (c .if1 .heads ≡ 0 → (l .heads ≡ 0) × (getD t (a .at + l .k) 0 ≡ 0x0A → getD t (a .at + l .k + 1) 0 ≡ 0x2E → ⊥)) =
-    ⊎-elim (λ w. (omega arith, λ z. absurd (omega arith)))
-    (⊎-elim (λ w. (omega arith, λ z. (omega arith, λ x y. w .1 .left y))) (λ w. (omega arith, λ z. (omega arith, λ x y. w .0 .left x))))
-    (c .if1 .came) in (
+    let a = c .before .before .before .before .before .before .args in
+    let e = c .is-head .ensures in (
       omega arith,
-      p .0,
-      λ z i f g. headless-more t (a .at) (a .at + l .k) (l .inv .2 (p .1 z .0)) (p .1 z .1) i f (omega arith),
+      omega (arith, e .0),
+      λ z i f g. headless-more (now (a .t)) (a .at) (a .at + l .k) (l .inv .2 (omega arith)) (e .1 (omega arith)) i f (omega arith),
     )
 
 returns : tie.Need-returns Inv-loop μ-loop
@@ -39,4 +32,4 @@ pub is-headless-block-spec : {M : Type 1} → statement M
 is-headless-block-spec =
     tie.close
     (tie.spec Inv-loop μ-loop (λ c. (omega arith, omega arith, λ z i p q. absurd (omega arith))) (λ c. omega arith) (λ c. omega arith) (λ c. omega arith)
-    (λ c. omega arith) (λ c. omega arith) (λ c. omega arith) (λ c. omega arith) (λ c. omega arith) loop-again returns)
+    (λ c. omega arith) (λ c. omega arith) (λ c κs. tt) (λ c. omega (arith, c .is-head .ensures .0)) (λ c. omega arith) (λ c. omega arith) loop-again returns)
