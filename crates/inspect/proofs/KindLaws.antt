@@ -69,7 +69,8 @@ module _ (ws : List ℕ) (i : ℕ) (h : i < length ws) (counts : List ℕ) (c : 
       here k m t =
           let e : j ≡ k = eqb-true j k t in
           let same : getD (set counts j (getD counts j 0 + 1)) k 0 ≡ getD counts k 0 + 1 =
-          ap (λ n. getD (set counts n (getD counts n 0 + 1)) k 0) e ∙ getD-set-same counts k (getD counts k 0 + 1) 0 (omega (arith, c .0)) in
+          (let within : k < length counts = omega (arith, c .0) in
+          ap (λ n. getD (set counts n (getD counts n 0 + 1)) k 0) e ∙ getD-set-same counts k (getD counts k 0 + 1) 0 within) in
           let s : ofKind k (drop i ws) ≡ 1 + ofKind k (drop (i + 1) ws) = simp t at (step k) in
           omega (arith, same, s, c .1 k m)
 
