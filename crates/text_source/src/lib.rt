@@ -3,12 +3,15 @@ use text_cells::digit;
 use text_cells::find_cell;
 use text_lines::Line;
 use text_tables::next_source_line;
+use trim::Span;
 ghost use mathlib.Core.Path.{_≡_};
 ghost use mathlib.Core.Bool.{true};
 ghost use Prim.Native.Nat.{_+_, _-_, _≤_, _<_};
-ghost use lib.ListN.{length};
+ghost use mathlib.Core.List.{[]};
+ghost use lib.ListN.{length, getD};
 ghost use Rattle.format.specs.Calls.{refusalOf};
-ghost use Rattle.format.specs.TextReader.{unescape};
+ghost use Rattle.format.specs.TextReader.{splitn, unescape};
+ghost use Rattle.trim.specs.Span.{Spans};
 ghost use Rattle.text_source.specs.Stream.{atMost, NextByte, bytesLeft};
 ghost use Rattle.text_source.specs.Unescape.{NextEscape, NextDigits, NextToken, Plain, escapeByte};
 
@@ -32,6 +35,13 @@ fn at_most(x: usize, most: usize) -> usize
         return most;
     }
     x
+}
+
+// The SOURCE cell of a row, which is not trimmed.
+fn source_cell(l: &[u8]) -> Span
+    ensures { λ r. ⌜ Spans (now (l .entry)) (r .start) (r .end) (getD (splitn 2 (now (l .entry))) 2 []) ⌝ }
+{
+    find_cell(l, 2, 2)
 }
 
 // The next byte of the source column.
@@ -60,7 +70,7 @@ pub fn next_byte(t: &[u8], c: Source) -> Byte
         else {
             return Byte::Done;
         };
-        let cell = find_cell(&t[start..stop], 2, 2);
+        let cell = source_cell(&t[start..stop]);
         at = start + cell.start;
         end = start + cell.end;
         next = n;
