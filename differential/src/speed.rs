@@ -132,7 +132,7 @@ fn form(names: [&'static str; 3], form: Option<Form>, object: &[u32], file: &[u8
 /// How many times the crate's time ours may be at most.
 fn bar(object: char, call: &str) -> Option<f64> {
     match (object, call) {
-        (_, "binary length") => None,
+        (_, "binary length" | "text length") => None,
         (_, "binary write") => Some(8.0),
         ('b', "binary read") => Some(2.0),
         _ => Some(1.0),
