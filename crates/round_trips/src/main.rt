@@ -193,7 +193,8 @@ fn show(object: &[u32], list: &[u16])
     print::words(&stands[..m]);
 }
 
-// Lists from document 01's words: an even number of completed binary trips, and an odd one, with text trips and refused ones among them.
+// Lists from document 01's words: refused trips alone, and an odd number of completed binary trips, with text trips and refused ones among
+// them.
 fn show_paper() {
     let paper = PAPER;
     let refused = [
@@ -233,6 +234,11 @@ fn show_paper() {
         0,
     ];
     show(&paper, &odd);
+}
+
+// Lists from them that leave them as they were: an even number of completed binary trips, and none.
+fn show_paper_back() {
+    let paper = PAPER;
     let even = [
         BINARY,
         1024,
@@ -279,5 +285,6 @@ fn show_turned() {
 
 fn main() {
     show_paper();
+    show_paper_back();
     show_turned();
 }
