@@ -1,7 +1,7 @@
 -- Trimming at places: over White_Space characters from the start, and back over them from the end. Assumes nothing.
 use mathlib.Core.Path.{_≡_, refl, sym, ap, _∙_, subst}
 use mathlib.Core.Bool.{Bool, true, false, true≢false, _&&_}
-use mathlib.Core.Logic.{inl, inr}
+use mathlib.Core.Logic.{_⊎_, inl, inr}
 use mathlib.Core.List.{List, [], _∷_}
 use mathlib.Core.Option.{Option, none, some}
 use Prim.Native.Nat.{ℕ, zero, suc, _+_, _-_, _*_, _≤_, _<_}
@@ -10,15 +10,15 @@ use native.Mathlib.Numerals.{add-one}
 use lib.ListN.{length, take, drop, getD, length-drop}
 use lib.Seq.{drop-drop, getD-drop, drop-length, drop-nil}
 use lib.Dec.{leb, ltb, eqb}
-use borrow.Author.Tests.{le-leb, eq-eqb, ltb-true, ltb-false, leb-true, leb-false, eqb-true, eqb-false, lt-leb, ne-eqb}
+use borrow.Author.Tests.{le-leb, eq-eqb, ltb-true, ltb-false, leb-true, leb-false, eqb-true, eqb-false, lt-leb, lt-ltb, ne-eqb}
 use Rattle.format.specs.Basics.{if_then_else_, isEmpty}
 use Rattle.format.specs.Utf8.{isBetween, isScalar, follow, shortestForm, charAt, isWhiteSpace, whiteSpaceLength, passOver, trimFrom}
 use Rattle.format.specs.Utf8.{trimStart, isBlank, trimEnd}
 use Rattle.format.proofs.ListLaws.{by-test, both}
 use Rattle.format.proofs.Utf8Laws.{char-middle}
 use Rattle.utf8.proofs.CharLaws.{front, inside}
-use Rattle.trim.proofs.WhiteLaws.{Alone, above, white-not}
-use Rattle.trim.specs.WhiteSpace.{whiteAt, endsWhite, whiteBefore}
+use Rattle.trim.proofs.WhiteLaws.{Alone, above, below, white-not}
+use Rattle.trim.specs.WhiteSpace.{shownWhite, whiteAt, endsWhite, whiteBefore}
 
 -- a character lies in the text; its later bytes are 10xxxxxx; three of them only from x10000 on
 abbrev Fitting : Option (ℕ × ℕ) → List ℕ → Type 0
@@ -114,6 +114,51 @@ module _ (bs : List ℕ) where
 
   pub white-small : white bs ≤ 3
   white-small = white-of (charAt bs) bs (char-fits bs) .1
+
+-- no White_Space from `!` up to `~`
+white-plain : (c : ℕ) → 0x20 < c → c < 0x7F → isWhiteSpace c ≡ false
+white-plain c h l = sym (white-not c beyond (above 0x9 0xD c (omega arith)) (below 0x2000 0x200A c (omega arith)) (λ e. omega arith)
+    (λ e. omega arith))
+  where
+    beyond : Alone c → ⊥
+    beyond (inl e) = omega arith
+    beyond (inr (inl e)) = omega arith
+    beyond (inr (inr (inl e))) = omega arith
+    beyond (inr (inr (inr (inl e)))) = omega arith
+    beyond (inr (inr (inr (inr (inl e))))) = omega arith
+    beyond (inr (inr (inr (inr (inr (inl e)))))) = omega arith
+    beyond (inr (inr (inr (inr (inr (inr e)))))) = omega arith
+
+-- what a byte shows is a space, or no White_Space
+abbrev Shown : ℕ → ℕ → Type 0
+Shown b n = ((b ≡ 0x20) × (n ≡ 1)) ⊎ ((0x20 < b) × (b < 0x7F) × (n ≡ 0))
+
+shown-of : (b n : ℕ) → n ≡ shownWhite b → n < 4 → Shown b n
+unfolding shownWhite
+shown-of b n e h =
+    by-test (eqb b 0x20)
+    (λ t. let f : n ≡ 1 = simp t at e in inl (eqb-true b 0x20 t, f))
+    (λ t. by-test (ltb b 0x20)
+    (λ u. let f : n ≡ 4 = simp (t, u) at e in absurd (omega arith))
+    (λ u. by-test (ltb 0x7E b)
+    (λ v. let f : n ≡ 4 = simp (t, u, v) at e in absurd (omega arith))
+    (λ v. let f : n ≡ 0 = simp (t, u, v) at e in
+    inr (omega (arith, eqb-false b 0x20 t, ltb-false b 0x20 u), omega (arith, ltb-false 0x7E b v), f))))
+
+module _ (s : List ℕ) (at n : ℕ) (there : at < length s) where
+  shown-ascii : getD s at 0 < 0x80 → charAt (drop at s) ≡ some (getD s at 0, 0)
+  unfolding charAt
+  shown-ascii h = ap charAt (front 0 s at there) ∙ simp (lt-ltb (getD s at 0) 0x80 h)
+
+  shown-at : Shown (getD s at 0) n → n ≡ whiteAt s at
+  unfolding isWhiteSpace
+  shown-at (inl (e, f)) =
+      f ∙ white-yes (drop at s) (getD s at 0) 0 (sym (shown-ascii (omega arith))) (ap isWhiteSpace e)
+  shown-at (inr (l, u, f)) =
+      f ∙ white-no (drop at s) (getD s at 0) 0 (sym (shown-ascii (omega arith))) (white-plain (getD s at 0) l u)
+
+  pub white-shown : n ≡ shownWhite (getD s at 0) → n < 4 → n ≡ whiteAt s at
+  white-shown e h = shown-at (shown-of (getD s at 0) n e h)
 
 -- how much is left of the text at a place bounds a White_Space character there
 pub white-left : (s : List ℕ) (at : ℕ) → whiteAt s at ≤ length s - at
@@ -266,3 +311,36 @@ module _ (s : List ℕ) (end : ℕ) (i : end ≤ length s) (d : blankAt s end �
       let k : end - n + n ≡ end = omega arith in
       let f = trim-on s (end - n) n (sym (eqb-true (whiteAt s (end - n)) n (t .1))) in
       (l, sym (blank-same s (end - n + n) (end - n) f) ∙ ap (blankAt s) k ∙ d)
+
+-- no White_Space character of two or three bytes ends in a byte of ASCII
+ends-late : (s : List ℕ) (end n : ℕ) → 1 < n → end ≤ length s → getD s (end - 1) 0 < 0x80 → endsWhite s end n ≡ false
+ends-late s end n h i a =
+    by-test (endsWhite s end n)
+    (λ t. let b = both (leb n end) (eqb (whiteAt s (end - n)) n) t in
+    let l : n ≤ end = leb-true n end (b .0) in
+    let w : whiteAt s (end - n) ≡ n = eqb-true (whiteAt s (end - n)) n (b .1) in
+    let f = white-of (charAt (drop (end - n) s)) (drop (end - n) s) (char-fits (drop (end - n) s)) .2 (n - 2) (omega (arith, w)) in
+    let k : end - n + 1 + (n - 2) ≡ end - 1 = omega arith in
+    let e : getD (drop 1 (drop (end - n) s)) (n - 2) 0 ≡ getD s (end - 1) 0 =
+    rw (drop-drop 1 (end - n) s, getD-drop (end - n + 1) s (n - 2) 0) (ap (λ (j : ℕ). getD s j 0) k) in
+    let g : 0x80 ≤ getD s (end - 1) 0 = rw e at (f .0) in
+    absurd (omega arith))
+    (λ t. t)
+
+pub white-shown-before : (s : List ℕ) (end n : ℕ) → 0 < end → end ≤ length s → n ≡ shownWhite (getD s (end - 1) 0) → n < 4
+    → n ≡ whiteBefore s end
+unfolding whiteBefore
+white-shown-before s end n p i e h = go (shown-of (getD s (end - 1) 0) n e h)
+  where
+    w : n ≡ whiteAt s (end - 1)
+    w = white-shown s (end - 1) n (omega arith) e h
+
+    go : Shown (getD s (end - 1) 0) n → n ≡ (if endsWhite s end 1 then 1 else if endsWhite s end 2 then 2 else if endsWhite s end 3 then 3 else 0)
+    go (inl (a, f)) = simp (le-leb 1 end p, eq-eqb (whiteAt s (end - 1)) 1 (sym w ∙ f)) f
+    go (inr (l, u, f)) =
+        simp (
+          le-leb 1 end p,
+          ne-eqb (whiteAt s (end - 1)) 1 (λ g. omega (arith, w)),
+          ends-late s end 2 (omega arith) i (omega arith),
+          ends-late s end 3 (omega arith) i (omega arith),
+        ) f

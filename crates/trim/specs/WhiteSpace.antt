@@ -3,13 +3,17 @@ use mathlib.Core.Bool.{Bool, _&&_}
 use mathlib.Core.List.{List}
 use Prim.Native.Nat.{ℕ, _-_}
 use lib.ListN.{drop}
-use lib.Dec.{leb, eqb}
+use lib.Dec.{leb, ltb, eqb}
 use Rattle.format.specs.Basics.{if_then_else_}
 use Rattle.format.specs.Utf8.{charAt, whiteSpaceLength}
 
 -- how many bytes the White_Space character at a place has; 0 if none begins there
 abbrev pub whiteAt : List ℕ → ℕ → ℕ
 whiteAt s at = whiteSpaceLength (charAt (drop at s))
+
+-- the same by a byte of ASCII from the space up to `~`; 4, which no character has, where the byte doesn't show it
+unfoldable pub shownWhite : ℕ → ℕ
+shownWhite b = if eqb b 0x20 then 1 else if ltb b 0x20 then 4 else if ltb 0x7E b then 4 else 0
 
 -- a White_Space character of n bytes ends at a place
 abbrev pub endsWhite : List ℕ → ℕ → ℕ → Bool

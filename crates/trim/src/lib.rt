@@ -4,7 +4,7 @@ ghost use Prim.Native.Nat.{ℕ, _≤_};
 ghost use lib.ListN.{length, take, drop};
 ghost use Rattle.format.specs.Utf8.{isWhiteSpace, trimStart, trimEnd, trim, isBlank};
 ghost use Rattle.trim.specs.Span.{part, clipped, trimStartSpan, trimEndSpan, trimSpan, Trimmed};
-ghost use Rattle.trim.specs.WhiteSpace.{whiteAt, endsWhite, whiteBefore};
+ghost use Rattle.trim.specs.WhiteSpace.{shownWhite, whiteAt, endsWhite, whiteBefore};
 use utf8::Char;
 
 // From a byte to a byte, the second left out.
@@ -25,8 +25,24 @@ pub fn is_white_space(c: u32) -> bool
     }
 }
 
-// How many bytes the White_Space character at a place has; 0 if none begins there.
-pub fn white_at(s: &[u8], at: usize) -> usize
+// What stands at a byte of ASCII from the space up to `~`, by that byte alone: 1 byte of White_Space, or 0; 4 of other bytes.
+fn shown_white(b: u8) -> usize
+    ensures { λ r. ⌜ r ≡ shownWhite b ⌝ }
+{
+    if b == 0x20 {
+        return 1;
+    }
+    if b < 0x20 {
+        return 4;
+    }
+    if 0x7E < b {
+        return 4;
+    }
+    0
+}
+
+// How many bytes the White_Space character at a place has, of whatever bytes; 0 if none begins there.
+fn find_white(s: &[u8], at: usize) -> usize
     ensures { λ r. ⌜ r ≡ whiteAt (now (s .entry)) at ⌝ }
 {
     let Char::Scalar { value, more } = utf8::char_at(s, at) else {
@@ -36,6 +52,19 @@ pub fn white_at(s: &[u8], at: usize) -> usize
         return more + 1;
     }
     0
+}
+
+// How many bytes the White_Space character at a place has; 0 if none begins there.
+pub fn white_at(s: &[u8], at: usize) -> usize
+    ensures { λ r. ⌜ r ≡ whiteAt (now (s .entry)) at ⌝ }
+{
+    if at < s.len() {
+        let n = shown_white(s[at]);
+        if n < 4 {
+            return n;
+        }
+    }
+    find_white(s, at)
 }
 
 // Whether a White_Space character of n bytes ends at a place.
@@ -48,8 +77,8 @@ fn ends_white(s: &[u8], end: usize, n: usize) -> bool
     white_at(s, end - n) == n
 }
 
-// How many bytes the White_Space character has that ends at a place; 0 if none ends there.
-fn white_before(s: &[u8], end: usize) -> usize
+// How many bytes the White_Space character has that ends at a place, of whatever bytes; 0 if none ends there.
+fn find_white_before(s: &[u8], end: usize) -> usize
     ensures { λ r. ⌜ r ≡ whiteBefore (now (s .entry)) end ⌝ }
 {
     if ends_white(s, end, 1) {
@@ -62,6 +91,21 @@ fn white_before(s: &[u8], end: usize) -> usize
         return 3;
     }
     0
+}
+
+// How many bytes the White_Space character has that ends at a place; 0 if none ends there. No character of more bytes ends in ASCII.
+fn white_before(s: &[u8], end: usize) -> usize
+    ensures { λ r. ⌜ r ≡ whiteBefore (now (s .entry)) end ⌝ }
+{
+    if 0 < end {
+        if end <= s.len() {
+            let n = shown_white(s[end - 1]);
+            if n < 4 {
+                return n;
+            }
+        }
+    }
+    find_white_before(s, end)
 }
 
 // Where a text goes on after the White_Space at its start.
