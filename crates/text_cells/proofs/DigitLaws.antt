@@ -1,45 +1,62 @@
--- The rule of the table of digits: a test that is computed at each of its entries. Assumes nothing.
-use mathlib.Core.Path.{_≡_, refl, sym, ap, _∙_, subst}
+-- A digit's value by sums: a test that is computed at each byte from `0` up to `f`. Assumes nothing.
+use mathlib.Core.Path.{_≡_, refl, sym, ap, _∙_}
 use mathlib.Core.Bool.{Bool, true, false, _&&_}
-use mathlib.Core.List.{List, [], _∷_}
-use Prim.Native.Nat.{ℕ, zero, suc, _+_, _-_, _≤_, _<_}
+use Prim.Native.Nat.{ℕ, zero, suc, _+_, _-_, _*_, _/_, _%_, _≤_, _<_}
 use native.Mathlib.Omega.{arith}
-use lib.ListN.{length, getD}
-use lib.Dec.{eqb, leb}
-use borrow.Author.Tests.{eqb-true, leb-true}
+use lib.Dec.{eqb, leb, ltb}
+use borrow.Author.Tests.{eqb-true, leb-true, lt-ltb, le-ltb}
 use Rattle.format.specs.Basics.{if_then_else_}
 use Rattle.format.specs.Utf8.{isBetween}
-use Rattle.text_lines.proofs.TestLaws.{by-test}
+use Rattle.format.proofs.ListLaws.{both}
 use Rattle.text_cells.specs.Cells.{digitOr16}
 
-unfoldable pub digits : List ℕ
-digits = 0 ∷ 1 ∷ 2 ∷ 3 ∷ 4 ∷ 5 ∷ 6 ∷ 7 ∷ 8 ∷ 9 ∷ 16 ∷ 16 ∷ 16 ∷ 16 ∷ 16 ∷ 16 ∷ 16 ∷ 10 ∷ 11 ∷ 12 ∷ 13 ∷ 14 ∷ 15 ∷ 16 ∷ 16 ∷ 16 ∷ 16 ∷ 16 ∷ 16 ∷ 16 ∷ 16 ∷ 16 ∷ 16 ∷ 16 ∷ 16 ∷ 16 ∷ 16 ∷ 16 ∷ 16 ∷ 16 ∷ 16 ∷ 16 ∷ 16 ∷ 16 ∷ 16 ∷ 16 ∷ 16 ∷ 16 ∷ 16 ∷ 10 ∷ 11 ∷ 12 ∷ 13 ∷ 14 ∷ 15 ∷ []
+unfoldable summed : ℕ → ℕ
+summed b =
+    if ltb (b % 32) (16 - 15 * (b / 64)) then 16 else if ltb (25 - 19 * (b / 64)) (b % 32) then 16 else b % 16 + 9 * (b / 64)
 
--- each value is that of its byte, counted from one on, and at most 16
-unfoldable right : ℕ → List ℕ → Bool
-right b [] = true
-right b (d ∷ ds) = eqb d (digitOr16 b) && (leb d 16 && right (suc b) ds)
+-- the value of each of k bytes from b on is right, and at most 16
+unfoldable right : ℕ → ℕ → Bool
+right b zero = true
+right b (suc k) = eqb (summed b) (digitOr16 b) && (leb (summed b) 16 && right (suc b) k)
 
-both : (p q : Bool) → (p && q) ≡ true → (p ≡ true) × (q ≡ true)
-both true q e = (refl, e)
-both false q e = let z : _≡_ {A = ℕ} 0 1 = cc in absurd (omega arith)
-
-at : (ds : List ℕ) (b : ℕ) → right b ds ≡ true → (i : ℕ) → i < length ds → (getD ds i 0 ≡ digitOr16 (b + i)) × (getD ds i 0 ≤ 16)
+at : (k b : ℕ) → right b k ≡ true → (i : ℕ) → i < k → (summed (b + i) ≡ digitOr16 (b + i)) × (summed (b + i) ≤ 16)
 unfolding right
-at [] b e i h = absurd (omega arith)
-at (d ∷ ds) b e zero h =
-    let p = both (eqb d (digitOr16 b)) (leb d 16 && right (suc b) ds) e in
+at zero b e i h = absurd (omega arith)
+at (suc k) b e zero h =
+    let p = both (eqb (summed b) (digitOr16 b)) (leb (summed b) 16 && right (suc b) k) e in
     let z : b ≡ b + 0 = omega arith in
-    (eqb-true d (digitOr16 b) (p .0) ∙ ap digitOr16 z, leb-true d 16 (both (leb d 16) (right (suc b) ds) (p .1) .0))
-at (d ∷ ds) b e (suc i) h =
-    let p = both (eqb d (digitOr16 b)) (leb d 16 && right (suc b) ds) e in
-    let q = at ds (suc b) (both (leb d 16) (right (suc b) ds) (p .1) .1) i (omega arith) in
+    let l = leb-true (summed b) 16 (both (leb (summed b) 16) (right (suc b) k) (p .1) .0) in
+    (sym (ap summed z) ∙ eqb-true (summed b) (digitOr16 b) (p .0) ∙ ap digitOr16 z, rw z at l)
+at (suc k) b e (suc i) h =
+    let p = both (eqb (summed b) (digitOr16 b)) (leb (summed b) 16 && right (suc b) k) e in
+    let q = at k (suc b) (both (leb (summed b) 16) (right (suc b) k) (p .1) .1) i (omega arith) in
     let z : suc b + i ≡ b + suc i = omega arith in
-    (q .0 ∙ ap digitOr16 z, q .1)
+    rw z at q
 
-pub table-digit : (b : ℕ) → 48 ≤ b → b ≤ 102 → (getD digits (b - 48) 0 ≡ digitOr16 b) × (getD digits (b - 48) 0 ≤ 16)
-unfolding digits right digitOr16
-table-digit b l h =
+summed-digit : (b : ℕ) → 48 ≤ b → b ≤ 102 → (summed b ≡ digitOr16 b) × (summed b ≤ 16)
+unfolding right summed digitOr16
+summed-digit b l h =
     let z : 48 + (b - 48) ≡ b = omega arith in
-    let r = at digits 48 refl (b - 48) (omega arith) in
-    (r .0 ∙ ap digitOr16 z, r .1)
+    let r = at 55 48 refl (b - 48) (omega arith) in
+    rw z at r
+
+module _ (b : ℕ) (l : 48 ≤ b) (h : b ≤ 102) where
+  pub digit-low : b % 32 < 16 - 15 * (b / 64) → (16 ≡ digitOr16 b) × (16 ≤ 16)
+  unfolding summed
+  digit-low p =
+      let e : summed b ≡ 16 = simp (lt-ltb (b % 32) (16 - 15 * (b / 64)) p) in (sym e ∙ summed-digit b l h .0, omega arith)
+
+  module _ (p : 16 - 15 * (b / 64) ≤ b % 32) where
+    pub digit-high : 25 - 19 * (b / 64) < b % 32 → (16 ≡ digitOr16 b) × (16 ≤ 16)
+    unfolding summed
+    digit-high q =
+        let e : summed b ≡ 16 = simp (le-ltb (b % 32) (16 - 15 * (b / 64)) p, lt-ltb (25 - 19 * (b / 64)) (b % 32) q) in
+        (sym e ∙ summed-digit b l h .0, omega arith)
+
+    pub digit-value : b % 32 ≤ 25 - 19 * (b / 64) → (b % 16 + 9 * (b / 64) ≡ digitOr16 b) × (b % 16 + 9 * (b / 64) ≤ 16)
+    unfolding summed
+    digit-value q =
+        let e : summed b ≡ b % 16 + 9 * (b / 64) =
+        simp (le-ltb (b % 32) (16 - 15 * (b / 64)) p, le-ltb (25 - 19 * (b / 64)) (b % 32) q) in
+        let r = summed-digit b l h in
+        (sym e ∙ r .0, rw e at (r .1))

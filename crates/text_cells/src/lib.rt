@@ -31,66 +31,8 @@ pub enum Divider {
     Nothing,
 }
 
-// The values of the bytes from `0` up to `f`; 16 for one that is no digit.
-const DIGITS: [u8; 55] = [
-    0,
-    1,
-    2,
-    3,
-    4,
-    5,
-    6,
-    7,
-    8,
-    9,
-    16,
-    16,
-    16,
-    16,
-    16,
-    16,
-    16,
-    10,
-    11,
-    12,
-    13,
-    14,
-    15,
-    16,
-    16,
-    16,
-    16,
-    16,
-    16,
-    16,
-    16,
-    16,
-    16,
-    16,
-    16,
-    16,
-    16,
-    16,
-    16,
-    16,
-    16,
-    16,
-    16,
-    16,
-    16,
-    16,
-    16,
-    16,
-    16,
-    10,
-    11,
-    12,
-    13,
-    14,
-    15,
-];
-
-// The value of a digit; 16 if it is none. By a table, since no branch foresees the digits of a word.
+// The value of a digit; 16 if it is none. By sums, since no branch foresees the digits of a word: from `0` up to `?` the digits end in 0 to 9
+// of 16, and past that the letters in 1 to 6 of 32, which is 9 less than their value.
 pub fn digit(b: u8) -> u64
     ensures { λ r. ⌜ (r ≡ digitOr16 b) × (r ≤ 16) ⌝ }
 {
@@ -100,9 +42,15 @@ pub fn digit(b: u8) -> u64
     if 102 < b {
         return 16;
     }
-    let i = (b - 48) as usize;
-    let d = DIGITS[i];
-    d as u64
+    let letter = b / 64;
+    let place = b % 32;
+    if place < 16 - 15 * letter {
+        return 16;
+    }
+    if 25 - 19 * letter < place {
+        return 16;
+    }
+    (b % 16 + 9 * letter) as u64
 }
 
 // Past a `+`.
