@@ -1,7 +1,7 @@
 // The text reader's lines: kept lines, the lines of a group, and the line that opens a group, in place on the input. Positions go by value.
 use trim::is_blank;
 ghost use mathlib.Core.Path.{_≡_};
-ghost use mathlib.Core.Bool.{true, not};
+ghost use mathlib.Core.Bool.{true, false, not};
 ghost use Prim.Native.Nat.{_+_, _-_, _≤_, _<_};
 ghost use lib.ListN.{length, take, drop};
 ghost use Rattle.format.specs.Basics.{eqs, isEmpty};
@@ -19,12 +19,44 @@ pub enum Line {
     Done,
 }
 
+// Whether an LF is among the 16 bytes from a place on. The loop has no exit in the middle, so that the bytes can be compared at once.
+fn has_lf(s: &[u8], at: usize) -> bool
+    requires { ⌜ at + 16 ≤ length (now s) ⌝ }
+    ensures { λ r. ⌜ (r ≡ false → 16 + lineLength (drop (at + 16) (now (s .entry))) ≡ lineLength (drop at (now (s .entry)))) ⌝ }
+{
+    let mut found = false;
+    let mut k = 0;
+    while k < 16 {
+        if s[at + k] == 0x0A {
+            found = true;
+        }
+        k += 1;
+    }
+    found
+}
+
+// Past the blocks of 16 bytes without an LF from a place on.
+fn line_blocks(s: &[u8], at: usize) -> usize
+    requires { ⌜ at ≤ length (now s) ⌝ }
+    ensures { λ r. ⌜ (at ≤ r) × (r ≤ length (now (s .entry)))
+        × (r + lineLength (drop r (now (s .entry))) ≡ at + lineLength (drop at (now (s .entry)))) ⌝ }
+{
+    let mut i = at;
+    while 16 <= s.len() - i {
+        if has_lf(s, i) {
+            return i;
+        }
+        i += 16;
+    }
+    i
+}
+
 // The place of the next LF, or the end.
 fn line_end(s: &[u8], at: usize) -> usize
     requires { ⌜ at ≤ length (now s) ⌝ }
     ensures { λ r. ⌜ (at ≤ r) × (r ≤ length (now (s .entry))) × (r ≡ at + lineLength (drop at (now (s .entry)))) ⌝ }
 {
-    let mut i = at;
+    let mut i = line_blocks(s, at);
     while i < s.len() {
         if s[i] == 0x0A {
             return i;

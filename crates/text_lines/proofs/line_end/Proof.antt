@@ -16,16 +16,16 @@ abbrev μ-loop : tie.MeasureT-loop
 μ-loop s at i₀ i = length s - i
 
 loop-holds : tie.Need-loop-holds Inv-loop μ-loop
-loop-holds c = (omega arith, c .pre, refl)
+loop-holds c = c .line-blocks .ensures
 
 returns : tie.Need-returns Inv-loop μ-loop
-returns c = (omega arith, omega arith, omega (arith, line-here (now (c .before .before .before .before .args .s)) (c .before .before .before .loop .i) (c .before .before .loop-test .taken) (c .if1 .taken)))
+returns c = (omega arith, omega arith, omega (arith, line-here (now (c .before .before .before .before .before .before .args .s)) (c .before .before .before .loop .i) (c .before .before .loop-test .taken) (c .if1 .taken)))
 
 loop-again : tie.Need-loop-again Inv-loop μ-loop
-loop-again c = (omega arith, omega arith, omega (arith, line-on (now (c .before .before .before .before .args .s)) (c .before .before .before .loop .i) (c .before .before .loop-test .taken) (c .if1 .left)))
+loop-again c = (omega arith, omega arith, omega (arith, line-on (now (c .before .before .before .before .before .before .args .s)) (c .before .before .before .loop .i) (c .before .before .loop-test .taken) (c .if1 .left)))
 
 returns-2 : tie.Need-returns-2 Inv-loop μ-loop
-returns-2 c = (omega arith, omega arith, omega (arith, line-stop (now (c .before .before .args .s)) (c .before .loop .i) (c .loop-test .left)))
+returns-2 c = (omega arith, omega arith, omega (arith, line-stop (now (c .before .before .before .before .args .s)) (c .before .loop .i) (c .loop-test .left)))
 
 pub line-end-spec : {M : Type 1} → statement M
-line-end-spec = tie.close (tie.spec Inv-loop μ-loop loop-holds (λ c. search needs) returns (λ c. search needs) (λ c. search needs) loop-again returns-2)
+line-end-spec = tie.close (tie.spec Inv-loop μ-loop (λ c κs. c .before .pre) loop-holds (λ c. search needs) returns (λ c. search needs) (λ c. search needs) loop-again returns-2)
