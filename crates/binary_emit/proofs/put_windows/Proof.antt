@@ -7,7 +7,7 @@ use native.Mathlib.Omega.{arith}
 use lib.ListN.{length, take}
 use denote.Ref.{now}
 use Rattle.writing.proofs.Parts.{Emits, after, begin, emit, emitted, within, same}
-use Rattle.gather.specs.Order.{left}
+use Rattle.sorting.specs.Left.{left}
 use Rattle.binary_words.specs.RecordAt.{wordsAt, partWords}
 use Rattle.binary_words.proofs.LengthLaws.{handed-size, handed-long, handed-joined, handed-none, handed-less}
 use Rattle.record_words.proofs.RecordLaws.{room-for, windows-next, windows-over}
