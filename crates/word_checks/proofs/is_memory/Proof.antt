@@ -1,7 +1,7 @@
 use mathlib.Core.Path.{sym}
 use Rattle.object.proofs.WordLaws.{memory-none, memory-other}
-use Rattle.well_formed.proofs.is_memory.Statement.{statement}
-use Rattle.well_formed.proofs.is_memory.Tie as tie
+use Rattle.word_checks.proofs.is_memory.Statement.{statement}
+use Rattle.word_checks.proofs.is_memory.Tie as tie
 
 returns : tie.Need-returns
 returns c = sym (memory-none _ (c .if1 .taken))

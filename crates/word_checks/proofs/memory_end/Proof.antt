@@ -11,8 +11,8 @@ use Rattle.format.specs.Words.{memoriesOf}
 use Rattle.object.specs.Bodies.{bodyAt, goodMemory}
 use Rattle.object.proofs.BodyLaws.{goes, stops}
 use Rattle.object.proofs.WordLaws.{memory-cons}
-use Rattle.well_formed.proofs.memory_end.Statement.{statement}
-use Rattle.well_formed.proofs.memory_end.Tie as tie
+use Rattle.word_checks.proofs.memory_end.Statement.{statement}
+use Rattle.word_checks.proofs.memory_end.Tie as tie
 
 abbrev Inv-loop : tie.InvT-loop
 Inv-loop ws at i₀ i = (i + length (bodyAt ws i) ≡ at + length (bodyAt ws at)) × (goodMemory (bodyAt ws i) ≡ goodMemory (bodyAt ws at))

@@ -8,8 +8,8 @@ use denote.Ref.{now}
 use Rattle.object.specs.Bodies.{bodyAt, goodAddresses}
 use Rattle.object.proofs.BodyLaws.{goes, stops}
 use Rattle.object.proofs.WordLaws.{addressesOn, addresses-start, addresses-end, address-kind, address-falls, address-next}
-use Rattle.well_formed.proofs.addresses_end.Statement.{statement}
-use Rattle.well_formed.proofs.addresses_end.Tie as tie
+use Rattle.word_checks.proofs.addresses_end.Statement.{statement}
+use Rattle.word_checks.proofs.addresses_end.Tie as tie
 
 abbrev Inv-loop : tie.InvT-loop
 Inv-loop ws at last₀ i₀ last i =

@@ -9,10 +9,10 @@ use lib.ListN.{length, getD}
 use denote.Ref.{now}
 use Rattle.object.specs.Bodies.{bodyAt, goodText}
 use Rattle.object.proofs.BodyLaws.{body-goes}
-use Rattle.well_formed.specs.Steps.{AsciiWord}
-use Rattle.well_formed.proofs.AsciiLaws.{ascii-text, ascii-goes}
-use Rattle.well_formed.proofs.ascii_end.Statement.{statement}
-use Rattle.well_formed.proofs.ascii_end.Tie as tie
+use Rattle.word_checks.specs.Walks.{AsciiWord}
+use Rattle.word_checks.proofs.AsciiLaws.{ascii-text, ascii-goes}
+use Rattle.word_checks.proofs.ascii_end.Statement.{statement}
+use Rattle.word_checks.proofs.ascii_end.Tie as tie
 
 abbrev Inv-loop : tie.InvT-loop
 Inv-loop ws at i₀ i = (i + length (bodyAt ws i) ≡ at + length (bodyAt ws at)) × (goodText (bodyAt ws i) ≡ goodText (bodyAt ws at))

@@ -1,7 +1,7 @@
 use native.Mathlib.Omega.{arith}
 use Rattle.object.proofs.TextLaws.{part-1, part-2, part-3, part-long, part-other}
-use Rattle.well_formed.proofs.text_count.Statement.{statement}
-use Rattle.well_formed.proofs.text_count.Tie as tie
+use Rattle.word_checks.proofs.text_count.Statement.{statement}
+use Rattle.word_checks.proofs.text_count.Tie as tie
 
 returns : tie.Need-returns
 returns c = (omega arith, part-3 _ (c .if1 .taken))

@@ -15,8 +15,8 @@ use Rattle.utf8.specs.declared.Utf8.{Utf8}
 use Rattle.object.specs.Bodies.{bodyAt, goodText, counted}
 use Rattle.object.proofs.BodyLaws.{goes, stops}
 use Rattle.object.proofs.TextLaws.{textOn, text-start, text-end, text-short, text-bad, text-next}
-use Rattle.well_formed.proofs.text_end.Statement.{statement}
-use Rattle.well_formed.proofs.text_end.Tie as tie
+use Rattle.word_checks.proofs.text_end.Statement.{statement}
+use Rattle.word_checks.proofs.text_end.Tie as tie
 
 abbrev Inv-loop : tie.InvT-loop
 Inv-loop ws at u₀ full₀ i₀ u full i = (i + length (bodyAt ws i) ≡ at + length (bodyAt ws at))

@@ -10,7 +10,7 @@ use Rattle.utf8.specs.declared.Utf8.{Utf8}
 use Rattle.utf8.specs.Utf8.{step, firstByte, run, whole}
 use Rattle.object.specs.Bodies.{goodText}
 use Rattle.object.proofs.TextLaws.{textOn, text-start, text-next, part-3, run-3}
-use Rattle.well_formed.specs.Steps.{AsciiWord}
+use Rattle.word_checks.specs.Walks.{AsciiWord}
 
 -- an ASCII byte leaves a whole state whole
 ascii-step : (b : ℕ) → b < 0x80 → step whole b ≡ whole

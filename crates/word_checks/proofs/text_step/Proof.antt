@@ -5,8 +5,8 @@ use Prim.Native.Nat.{_%_, _/_}
 use Rattle.format.specs.Digits.{digitsOf}
 use Rattle.utf8.specs.Utf8.{step, run}
 use Rattle.object.proofs.TextLaws.{run-1, run-2, run-3}
-use Rattle.well_formed.proofs.text_step.Statement.{statement}
-use Rattle.well_formed.proofs.text_step.Tie as tie
+use Rattle.word_checks.proofs.text_step.Statement.{statement}
+use Rattle.word_checks.proofs.text_step.Tie as tie
 
 returns : tie.Need-returns
 returns c =
