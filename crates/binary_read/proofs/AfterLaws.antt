@@ -25,7 +25,7 @@ use Rattle.binary_scan.proofs.ScanLaws.{unknown-record}
 use Rattle.binary_words.specs.RecordAt.{blockAt, labelAt, lineBlockAt, relocationAt, inOrder, sourceOf, objectAt, wordsAt, partWords}
 use Rattle.binary_words.proofs.PlacesRead.{gathered-object}
 use Rattle.binary_read.specs.AfterHeader.{afterHeader, answerOf}
-use Rattle.binary_read.specs.Emission.{sourceWords, keepsRelocations, objectWords}
+use Rattle.binary_sizes.specs.ObjectWords.{sourceWords, keepsRelocations, objectWords}
 
 -- A REFUSAL HAS A NUMBER
 abbrev pub Numbered : {A : Type 0} → Outcome A → Type 0

@@ -1,4 +1,1 @@
-pub mod BoundLaws
 pub mod AfterLaws
-pub mod RecordLaws
-pub mod ChunkLaws

@@ -1,2 +1,1 @@
 pub mod AfterHeader
-pub mod Emission

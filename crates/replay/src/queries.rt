@@ -1,10 +1,10 @@
 // The queries' answers, and `check`'s: a letter for each call.
 use crate::line;
-use source_info::AddressOf;
+use line_spans::LineSpan;
+use line_tables::AddressOf;
+use line_tables::LineOf;
+use positions::PosPair;
 use source_info::LineCount;
-use source_info::LineOf;
-use source_info::LineSpan;
-use source_info::PosPair;
 use units::Address;
 use units::ByteIndex;
 use units::Line;
@@ -70,11 +70,11 @@ fn answer(object: &[u32], call: u8, arg: u64) -> Reply {
             second: 0,
         },
         b'c' => of_count(source_info::count_lines(object)),
-        b'r' => of_span(source_info::raw_line_span(object, Line(arg))),
-        b's' => of_span(source_info::line_span(object, Line(arg))),
-        b'p' => of_pair(source_info::get_pos_pair(object, ByteIndex(arg))),
-        b'g' => of_address(source_info::get(object, Line(arg))),
-        b'f' => of_line(source_info::find(object, Address((arg % 65536) as u16))),
+        b'r' => of_span(line_spans::raw_line_span(object, Line(arg))),
+        b's' => of_span(line_spans::line_span(object, Line(arg))),
+        b'p' => of_pair(positions::get_pos_pair(object, ByteIndex(arg))),
+        b'g' => of_address(line_tables::get(object, Line(arg))),
+        b'f' => of_line(line_tables::find(object, Address((arg % 65536) as u16))),
         _ => Reply {
             number: 255,
             first: 0,

@@ -79,7 +79,7 @@ pub extern "C" fn runs_count_lines(object: &[u32]) -> Value
 pub extern "C" fn runs_raw_line_span(object: &[u32], line: u64) -> Span
     ensures { λ r. ⌜ spanOf r ≡ queryRawLineSpan (now (object .entry)) line ⌝ }
 {
-    let r = source_info::raw_line_span(object, Line(line));
+    let r = line_spans::raw_line_span(object, Line(line));
     let start = r.start;
     let end = r.end;
     Span {
@@ -94,7 +94,7 @@ pub extern "C" fn runs_raw_line_span(object: &[u32], line: u64) -> Span
 pub extern "C" fn runs_line_span(object: &[u32], line: u64) -> Span
     ensures { λ r. ⌜ spanOf r ≡ queryLineSpan (now (object .entry)) line ⌝ }
 {
-    let r = source_info::line_span(object, Line(line));
+    let r = line_spans::line_span(object, Line(line));
     let start = r.start;
     let end = r.end;
     Span {
@@ -109,7 +109,7 @@ pub extern "C" fn runs_line_span(object: &[u32], line: u64) -> Span
 pub extern "C" fn runs_get_pos_pair(object: &[u32], index: u64) -> Position
     ensures { λ r. ⌜ positionOf r ≡ queryPosPair (now (object .entry)) index ⌝ }
 {
-    let r = source_info::get_pos_pair(object, ByteIndex(index));
+    let r = positions::get_pos_pair(object, ByteIndex(index));
     let line = r.line;
     Position {
         number: r.number,
@@ -123,7 +123,7 @@ pub extern "C" fn runs_get_pos_pair(object: &[u32], index: u64) -> Position
 pub extern "C" fn runs_get(object: &[u32], line: u64) -> Value
     ensures { λ r. ⌜ valueOf r ≡ queryGet (now (object .entry)) line ⌝ }
 {
-    let r = source_info::get(object, Line(line));
+    let r = line_tables::get(object, Line(line));
     let address = r.address;
     Value {
         number: r.number,
@@ -136,7 +136,7 @@ pub extern "C" fn runs_get(object: &[u32], line: u64) -> Value
 pub extern "C" fn runs_find(object: &[u32], address: u16) -> Value
     ensures { λ r. ⌜ valueOf r ≡ queryFind (now (object .entry)) address ⌝ }
 {
-    let r = source_info::find(object, Address(address));
+    let r = line_tables::find(object, Address(address));
     let line = r.line;
     Value {
         number: r.number,

@@ -1,5 +1,3 @@
 pub mod LineLaws
 pub mod RecordLaws
 pub mod SourceLaws
-pub mod TableLaws
-pub mod TrimLaws

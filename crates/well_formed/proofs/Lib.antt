@@ -3,4 +3,3 @@ pub mod KeyLaws
 pub mod StepLaws
 pub mod KindLaws
 pub mod WalkLaws
-pub mod AsciiLaws

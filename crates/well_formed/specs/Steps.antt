@@ -2,7 +2,7 @@
 use mathlib.Core.Path.{_≡_}
 use mathlib.Core.Bool.{Bool, true, false, cond}
 use mathlib.Core.List.{List, [], _∷_}
-use Prim.Native.Nat.{ℕ, _+_, _-_, _/_, _%_, _^_, _<_}
+use Prim.Native.Nat.{ℕ, _+_, _-_, _/_, _^_, _<_}
 use lib.ListN.{length, getD}
 use lib.Dec.{eqb}
 use Rattle.format.specs.Basics.{given}
@@ -15,8 +15,6 @@ use Rattle.well_formed.specs.declared.Key.{Key}
 use Rattle.well_formed.specs.declared.Seen.{Seen}
 use Rattle.well_formed.specs.declared.Step.{Step}
 use Rattle.well_formed.specs.declared.Step.the-variants as step
-use Rattle.well_formed.specs.declared.Body.{Body}
-use Rattle.well_formed.specs.declared.Body.the-variants as body
 
 abbrev pub tailIn : List ℕ → Key → List ℕ
 tailIn ws k = cond (eqb (k .part) 2) (textAt ws (k .name)) (cond (eqb (k .part) 4) [] (k .value ∷ []))
@@ -49,12 +47,3 @@ pub record Advanced (ws : List ℕ) (at : ℕ) (s : Seen) (n : ℕ) (t : Seen) :
 abbrev pub Stepped : List ℕ → ℕ → Seen → Step → Type 0
 Stepped ws at s (step.Next n t) = Advanced ws at s n t
 Stepped ws at s step.Bad = allows (recordFrom (groupAt ws at)) (fits (pastIn ws s)) ≡ false
-
--- where the words of a record end that are as they should be
-abbrev pub Walked : (List ℕ → Bool) → List ℕ → ℕ → Body → Type 0
-Walked good ws at (body.Ends n) = (good (bodyAt ws at) ≡ true) × (n ≡ at + length (bodyAt ws at))
-Walked good ws at body.Bad = good (bodyAt ws at) ≡ false
-
--- a word that carries three bytes of text, all ASCII
-abbrev pub AsciiWord : ℕ → Type 0
-AsciiWord w = (w / 0x100_0000 ≡ 0xE3) × (w % 256 < 0x80) × (w / 256 % 256 < 0x80) × (w / 65536 % 256 < 0x80)

@@ -3,7 +3,7 @@ use borrow.Author.Needs.{needs}
 use mathlib.Core.Path.{sym, ap, _∙_}
 use denote.Ref.{now}
 use Rattle.format.specs.Calls.{measured}
-use Rattle.binary_read.specs.Emission.{objectWords}
+use Rattle.binary_sizes.specs.ObjectWords.{objectWords}
 use Rattle.binary_read.proofs.AfterLaws.{answer-refused, answer-given}
 use Rattle.binary_read.proofs.records_length.Statement.{statement}
 use Rattle.binary_read.proofs.records_length.Tie as tie

@@ -4,7 +4,7 @@ use borrow.Author.Tests.{not-true, not-false}
 use mathlib.Core.Path.{refl, sym, _∙_}
 use native.Mathlib.Omega.{arith}
 use denote.Ref.{now}
-use Rattle.binary_read.specs.Emission.{objectWords}
+use Rattle.binary_sizes.specs.ObjectWords.{objectWords}
 use Rattle.binary_read.proofs.AfterLaws.{after-refused, after-apart, after-given, answer-refused, answer-given}
 use Rattle.binary_read.proofs.refusal.Statement.{statement}
 use Rattle.binary_read.proofs.refusal.Tie as tie

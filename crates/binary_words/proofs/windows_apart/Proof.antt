@@ -9,7 +9,7 @@ use denote.Ref.{now}
 use borrow.Author.Needs.{needs}
 use borrow.Author.Tests.{not-true, not-false}
 use Rattle.format.specs.ObjectFile.{apart}
-use Rattle.gather.specs.Order.{left}
+use Rattle.sorting.specs.Left.{left}
 use Rattle.binary_words.specs.RecordAt.{objectAt}
 use Rattle.binary_words.specs.Apart.{placeOf, apartFrom}
 use Rattle.binary_words.proofs.LengthLaws.{handed-size, handed-long, handed-joined, handed-none, handed-less}
@@ -19,8 +19,8 @@ use Rattle.binary_words.proofs.windows_apart.Tie as tie
 use Rattle.binary_words.proofs.windows_apart.Reads as reads
 use Rattle.binary_words.proofs.windows_apart.Lts as lts
 use Rattle.binary_words.proofs.window_apart.Reads as window-apart-reads
-use Rattle.gather.proofs.Sorting.new.Reads as new-reads
-use Rattle.gather.proofs.Sorting.next_window.Reads as next-window-reads
+use Rattle.sorting.proofs.Sorting.new.Reads as new-reads
+use Rattle.sorting.proofs.Sorting.next_window.Reads as next-window-reads
 
 abbrev Inv-loop : tie.InvT-loop
 Inv-loop s win₀ last₀ sorting₀ win last sorting = (length win ≡ length win₀) × (apartFrom s (placeOf last) (left s sorting) ≡ apart (objectAt s .lineBlocks))

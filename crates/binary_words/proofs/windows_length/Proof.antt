@@ -7,7 +7,7 @@ use native.Mathlib.Omega.{arith}
 use lib.ListN.{length, take, drop, getD, set}
 use denote.Ref.{now}
 use borrow.Author.Needs.{needs}
-use Rattle.gather.specs.Order.{left}
+use Rattle.sorting.specs.Left.{left}
 use Rattle.binary_words.specs.RecordAt.{partWords}
 use Rattle.binary_words.proofs.LengthLaws.{total, part-few, handed-size, handed-long, handed-total, handed-last, handed-less}
 use Rattle.binary_words.proofs.windows_length.Statement.{statement}
@@ -15,8 +15,8 @@ use Rattle.binary_words.proofs.windows_length.Tie as tie
 use Rattle.binary_words.proofs.windows_length.Reads as reads
 use Rattle.binary_words.proofs.windows_length.Lts as lts
 use Rattle.binary_words.proofs.window_length.Reads as window-length-reads
-use Rattle.gather.proofs.Sorting.new.Reads as new-reads
-use Rattle.gather.proofs.Sorting.next_window.Reads as next-window-reads
+use Rattle.sorting.proofs.Sorting.new.Reads as new-reads
+use Rattle.sorting.proofs.Sorting.next_window.Reads as next-window-reads
 
 abbrev Inv-loop : tie.InvT-loop
 Inv-loop s kind win₀ sum₀ sorting₀ win sum sorting = (length win ≡ length win₀) × (sum + total kind s (left s sorting) ≡ length (partWords kind s))

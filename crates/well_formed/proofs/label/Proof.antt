@@ -4,10 +4,10 @@ use native.Mathlib.Omega.{arith}
 use mathlib.Core.Path.{sym, subst, _∙_}
 use Prim.Native.Nat.{_+_}
 use denote.Ref.{now}
-use Rattle.well_formed.specs.Steps.{Walked}
+use Rattle.word_checks.specs.Walks.{Walked}
 use Rattle.object.specs.Bodies.{goodText, Numbered}
 use Rattle.object.specs.declared.Number.the-variants as number
-use Rattle.well_formed.specs.declared.Body.the-variants as body
+use Rattle.word_checks.specs.declared.Body.the-variants as body
 use Rattle.well_formed.proofs.KindLaws.{label-1, label-2, label-3, label-4, label-known, label-next}
 use Rattle.well_formed.proofs.label.Statement.{statement}
 use Rattle.well_formed.proofs.label.Tie as tie

@@ -4,10 +4,10 @@ use native.Mathlib.Omega.{arith}
 use mathlib.Core.Path.{refl, sym, subst, _∙_}
 use Prim.Native.Nat.{_+_, _-_}
 use denote.Ref.{now}
-use Rattle.well_formed.specs.Steps.{Walked}
+use Rattle.word_checks.specs.Walks.{Walked}
 use Rattle.object.specs.Bodies.{goodAddresses, Numbered}
 use Rattle.object.specs.declared.Number.the-variants as number
-use Rattle.well_formed.specs.declared.Body.the-variants as body
+use Rattle.word_checks.specs.declared.Body.the-variants as body
 use Rattle.well_formed.proofs.KindLaws.{line-1, line-2, line-3, line-4, line-5, line-next}
 use Rattle.well_formed.proofs.line_block.Statement.{statement}
 use Rattle.well_formed.proofs.line_block.Tie as tie

@@ -4,9 +4,9 @@ use native.Mathlib.Omega.{arith}
 use mathlib.Core.Path.{sym, subst, _∙_}
 use Prim.Native.Nat.{_+_}
 use denote.Ref.{now}
-use Rattle.well_formed.specs.Steps.{Walked}
+use Rattle.word_checks.specs.Walks.{Walked}
 use Rattle.object.specs.Bodies.{goodText}
-use Rattle.well_formed.specs.declared.Body.the-variants as body
+use Rattle.word_checks.specs.declared.Body.the-variants as body
 use Rattle.well_formed.proofs.KindLaws.{relocation-1, relocation-2, relocation-3, relocation-next}
 use Rattle.well_formed.proofs.relocation.Statement.{statement}
 use Rattle.well_formed.proofs.relocation.Tie as tie
