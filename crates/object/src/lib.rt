@@ -1,12 +1,12 @@
 // An object is a slice of 32-bit words (document 01, "The holding"): access to its records, numbers and texts by their places.
 ghost use mathlib.Core.Path.{_≡_};
-ghost use mathlib.Core.Bool.{true, not};
-ghost use Prim.Native.Nat.{_+_, _/_, _^_, _<_};
+ghost use mathlib.Core.Bool.{true, false, not};
+ghost use Prim.Native.Nat.{_+_, _/_, _^_, _≤_, _<_};
 ghost use lib.ListN.{length};
 ghost use Rattle.format.specs.Basics.{isEmpty};
 ghost use Rattle.format.specs.Words.{isHead};
 ghost use Rattle.writing.specs.Written.{Put};
-ghost use Rattle.object.specs.Bodies.{bodyAt, numberAt, Numbered};
+ghost use Rattle.object.specs.Bodies.{bodyAt, numberAt, Numbered, SameEnd};
 ghost use Rattle.object.specs.Texts.{textLen, textByte, textBytes};
 
 // A number of three words.
@@ -53,13 +53,67 @@ pub fn goes_on(ws: &[u32], at: usize) -> bool
     true
 }
 
-// Where the record ends whose words go on at a place.
+// Where the record ends whose words go on at a place, word by word.
+fn near_end(ws: &[u32], at: usize) -> usize
+    ensures { λ r. ⌜ r ≡ at + length (bodyAt (now (ws .entry)) at) ⌝ }
+{
+    let mut i = at;
+    while goes_on(ws, i) {
+        i += 1;
+    }
+    i
+}
+
+// 1 for a word that begins a record.
+fn count_head(w: u32) -> u32
+    ensures { λ r. ⌜ (r ≤ 1) × (r ≡ 0 → isHead w ≡ false) ⌝ }
+{
+    if is_head(w) {
+        return 1;
+    }
+    0
+}
+
+// Whether the 16 words from a place on all go on. Heads are counted, so that the loop has no exit in the middle.
+fn is_body_block(ws: &[u32], at: usize) -> bool
+    requires { ⌜ at + 16 ≤ length (now ws) ⌝ }
+    ensures { λ r. ⌜ (r ≡ true → SameEnd (now (ws .entry)) at (at + 16)) ⌝ }
+{
+    let mut heads: u32 = 0;
+    let mut k = 0;
+    while k < 16 {
+        heads += count_head(ws[at + k]);
+        k += 1;
+    }
+    heads == 0
+}
+
+// A place up to which the words go on: past the whole blocks.
+fn past_blocks(ws: &[u32], at: usize) -> usize
+    requires { ⌜ at ≤ length (now ws) ⌝ }
+    ensures { λ r. ⌜ SameEnd (now (ws .entry)) at r ⌝ }
+{
+    let mut i = at;
+    while 16 <= ws.len() - i {
+        if is_body_block(ws, i) {
+            i += 16;
+        } else {
+            return i;
+        }
+    }
+    i
+}
+
+// Where the record ends whose words go on at a place: most end within a few words, a source is long.
 pub fn body_end(ws: &[u32], at: usize) -> usize
     ensures { λ r. ⌜ r ≡ at + length (bodyAt (now (ws .entry)) at) ⌝ }
 {
     let mut i = at;
     while goes_on(ws, i) {
         i += 1;
+        if i - at == 8 {
+            return near_end(ws, past_blocks(ws, i));
+        }
     }
     i
 }
