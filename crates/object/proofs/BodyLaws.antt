@@ -12,7 +12,7 @@ use borrow.Author.Tests.{ltb-true, ltb-false}
 use Rattle.format.specs.Basics.{isEmpty}
 use Rattle.format.specs.Tokens.{Parts, partsAt, headOf, bodyOf}
 use Rattle.format.specs.Words.{isHead}
-use Rattle.object.specs.Bodies.{bodyAt, groupsAt}
+use Rattle.object.specs.Bodies.{bodyAt, groupsAt, SameEnd}
 use Rattle.format.proofs.ListLaws.{by-test}
 use Rattle.object.proofs.Tests.{clash}
 
@@ -108,3 +108,17 @@ module _ (ws : List ℕ) (i : ℕ) where
 pub head-at : (ws : List ℕ) (i : ℕ) → i < length ws → bodyAt ws i ≡ [] → isHead (getD ws i 0) ≡ true
 head-at ws i h e = by-test (isHead (getD ws i 0)) (λ t. t) (λ t. let p = body-goes ws i h t in let z : _≡_ {A = ℕ} 0 1 = cc in absurd
     (omega arith))
+
+pub same-start : (ws : List ℕ) (at : ℕ) → SameEnd ws at (at + 0)
+same-start ws at = let q : at ≡ at + 0 = omega arith in ap (λ n. n + length (bodyAt ws n)) q
+
+-- a word more that goes on
+pub same-more :
+    (ws : List ℕ) (at k : ℕ)
+    → SameEnd ws at (at + k)
+    → at + k < length ws
+    → isHead (getD ws (at + k) 0) ≡ false
+    → SameEnd ws at (at + (k + 1))
+same-more ws at k s h e =
+    let q : at + k + 1 ≡ at + (k + 1) = omega arith in
+    omega (arith, s, ap length (body-goes ws (at + k) h e), ap (λ n. length (bodyAt ws n)) q)

@@ -6,5 +6,6 @@ pub mod TextLaws
 pub mod NumberLaws
 pub mod OrderLaws
 pub mod ByteLaws
+pub mod SpanLaws
 pub mod Formed
 pub mod AccessLaws

@@ -27,6 +27,10 @@ bodyAt ws at = partsAt isHead (drop at ws) .before
 unfoldable pub groupsAt : List ℕ → ℕ → List (ℕ × List ℕ)
 groupsAt ws at = partsAt isHead (drop at ws) .groups
 
+-- the words that go on at either place end at the same one
+abbrev pub SameEnd : List ℕ → ℕ → ℕ → Type 0
+SameEnd ws at next = at + length (bodyAt ws at) ≡ next + length (bodyAt ws next)
+
 -- the text at a place
 abbrev pub textAt : List ℕ → ℕ → List ℕ
 textAt ws at = givenOr (textFrom (bodyAt ws at)) []

@@ -1,13 +1,13 @@
 // An object is a slice of 32-bit words (document 01, "The holding"): access to its records, numbers and texts by their places.
 ghost use mathlib.Core.Path.{_≡_};
-ghost use mathlib.Core.Bool.{true, not};
-ghost use Prim.Native.Nat.{_+_, _/_, _^_, _<_};
+ghost use mathlib.Core.Bool.{true, false, not};
+ghost use Prim.Native.Nat.{_+_, _-_, _*_, _/_, _^_, _≤_, _<_};
 ghost use lib.ListN.{length};
 ghost use Rattle.format.specs.Basics.{isEmpty};
 ghost use Rattle.format.specs.Words.{isHead};
 ghost use Rattle.writing.specs.Written.{Put};
-ghost use Rattle.object.specs.Bodies.{bodyAt, numberAt, Numbered};
-ghost use Rattle.object.specs.Texts.{textLen, textByte, textBytes};
+ghost use Rattle.object.specs.Bodies.{bodyAt, numberAt, Numbered, SameEnd};
+ghost use Rattle.object.specs.Texts.{textLen, textByte, textBytes, spanBytes, wholeWords};
 
 // A number of three words.
 pub enum Number {
@@ -53,13 +53,67 @@ pub fn goes_on(ws: &[u32], at: usize) -> bool
     true
 }
 
-// Where the record ends whose words go on at a place.
+// Where the record ends whose words go on at a place, word by word.
+fn near_end(ws: &[u32], at: usize) -> usize
+    ensures { λ r. ⌜ r ≡ at + length (bodyAt (now (ws .entry)) at) ⌝ }
+{
+    let mut i = at;
+    while goes_on(ws, i) {
+        i += 1;
+    }
+    i
+}
+
+// 1 for a word that begins a record.
+fn count_head(w: u32) -> u32
+    ensures { λ r. ⌜ (r ≤ 1) × (r ≡ 0 → isHead w ≡ false) ⌝ }
+{
+    if is_head(w) {
+        return 1;
+    }
+    0
+}
+
+// Whether the 16 words from a place on all go on. Heads are counted, so that the loop has no exit in the middle.
+fn is_body_block(ws: &[u32], at: usize) -> bool
+    requires { ⌜ at + 16 ≤ length (now ws) ⌝ }
+    ensures { λ r. ⌜ (r ≡ true → SameEnd (now (ws .entry)) at (at + 16)) ⌝ }
+{
+    let mut heads: u32 = 0;
+    let mut k = 0;
+    while k < 16 {
+        heads += count_head(ws[at + k]);
+        k += 1;
+    }
+    heads == 0
+}
+
+// A place up to which the words go on: past the whole blocks.
+fn past_blocks(ws: &[u32], at: usize) -> usize
+    requires { ⌜ at ≤ length (now ws) ⌝ }
+    ensures { λ r. ⌜ SameEnd (now (ws .entry)) at r ⌝ }
+{
+    let mut i = at;
+    while 16 <= ws.len() - i {
+        if is_body_block(ws, i) {
+            i += 16;
+        } else {
+            return i;
+        }
+    }
+    i
+}
+
+// Where the record ends whose words go on at a place: most end within a few words, a source is long.
 pub fn body_end(ws: &[u32], at: usize) -> usize
     ensures { λ r. ⌜ r ≡ at + length (bodyAt (now (ws .entry)) at) ⌝ }
 {
     let mut i = at;
     while goes_on(ws, i) {
         i += 1;
+        if i - at == 8 {
+            return near_end(ws, past_blocks(ws, i));
+        }
     }
     i
 }
@@ -144,17 +198,81 @@ pub fn text_byte(ws: &[u32], at: usize, i: usize) -> u8
     (w / 65536 % 256) as u8
 }
 
+// How many whole words the first `n` bytes have of the text words from a place on.
+pub fn whole_words(ws: &[u32], at: usize, n: usize) -> usize
+    ensures { λ r. ⌜ r ≡ wholeWords (now (ws .entry)) at n ⌝ }
+{
+    let wanted = n / 3;
+    if ws.len() <= at {
+        return 0;
+    }
+    let here = ws.len() - at;
+    if here < wanted {
+        return here;
+    }
+    wanted
+}
+
+// The bytes from `start` up to `end` of the text words from a place on, one by one, into a room that suffices.
+fn put_each(out: &mut [u8], ws: &[u32], at: usize, start: usize, end: usize) -> usize
+    requires { ⌜ end - start ≤ length (now out) ⌝ }
+    ensures { λ r. ⌜ Put (spanBytes (now (ws .entry)) at start end) (now (out .entry)) r (now (out .exit)) ⌝ }
+{
+    let mut n = 0;
+    let mut i = start;
+    while i < end {
+        out[n] = text_byte(ws, at, i);
+        n += 1;
+        i += 1;
+    }
+    n
+}
+
+// The bytes of the words from the `first` up to the `last`, into a room that suffices.
+fn put_words(out: &mut [u8], ws: &[u32], at: usize, first: usize, last: usize) -> usize
+    requires { ⌜ (at + last ≤ length (now ws)) × (3 * last - 3 * first ≤ length (now out)) ⌝ }
+    ensures { λ r. ⌜ Put (spanBytes (now (ws .entry)) at (3 * first) (3 * last)) (now (out .entry)) r (now (out .exit)) ⌝ }
+{
+    let mut n = 0;
+    let mut k = first;
+    while k < last {
+        let w = ws[at + k];
+        out[n] = (w % 256) as u8;
+        n += 1;
+        out[n] = (w / 256 % 256) as u8;
+        n += 1;
+        out[n] = (w / 65536 % 256) as u8;
+        n += 1;
+        k += 1;
+    }
+    n
+}
+
+// The bytes from `start` up to `end` of the text words from a place on, into the room lent: whole words where they are.
+pub fn put_span(out: &mut [u8], ws: &[u32], at: usize, start: usize, end: usize) -> usize
+    ensures { λ r. ⌜ Put (spanBytes (now (ws .entry)) at start end) (now (out .entry)) r (now (out .exit)) ⌝ }
+{
+    if end <= start {
+        return 0;
+    }
+    if out.len() < end - start {
+        return 0;
+    }
+    let first = start / 3 + (start % 3 + 2) / 3;
+    let last = whole_words(ws, at, end);
+    if last <= first {
+        return put_each(out, ws, at, start, end);
+    }
+    let mut n = 0;
+    n += put_each(&mut out[n..], ws, at, start, 3 * first);
+    n += put_words(&mut out[n..], ws, at, first, last);
+    n += put_each(&mut out[n..], ws, at, 3 * last, end);
+    n
+}
+
 // The first `n` bytes of the text words from a place on, into the room lent.
 pub fn put_text(out: &mut [u8], ws: &[u32], at: usize, n: usize) -> usize
     ensures { λ r. ⌜ Put (textBytes (now (ws .entry)) at n) (now (out .entry)) r (now (out .exit)) ⌝ }
 {
-    if out.len() < n {
-        return 0;
-    }
-    let mut i = 0;
-    while i < n {
-        out[i] = text_byte(ws, at, i);
-        i += 1;
-    }
-    i
+    put_span(out, ws, at, 0, n)
 }
