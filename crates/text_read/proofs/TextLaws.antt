@@ -2,7 +2,7 @@
 use mathlib.Core.Path.{_≡_, refl, sym, ap, ap₂, _∙_, subst}
 use mathlib.Core.Bool.{true}
 use mathlib.Core.List.{List, [], _∷_, _++_, flatMap}
-use Prim.Native.Nat.{ℕ, suc, _+_, _*_, _≤_, _<_}
+use Prim.Native.Nat.{ℕ, suc, _+_, _-_, _*_, _≤_, _<_}
 use native.Mathlib.Omega.{arith}
 use lib.ListN.{length, take, drop, getD, set, length-append, drop-of-length-le}
 use lib.Seq.{take-at}
@@ -90,6 +90,22 @@ module _ (h : Held) (b : ℕ) (s : b < 256) (out : List ℕ) where
     push-third whole room more x =
         record { held = []; is = (refl, refl); emits = emit-one (x .emits) _ _ (third whole room more x) }
 
+-- three bytes at once, where none are held over
+module _ (h : Held) (a b c : ℕ) (e : h .count ≡ 0) (out : List ℕ) where
+  three : (whole room more : List ℕ) (x : Texting whole room (a ∷ b ∷ c ∷ more) out h)
+      → textWords (x .held ++ a ∷ b ∷ c ∷ more) ≡ (0xE300_0000 + a + 256 * b + 65536 * c) ∷ textWords more
+  unfolding textWords valueOf
+  three whole room more x =
+      let w : word 7 (valueOf 8 (a ∷ b ∷ c ∷ 3 ∷ [])) ≡ 0xE300_0000 + a + 256 * b + 65536 * c = omega arith in
+      ap (λ (hs : List ℕ). textWords (hs ++ a ∷ b ∷ c ∷ more)) (none-held h (x .held) (x .is) e) ∙ ap (λ (k : ℕ). k ∷ textWords more) w
+
+  pub three-room : Ready (a ∷ b ∷ c ∷ []) h out → h .at < length out
+  three-room r = room-one (r .state .emits) _ _ (three (r .whole) (r .room) (r .more) (r .state))
+
+  pub push-three : Pushes (a ∷ b ∷ c ∷ []) h out (record { at = h .at + 1; count = 0; value = 0 })
+      (set out (h .at) (0xE300_0000 + a + 256 * b + 65536 * c))
+  push-three whole room more x = record { held = []; is = (refl, refl); emits = emit-one (x .emits) _ _ (three whole room more x) }
+
 -- THE END
 some-left : (bs : List ℕ) (k : ℕ) → length bs ≡ suc k → (more : List ℕ) → 0 < length (textWords (bs ++ more))
 unfolding textWords
@@ -150,32 +166,68 @@ pushing-begin s start room r = record { inside = omega arith; long = refl; ready
 next-byte : (s : List ℕ) (i : ℕ) (more : List ℕ) → i < length s → drop i s ++ more ≡ getD s i 0 ∷ (drop (i + 1) s ++ more)
 next-byte s i more h = ap (λ (l : List ℕ). l ++ more) (drop-at-place 0 s i h)
 
-module _ (s : List ℕ) (start h : Held) (room out : List ℕ) (i : ℕ) (p : Pushing s start h room out i) (l : i < length s) where
-  abbrev byte : ℕ
-  byte = getD s i 0
+three-bytes : (s : List ℕ) (i : ℕ) (more : List ℕ) → 3 ≤ length s - i
+    → drop i s ++ more ≡ getD s i 0 ∷ getD s (i + 1) 0 ∷ getD s (i + 2) 0 ∷ (drop (i + 3) s ++ more)
+three-bytes s i more h =
+    let two : i + 1 + 1 ≡ i + 2 = omega arith in
+    let three : i + 2 + 1 ≡ i + 3 = omega arith in
+    next-byte s i more (omega arith)
+    ∙ ap (λ (l : List ℕ). getD s i 0 ∷ l)
+    (next-byte s (i + 1) more (omega arith)
+    ∙ ap (λ (k : ℕ). getD s (i + 1) 0 ∷ (drop k s ++ more)) two
+    ∙ ap (λ (l : List ℕ). getD s (i + 1) 0 ∷ l)
+    (next-byte s (i + 2) more (omega arith) ∙ ap (λ (k : ℕ). getD s (i + 2) 0 ∷ (drop k s ++ more)) three))
 
-  pub pushing-ready : Ready (byte ∷ []) h out
-  pushing-ready =
+-- these bytes are the next n
+abbrev NextBytes : List ℕ → ℕ → ℕ → List ℕ → Type 0
+NextBytes s i n bs = (more : List ℕ) → drop i s ++ more ≡ bs ++ (drop (i + n) s ++ more)
+
+one-next : (s : List ℕ) (i : ℕ) → i < length s → NextBytes s i 1 (getD s i 0 ∷ [])
+one-next s i h more = next-byte s i more h
+
+three-next : (s : List ℕ) (i : ℕ) → 3 ≤ length s - i → NextBytes s i 3 (getD s i 0 ∷ getD s (i + 1) 0 ∷ getD s (i + 2) 0 ∷ [])
+three-next s i h more = three-bytes s i more h
+
+module _ (s : List ℕ) (start h : Held) (room out : List ℕ) (i : ℕ) (p : Pushing s start h room out i) (n : ℕ) (bs : List ℕ) (b : NextBytes s i n bs) where
+  bytes-ready : Ready bs h out
+  bytes-ready =
       let r = p .ready in
       record {
         whole = r .whole;
         room = r .room;
-        more = drop (i + 1) s ++ r .more;
-        state = subst (λ (bs : List ℕ). Texting (r .whole) (r .room) bs out h) (next-byte s i (r .more) l) (r .state);
+        more = drop (i + n) s ++ r .more;
+        state = subst (λ (bs : List ℕ). Texting (r .whole) (r .room) bs out h) (b (r .more)) (r .state);
       }
 
-  pub pushing-on : (g : Held) (after : List ℕ) → length after ≡ length out → Pushes (byte ∷ []) h out g after → Pushing s start g room after (i + 1)
-  unfolding pushing-ready
-  pushing-on g after e w =
-      let r = pushing-ready in
+  bytes-on : i + n ≤ length s → (g : Held) (after : List ℕ) → length after ≡ length out → Pushes bs h out g after → Pushing s start g room after (i + n)
+  unfolding bytes-ready
+  bytes-on l g after e w =
+      let r = bytes-ready in
       record {
-        inside = omega arith;
+        inside = l;
         long = e ∙ p .long;
-        ready = record { whole = r .whole; room = r .room; more = p .ready .more; state = w (r .whole) (r .room) (drop (i + 1) s ++ p .ready .more) (r .state) };
+        ready = record { whole = r .whole; room = r .room; more = p .ready .more; state = w (r .whole) (r .room) (drop (i + n) s ++ p .ready .more) (r .state) };
         same = λ whole front more x.
-            w whole front (drop (i + 1) s ++ more)
-            (subst (λ (bs : List ℕ). Texting whole front bs out h) (next-byte s i more l) (p .same whole front more x));
+            w whole front (drop (i + n) s ++ more)
+            (subst (λ (bs : List ℕ). Texting whole front bs out h) (b more) (p .same whole front more x));
       }
+
+module _ (s : List ℕ) (start h : Held) (room out : List ℕ) (i : ℕ) (p : Pushing s start h room out i) where
+  pub pushing-ready : i < length s → Ready (getD s i 0 ∷ []) h out
+  pushing-ready l = bytes-ready s start h room out i p 1 (getD s i 0 ∷ []) (one-next s i l)
+
+  pub pushing-on : i < length s → (g : Held) (after : List ℕ) → length after ≡ length out
+      → Pushes (getD s i 0 ∷ []) h out g after → Pushing s start g room after (i + 1)
+  pushing-on l = bytes-on s start h room out i p 1 (getD s i 0 ∷ []) (one-next s i l) (omega arith)
+
+  abbrev bytes : List ℕ
+  bytes = getD s i 0 ∷ getD s (i + 1) 0 ∷ getD s (i + 2) 0 ∷ []
+
+  pub pushing-three-ready : 3 ≤ length s - i → Ready bytes h out
+  pushing-three-ready l = bytes-ready s start h room out i p 3 bytes (three-next s i l)
+
+  pub pushing-three : 3 ≤ length s - i → (g : Held) (after : List ℕ) → length after ≡ length out → Pushes bytes h out g after → Pushing s start g room after (i + 3)
+  pushing-three l = bytes-on s start h room out i p 3 bytes (three-next s i l) (omega arith)
 
 pub pushing-end : (s : List ℕ) (start h : Held) (room out : List ℕ) (i : ℕ) → Pushing s start h room out i → length s ≤ i → Pushes s start room h out
 pushing-end s start h room out i p l whole front more x =

@@ -198,7 +198,24 @@ fn push(out: &mut [u32], h: Held, b: u8) -> Held
     }
 }
 
-// More bytes of a text.
+// Three more bytes of a text, a word, where none are held over.
+fn push_three(out: &mut [u32], h: Held, a: u8, b: u8, c: u8) -> Held
+    requires { ⌜ (h .count ≡ 0) × Ready (a ∷ b ∷ c ∷ []) h (now out) ⌝ }
+    ensures { λ r. ⌜ Pushes (a ∷ b ∷ c ∷ []) h (now (out .entry)) r (now (out .exit)) ⌝ }
+{
+    let at = h.at;
+    let low = a as u32;
+    let mid = b as u32;
+    let high = c as u32;
+    out[at] = 0xE300_0000 + low + 256 * mid + 65536 * high;
+    Held {
+        at: at + 1,
+        count: 0,
+        value: 0,
+    }
+}
+
+// More bytes of a text, word by word where none are held over.
 fn push_bytes(out: &mut [u32], start: Held, s: &[u8]) -> Held
     requires { ⌜ Ready (now s) start (now out) ⌝ }
     ensures { λ r. ⌜ Pushes (now (s .entry)) start (now (out .entry)) r (now (out .exit)) ⌝ }
@@ -206,6 +223,13 @@ fn push_bytes(out: &mut [u32], start: Held, s: &[u8]) -> Held
     let mut h = start;
     let mut i = 0;
     while i < s.len() {
+        if h.count == 0 {
+            if 3 <= s.len() - i {
+                h = push_three(out, h, s[i], s[i + 1], s[i + 2]);
+                i += 3;
+                continue;
+            }
+        }
         h = push(out, h, s[i]);
         i += 1;
     }
