@@ -17,7 +17,7 @@ use Rattle.object.proofs.WordLaws.{head-other}
 use Rattle.object.proofs.BodyLaws.{body-goes, body-stops}
 use Rattle.object.proofs.OrderLaws.{Split, split, text-rest}
 use Rattle.object.proofs.ByteLaws.{len-none, len-some, text-size}
-use Rattle.binary_write.specs.Files.{textOf}
+use Rattle.binary_measure.specs.Measured.{textOf}
 
 no-bytes : textOf [] ≡ []
 unfolding textFrom

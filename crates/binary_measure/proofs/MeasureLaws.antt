@@ -12,10 +12,10 @@ use Rattle.format.specs.Binary.{recordBytes}
 use Rattle.format.specs.Calls.{checked}
 use Rattle.object.specs.Access.{recordAt}
 use Rattle.object.proofs.Tests.{clash}
-use Rattle.binary_write.specs.Files.{recordsIn, bytesIn, countFits, roomNumber}
-use Rattle.binary_write.specs.Rooms.{Leaves, Takes}
-use Rattle.binary_write.specs.declared.Room.{Room}
-use Rattle.binary_write.proofs.WalkLaws.{From, Turn, start, no-more}
+use Rattle.binary_measure.specs.Measured.{recordsIn, bytesIn, countFits, roomNumber}
+use Rattle.binary_measure.specs.Rooms.{Leaves, Takes}
+use Rattle.binary_measure.specs.declared.Room.{Room}
+use Rattle.binary_measure.proofs.WalkLaws.{From, Turn, start, no-more}
 
 -- of the records, these are left to measure; the others fit, and their bytes are taken from the room
 pub record Measures (ws : List ℕ) (used room at : ℕ) (space : Room) : Type 0 where

@@ -1,8 +1,8 @@
 use mathlib.Core.Path.{refl}
 use native.Mathlib.Omega.{arith}
 use Rattle.object.proofs.Tests.{clash}
-use Rattle.binary_write.proofs.Room.take.Statement.{statement}
-use Rattle.binary_write.proofs.Room.take.Tie as tie
+use Rattle.binary_measure.proofs.Room.take.Statement.{statement}
+use Rattle.binary_measure.proofs.Room.take.Tie as tie
 
 returns : tie.Need-returns
 returns c = λ room need h. (λ s. omega (arith, h .0 s), λ s. clash (c .if1 .taken) s)

@@ -2,7 +2,7 @@
 use mathlib.Core.Path.{_≡_}
 use mathlib.Core.Bool.{true, false}
 use Prim.Native.Nat.{ℕ, _+_, _<_}
-use Rattle.binary_write.specs.declared.Room.{Room}
+use Rattle.binary_measure.specs.declared.Room.{Room}
 
 -- of a buffer of length `room`, `need` is taken: it is short, or this is left
 abbrev pub Leaves : ℕ → ℕ → Room → Type 0

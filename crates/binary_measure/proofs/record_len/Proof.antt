@@ -12,11 +12,11 @@ use Rattle.object.specs.Bodies.{textAt}
 use Rattle.object.specs.Texts.{textLen}
 use Rattle.object.specs.Access.{kindAt, recordAt, labelAt, lineBlockAt, relocationAt}
 use Rattle.object.proofs.ByteLaws.{text-within}
-use Rattle.binary_write.specs.Files.{Ends, TextEnds}
-use Rattle.binary_write.proofs.KindLaws.{block-here, label-here, line-here, source-here, relocation-here, kind-3}
-use Rattle.binary_write.proofs.KindLaws.{text-size, block-size, label-size, line-size, source-size, relocation-size}
-use Rattle.binary_write.proofs.record_len.Statement.{statement}
-use Rattle.binary_write.proofs.record_len.Tie as tie
+use Rattle.binary_measure.specs.Measured.{Ends, TextEnds}
+use Rattle.binary_measure.proofs.KindLaws.{block-here, label-here, line-here, source-here, relocation-here, kind-3}
+use Rattle.binary_measure.proofs.KindLaws.{text-size, block-size, label-size, line-size, source-size, relocation-size}
+use Rattle.binary_measure.proofs.record_len.Statement.{statement}
+use Rattle.binary_measure.proofs.record_len.Tie as tie
 
 -- a text is not longer than its words can hold
 short : (ws : List ℕ) (at end n : ℕ) → TextEnds ws at end → n ≡ textLen ws at end → n ≤ 3 * length ws

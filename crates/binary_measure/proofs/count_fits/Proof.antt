@@ -1,9 +1,9 @@
 use borrow.Author.Needs.{needs}
 use native.Mathlib.Omega.{arith}
 use mathlib.Core.Path.{sym, _∙_}
-use Rattle.binary_write.proofs.KindLaws.{count-other, count-here, line-here}
-use Rattle.binary_write.proofs.count_fits.Statement.{statement}
-use Rattle.binary_write.proofs.count_fits.Tie as tie
+use Rattle.binary_measure.proofs.KindLaws.{count-other, count-here, line-here}
+use Rattle.binary_measure.proofs.count_fits.Statement.{statement}
+use Rattle.binary_measure.proofs.count_fits.Tie as tie
 
 returns : tie.Need-returns
 returns c = count-other _ _ (λ e. c .if1 .taken (c .before .kind .ensures ∙ e))

@@ -1,14 +1,15 @@
 use borrow.Author.Needs.{needs}
 use native.Mathlib.Omega.{arith}
-use mathlib.Core.Path.{sym, _∙_}
-use Prim.Native.Nat.{ℕ, _-_}
+use mathlib.Core.Path.{_≡_, sym, _∙_}
+use Prim.Native.Nat.{ℕ, _+_, _-_}
 use lib.ListN.{length}
 use denote.Ref.{now}
+use Rattle.object.specs.Bodies.{bodyAt}
 use borrow.Author.Tests.{not-true, not-false}
-use Rattle.binary_write.proofs.WalkLaws.{Turn, turn, record-begins}
-use Rattle.binary_write.proofs.MeasureLaws.{Measures, begins, goes-on, too-many, is-short, is-enough}
-use Rattle.binary_write.proofs.measure.Statement.{statement}
-use Rattle.binary_write.proofs.measure.Tie as tie
+use Rattle.binary_measure.proofs.WalkLaws.{Turn, turn, record-begins}
+use Rattle.binary_measure.proofs.MeasureLaws.{Measures, begins, goes-on, too-many, is-short, is-enough}
+use Rattle.binary_measure.proofs.measure.Statement.{statement}
+use Rattle.binary_measure.proofs.measure.Tie as tie
 
 abbrev Inv-loop : tie.InvT-loop
 Inv-loop ws used room space₀ at₀ space at = Measures ws used room at space
@@ -18,9 +19,6 @@ abbrev μ-loop : tie.MeasureT-loop
 
 loop-holds : tie.Need-loop-holds Inv-loop μ-loop
 loop-holds c = let s = c .before .before in begins _ _ _ _ (s .pre) (c .take .ensures)
-
-record-end-requires : tie.Need-record-end-requires Inv-loop μ-loop
-record-end-requires c κs = record-begins _ _ _ (c .loop-test .taken) (c .before .loop .inv .from)
 
 -- the record at the place
 module _ (c : tie.After-record-end Inv-loop μ-loop) where
@@ -33,8 +31,11 @@ module _ (c : tie.After-record-end Inv-loop μ-loop) where
   measures : Measures (now (start .args .ws)) (start .args .used) (start .args .room) at (c .before .before .loop .space)
   measures = c .before .before .loop .inv
 
+  ends : c .record-end .result ≡ at + 1 + length (bodyAt (now (start .args .ws)) (at + 1))
+  ends = c .record-end .ensures (record-begins _ _ _ (c .before .loop-test .taken) (measures .from))
+
   here : Turn (now (start .args .ws)) at (c .record-end .result) (measures .left)
-  here = turn _ _ _ _ (c .before .loop-test .taken) (c .record-end .ensures) (measures .from)
+  here = turn _ _ _ _ (c .before .loop-test .taken) ends (measures .from)
 
 count-fits-requires : tie.Need-count-fits-requires Inv-loop μ-loop
 count-fits-requires c κs = here c .stands
@@ -49,7 +50,7 @@ record-len-requires c κs = here (c .before .before) .stands
 
 loop-less : tie.Need-loop-less Inv-loop μ-loop
 loop-less c =
-    let p = c .before .before .before .before in omega (arith, p .record-end .ensures, p .before .loop-test .taken)
+    let p = c .before .before .before .before in omega (arith, ends p, p .before .loop-test .taken)
 
 loop-again : tie.Need-loop-again Inv-loop μ-loop
 loop-again c =
@@ -72,7 +73,7 @@ measure-spec =
     μ-loop
     (λ c κs. search needs)
     loop-holds
-    record-end-requires
+    (λ c κs. search needs)
     count-fits-requires
     returns
     record-len-requires

@@ -5,7 +5,7 @@ use mathlib.Core.List.{List, [], _∷_, map}
 use mathlib.Core.Option.{Option, none, some}
 use Prim.Native.Nat.{ℕ, _+_, _-_, _*_, _/_, _%_, _^_}
 use native.Mathlib.Omega.{arith}
-use lib.ListN.{length, getD}
+use lib.ListN.{length, getD, length-map}
 use lib.Dec.{leb, eqb}
 use borrow.Author.Tests.{eq-eqb, ne-eqb, eqb-true, eqb-false}
 use Rattle.format.specs.Basics.{given, _>>=_}
@@ -23,8 +23,7 @@ use Rattle.object.proofs.WordLaws.{head-kind}
 use Rattle.object.proofs.ByteLaws.{text-len}
 use Rattle.object.proofs.AccessLaws.{number-is, label-is, line-is, source-is, relocation-is}
 use Rattle.writing.proofs.EachLaws.{length-flatMap}
-use Rattle.binary_write.specs.Files.{Ends, TextEnds, Stands, countFits}
-use Rattle.binary_write.proofs.PlaceLaws.{length-map}
+use Rattle.binary_measure.specs.Measured.{Ends, TextEnds, Stands, countFits}
 
 -- a number has three words
 number-size : (xs : List ℕ) (p : ℕ × List ℕ) → numberFrom xs ≡ given p → length xs ≡ 3 + length (p .1)
@@ -109,13 +108,13 @@ module _ (ws : List ℕ) (at end : ℕ) where
   unfolding recordBytes digitsOf
   block-size e =
       let body = bodyAt ws (at + 1) in
-      omega (arith, length-flatMap memoryBytes 3 three (map memoryIn body), length-map memoryIn body, e .0)
+      omega (arith, length-flatMap memoryBytes 3 three (map memoryIn body), length-map body memoryIn, e .0)
 
   pub line-size : Ends ws (at + 1 + 3) end → 11 + 2 * (end - (at + 1 + 3)) ≡ length (recordBytes (lineBlock (lineBlockAt ws at)))
   unfolding recordBytes digitsOf
   line-size e =
       let body = bodyAt ws (at + 1 + 3) in
-      omega (arith, length-flatMap (λ a. digitsOf 8 2 a) 2 (λ a. digits-length 8 2 a) (map addressIn body), length-map addressIn body, e .0)
+      omega (arith, length-flatMap (λ a. digitsOf 8 2 a) 2 (λ a. digits-length 8 2 a) (map addressIn body), length-map body addressIn, e .0)
 
   pub text-size : (i : ℕ) → TextEnds ws i end → textLen ws i end ≡ length (textAt ws i)
   text-size i e = ap (textLen ws i) (e .1 .0) ∙ text-len ws i (e .0)
@@ -142,7 +141,7 @@ unfolding countFits
 count-here ws at end s e =
     let l = line-here ws at end s e in
     let n : end - (at + 1 + 3) ≡ length (map addressIn (bodyAt ws (at + 1 + 3))) =
-    omega (arith, l .1 .0, length-map addressIn (bodyAt ws (at + 1 + 3))) in
+    omega (arith, l .1 .0, length-map (bodyAt ws (at + 1 + 3)) addressIn) in
     ap (λ m. leb m 65535) n ∙ ap countFits (sym (l .0))
 
 pub count-other : (ws : List ℕ) (at : ℕ) → (kindAt ws at ≡ 3 → ⊥) → true ≡ countFits (recordAt ws at)

@@ -19,7 +19,7 @@ use Rattle.object.specs.Access.{recordAt}
 use Rattle.object.proofs.BodyLaws.{head-at, body-fits}
 use Rattle.object.proofs.Formed.{formed, Held, held}
 use Rattle.object.proofs.AccessLaws.{next, done, record-is}
-use Rattle.binary_write.specs.Files.{Begins, Stands, recordsIn, countFits}
+use Rattle.binary_measure.specs.Measured.{Begins, Stands, recordsIn, countFits}
 
 -- these records are left from a place on, where a head stands or the end
 pub record From (ws : List ℕ) (at : ℕ) (rs : List Record) : Type 0 where
