@@ -5,8 +5,8 @@ use mathlib.Core.List.{List, [], _++_, flatMap}
 use Prim.Native.Nat.{ℕ, _+_, _≤_}
 use native.Mathlib.Omega.{arith}
 use lib.ListN.{length, length-append}
-use lib.Dec.{leb}
-use borrow.Author.Tests.{leb-true, leb-false}
+use lib.Dec.{leb, eqb}
+use borrow.Author.Tests.{leb-true, leb-false, eq-eqb, eqb-true}
 use Rattle.format.specs.Basics.{Outcome, refused, given, _>>=_, ask, every}
 use Rattle.format.specs.ObjectFile.{ObjectFile}
 use Rattle.format.specs.Records.{recordsOf, placed}
@@ -20,8 +20,9 @@ use Rattle.units.specs.declared.Filled.{Filled}
 use Rattle.units.proofs.FilledLaws.{ends-refused, ends-short}
 use Rattle.writing.specs.Written.{Put}
 use Rattle.writing.proofs.WriteLaws.{put-fills}
-use Rattle.binary_write.specs.Files.{fileAfter, WritesAfter, recordsIn, bytesIn, countFits, roomNumber}
-use Rattle.binary_write.proofs.WalkLaws.{object-is, in-order, counts-placed}
+use Rattle.binary_write.specs.Files.{fileAfter, WritesAfter}
+use Rattle.binary_measure.specs.Measured.{recordsIn, bytesIn, countFits, roomNumber, writeNumber}
+use Rattle.binary_measure.proofs.WalkLaws.{object-is, in-order, counts-placed}
 
 -- words that are not well formed
 module _ (front ws buffer : List ℕ) (n : ℕ) (e : n ≡ checked ws) (some : n ≡ 0 → ⊥) where
@@ -107,3 +108,28 @@ module _ (front ws buffer : List ℕ) (z : checked ws ≡ 0) where
       written-file r n after h p =
           promised r after (ap (λ x. filledOf x after) h ∙ put-fills (front ++ bytesIn ws) buffer enough p
           ∙ sym (ap (λ b. fill (ask 2 b >>= λ _. given (front ++ bytesIn ws)) buffer) (all-fit .0)))
+
+-- the number of the check and of the measuring
+module _ (front ws buffer : List ℕ) (m : ℕ) (e : m ≡ writeNumber ws (length front) (length buffer)) where
+  -- of words that are well formed
+  measured : checked ws ≡ 0 → m ≡ roomNumber ws (length front) (length buffer)
+  unfolding writeNumber
+  measured z = e ∙ rw (eq-eqb (checked ws) 0 z)
+
+  pub refused-number : (m ≡ 0 → ⊥) → (r : Filled) → r ≡ handedBack m 0 → WritesAfter front ws buffer (filledOf r buffer)
+  unfolding writeNumber
+  refused-number some r h =
+      by-test (eqb (checked ws) 0)
+      (λ t. let z = eqb-true (checked ws) 0 t in refused-2-3 front ws buffer z m (measured z) some r h)
+      (λ t. refused-1 front ws buffer m (e ∙ simp t) some r h)
+
+  module _ (none : m ≡ 0) where
+    pub is-formed : checked ws ≡ 0
+    unfolding writeNumber
+    is-formed =
+        by-test (eqb (checked ws) 0)
+        (λ t. eqb-true (checked ws) 0 t)
+        (λ t. sym (e ∙ simp t) ∙ none)
+
+    pub is-measured : m ≡ roomNumber ws (length front) (length buffer)
+    is-measured = measured is-formed

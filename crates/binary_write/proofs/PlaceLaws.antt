@@ -14,7 +14,8 @@ use Rattle.format.proofs.ListLaws.{by-test, flatMap-map}
 use Rattle.object.specs.Bodies.{bodyAt, textAt, Text}
 use Rattle.object.specs.Access.{memoryIn, addressIn}
 use Rattle.object.proofs.BodyLaws.{head-parts, body-parts}
-use Rattle.binary_write.specs.Files.{Ends, memoryPart, addressPart, textOf, sized}
+use Rattle.binary_measure.specs.Measured.{Ends, textOf}
+use Rattle.binary_write.specs.Files.{memoryPart, addressPart, sized}
 
 before-take : (xs : List ℕ) → take (length (partsAt isHead xs .before)) xs ≡ partsAt isHead xs .before
 unfolding partsAt

@@ -6,47 +6,21 @@ ghost use lib.ListN.{length};
 ghost use lib.Dec.{leb};
 ghost use Rattle.format.specs.Records.{block, label, lineBlock, source, relocation};
 ghost use Rattle.format.specs.Words.{flagBit};
-ghost use Rattle.format.specs.Binary.{recordBytes};
 ghost use Rattle.format.specs.Calls.{checked};
 ghost use Rattle.units.specs.Filled.{filledOf};
 ghost use Rattle.writing.specs.Written.{Put};
-ghost use Rattle.object.specs.Bodies.{bodyAt, textAt, Text};
+ghost use Rattle.object.specs.Bodies.{textAt, Text};
 ghost use Rattle.object.specs.Access.{blockAt, labelAt, lineBlockAt, relocationAt, recordAt};
-ghost use Rattle.binary_write.specs.Files.{WritesAfter, flagOf, memoryPart, addressPart, textOf, sized, Ends, TextEnds, Begins, Stands};
-ghost use Rattle.binary_write.specs.Files.{RoomFor, PutRecord, bytesIn, countFits, roomNumber};
-ghost use Rattle.binary_write.specs.Rooms.{Takes};
+ghost use Rattle.binary_measure.specs.Measured.{Ends, TextEnds, Stands, textOf, bytesIn};
+ghost use Rattle.binary_write.specs.Files.{WritesAfter, flagOf, memoryPart, addressPart, sized, RoomFor, PutRecord};
+use binary_measure::record_end;
+use binary_measure::write_number;
 use units::Filled;
 use writing::put_bytes;
 use writing::put_u8;
 use writing::put_u16_be;
 use writing::put_u16_le;
 use writing::put_u64_le;
-
-// What is left of a buffer; once it is too short it stays so.
-struct Room {
-    left: usize,
-    short: bool,
-}
-
-impl Room {
-    fn take(self, n: usize) -> Room
-        ensures { λ r. ⌜ Takes self n r ⌝ }
-    {
-        if self.short {
-            return self;
-        }
-        if self.left < n {
-            return Room {
-                left: 0,
-                short: true,
-            };
-        }
-        Room {
-            left: self.left - n,
-            short: false,
-        }
-    }
-}
 
 // The first of a memory word's three bytes.
 fn flag(w: u32) -> u8
@@ -237,69 +211,6 @@ fn put_relocation(out: &mut [u8], ws: &[u32], at: usize, end: usize) -> usize
     o
 }
 
-// Where the words of a text end. Its words are of one kind, so a single test a word serves.
-fn text_end(ws: &[u32], at: usize) -> usize
-    requires { ⌜ Text (bodyAt (now ws) at) ⌝ }
-    ensures { λ r. ⌜ r ≡ at + length (bodyAt (now (ws .entry)) at) ⌝ }
-{
-    let mut i = at;
-    while i < ws.len() {
-        if ws[i] < 0xE000_0000 {
-            return i;
-        }
-        i += 1;
-    }
-    i
-}
-
-// Where a record ends. The source may be most of an object, so it is passed by the shorter test.
-fn record_end(ws: &[u32], at: usize) -> usize
-    requires { ⌜ Begins (now ws) at ⌝ }
-    ensures { λ r. ⌜ r ≡ at + 1 + length (bodyAt (now (ws .entry)) (at + 1)) ⌝ }
-{
-    let body = at + 1;
-    if object::kind(ws[at]) == 4 {
-        return text_end(ws, body);
-    }
-    object::body_end(ws, body)
-}
-
-// How many bytes a record has.
-fn record_len(ws: &[u32], at: usize, end: usize) -> usize
-    requires { ⌜ Stands (now ws) at end ⌝ }
-    ensures { λ r. ⌜ r ≡ length (recordBytes (recordAt (now (ws .entry)) at)) ⌝ }
-{
-    let body = at + 1;
-    let k = object::kind(ws[at]);
-    if k == 0 {
-        return 5 + 3 * (end - body);
-    }
-    if k == 4 {
-        return 9 + object::text_len(ws, body, end);
-    }
-    if k == 5 {
-        return 11 + object::text_len(ws, body, end);
-    }
-    let rest = body + 3;
-    if k == 2 {
-        return 20 + object::text_len(ws, rest, end);
-    }
-    11 + 2 * (end - rest)
-}
-
-// Of a line block, whether it has at most 65,535 addresses.
-fn count_fits(ws: &[u32], at: usize, end: usize) -> bool
-    requires { ⌜ Stands (now ws) at end ⌝ }
-    ensures { λ r. ⌜ r ≡ countFits (recordAt (now (ws .entry)) at) ⌝ }
-{
-    if object::kind(ws[at]) != 3 {
-        return true;
-    }
-    let body = at + 1;
-    let addresses = body + 3;
-    end - addresses <= 0xFFFF
-}
-
 // A record, by its kind.
 fn put_record(out: &mut [u8], ws: &[u32], at: usize, end: usize) -> usize
     requires { ⌜ Stands (now ws) at end × RoomFor (recordAt (now ws) at) (now out) ⌝ }
@@ -321,32 +232,6 @@ fn put_record(out: &mut [u8], ws: &[u32], at: usize, end: usize) -> usize
     put_relocation(out, ws, at, end)
 }
 
-// What is asked of a well formed object before it is written after `used` bytes into a buffer of length `room`: 2, then 3, or 0.
-fn measure(ws: &[u32], used: usize, room: usize) -> u8
-    requires { ⌜ checked (now ws) ≡ 0 ⌝ }
-    ensures { λ r. ⌜ r ≡ roomNumber (now (ws .entry)) used room ⌝ }
-{
-    let whole = Room {
-        left: room,
-        short: false,
-    };
-    let mut space = whole.take(used);
-    let mut at = 0;
-    while at < ws.len() {
-        let end = record_end(ws, at);
-        if !count_fits(ws, at, end) {
-            return 2;
-        }
-        let n = record_len(ws, at, end);
-        space = space.take(n);
-        at = end;
-    }
-    if space.short {
-        return 3;
-    }
-    0
-}
-
 // The records of a well formed object, one after the other.
 fn put_records(out: &mut [u8], object: &[u32]) -> usize
     requires { ⌜ (checked (now object) ≡ 0) × (length (bytesIn (now object)) ≤ length (now out)) ⌝ }
@@ -366,11 +251,7 @@ fn put_records(out: &mut [u8], object: &[u32]) -> usize
 pub fn write_file(object: &[u32], front: &[u8], out: &mut [u8]) -> Filled
     ensures { λ r. ⌜ WritesAfter (now (front .entry)) (now (object .entry)) (now (out .entry)) (filledOf r (now (out .exit))) ⌝ }
 {
-    let n = well_formed::check(object);
-    if n != 0 {
-        return Filled::refused(n);
-    }
-    let m = measure(object, front.len(), out.len());
+    let m = write_number(object, front.len(), out.len());
     if m != 0 {
         return Filled::refused(m);
     }

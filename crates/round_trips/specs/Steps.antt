@@ -1,31 +1,14 @@
--- A trip through the public calls as a step of demand 3 (crate `format`, module Trips), lists of such steps, and demand 3 over them.
--- Assumes nothing.
+-- Lists of trips through the public calls, and demand 3 over them. Assumes nothing.
 use mathlib.Core.Path.{_≡_}
 use mathlib.Core.Bool.{false}
 use mathlib.Core.List.{List, [], _∷_}
 use Prim.Native.Nat.{ℕ}
-use lib.ListN.{take}
-use lib.Dec.{eqb}
 use Rattle.format.specs.Basics.{if_then_else_, All}
 use Rattle.format.specs.Words.{wordsOf}
 use Rattle.format.specs.Fair.{Fair}
-use Rattle.format.specs.Trips.{Form, binary, Trip, TripMade, LogEntry, logEntry, AsExpected, evenBinaryTrips, swapRelocations, IsSlice}
-use Rattle.round_trips.specs.declared.Made.{Made}
-
--- a trip of the form f that is lent these bytes and these words
-abbrev pub tripOf : Form → List ℕ → List ℕ → Trip
-tripOf f bytes words = record { form = f; bytes = bytes; words = words }
-
--- "If both give 0, the words filled are the holding that then stands. If either refuses, .. the holding stands as before.": by what a trip
--- from ws hands back, and the word buffer after it
-abbrev pub standing : Made → List ℕ → List ℕ → List ℕ
-standing r after ws = if eqb (r .number) 0 then take (r .len) after else ws
-
--- A trip of the form f from ws, "a slice of 32-bit words", that was lent these bytes and these words, handed back r, and left `after` in
--- the word buffer: the step of demand 3's lists.
-pub record Step (f : Form) (ws bytes words : List ℕ) (r : Made) (after : List ℕ) : Type 0 where
-  pub is-slice : IsSlice ws
-  pub made : TripMade (tripOf f bytes words) ws (r .number) (standing r after ws)
+use Rattle.format.specs.Trips.{Form, binary, Trip, LogEntry, logEntry, AsExpected, evenBinaryTrips, swapRelocations}
+use Rattle.binary_trips.specs.declared.Made.{Made}
+use Rattle.binary_trips.specs.Steps.{tripOf, standing, Step}
 
 -- a list of such steps from ws, each from what stands after the one before it: the trips, their log, and the words that stand last
 pub data StepsMade : List ℕ → List Trip → List LogEntry → List ℕ → Type 0 where

@@ -6,60 +6,12 @@ ghost use mathlib.Core.Path.{_≡_};
 ghost use mathlib.Core.List.{[], _∷_};
 ghost use Prim.Native.Nat.{_≤_, min};
 ghost use lib.ListN.{length, take};
-ghost use Rattle.format.specs.Trips.{binary, text};
 ghost use Rattle.io.specs.Counts.{Counts};
-ghost use Rattle.round_trips.specs.Steps.{Step};
+ghost use Rattle.binary_trips.specs.Steps.{Step};
 ghost use Rattle.round_trips.specs.Rows.{formOf, row, rows, Ran};
-use binary_format::BinaryFormat;
-use text_format::TextFormat;
-
-// The trip's number; and how many words were filled, 0 where it was refused.
-struct Made {
-    number: u8,
-    len: usize,
-}
-
-// A binary trip: a write of the object and, if that gives 0, a read of exactly the length filled.
-fn binary_trip(object: &[u32], bytes: &mut [u8], words: &mut [u32]) -> Made
-    ensures { λ r. ⌜ Step binary (now (object .entry)) (now (bytes .entry)) (now (words .entry)) r (now (words .exit)) ⌝ }
-    ensures { λ r. ⌜ Counts (r .len) (now (words .exit)) ⌝ }
-{
-    let format = BinaryFormat::new();
-    let w = format.serialize(object, bytes);
-    if w.number != 0 {
-        return Made {
-            number: w.number,
-            len: 0,
-        };
-    }
-    let n = w.len;
-    let r = format.deserialize(&bytes[..n], words);
-    Made {
-        number: r.number,
-        len: r.len,
-    }
-}
-
-// A text trip: the same in the text form.
-fn text_trip(object: &[u32], bytes: &mut [u8], words: &mut [u32]) -> Made
-    ensures { λ r. ⌜ Step text (now (object .entry)) (now (bytes .entry)) (now (words .entry)) r (now (words .exit)) ⌝ }
-    ensures { λ r. ⌜ Counts (r .len) (now (words .exit)) ⌝ }
-{
-    let format = TextFormat::new();
-    let written = format.serialize(object, bytes);
-    if written.number != 0 {
-        return Made {
-            number: written.number,
-            len: 0,
-        };
-    }
-    let filled = written.len;
-    let read = format.deserialize(&bytes[..filled], words);
-    Made {
-        number: read.number,
-        len: read.len,
-    }
-}
+use binary_trips::Made;
+use binary_trips::binary_trip;
+use text_trips::text_trip;
 
 // The forms of trips in a list.
 const BINARY: u16 = 0;

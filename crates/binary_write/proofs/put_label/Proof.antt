@@ -15,7 +15,8 @@ use Rattle.format.specs.Records.{label}
 use Rattle.format.specs.Binary.{recordBytes}
 use Rattle.object.specs.Bodies.{textAt, numberAt, Text}
 use Rattle.object.specs.Access.{labelAt}
-use Rattle.binary_write.specs.Files.{textOf, sized}
+use Rattle.binary_measure.specs.Measured.{textOf}
+use Rattle.binary_write.specs.Files.{sized}
 use Rattle.binary_write.proofs.RoomLaws.{lent-part}
 use Rattle.binary_write.proofs.PlaceLaws.{slice, text-slice, text-there, flag-byte}
 use Rattle.binary_write.proofs.put_label.Statement.{statement}

@@ -10,8 +10,8 @@ use Rattle.format.specs.Digits.{digitsOf}
 use Rattle.format.proofs.Laws.{digits-length}
 use Rattle.writing.specs.Written.{Put}
 use Rattle.writing.proofs.WriteLaws.{stored}
-use Rattle.binary_write.specs.Files.{textOf}
-use Rattle.binary_write.proofs.TextLaws.{count, last-some, last-bytes}
+use Rattle.binary_measure.specs.Measured.{textOf}
+use Rattle.binary_measure.proofs.TextLaws.{count, last-some, last-bytes}
 use Rattle.binary_write.proofs.put_last.Statement.{statement}
 use Rattle.binary_write.proofs.put_last.Tie as tie
 

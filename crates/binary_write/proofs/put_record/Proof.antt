@@ -8,9 +8,9 @@ use denote.Ref.{now}
 use Rattle.format.specs.Records.{block, label, lineBlock, source, relocation}
 use Rattle.object.specs.Bodies.{textAt}
 use Rattle.object.specs.Access.{kindAt, recordAt, blockAt, labelAt, lineBlockAt, relocationAt}
-use Rattle.binary_write.specs.Files.{Ends, TextEnds}
+use Rattle.binary_measure.specs.Measured.{Ends, TextEnds}
 use Rattle.binary_write.proofs.RoomLaws.{fits-as, put-as}
-use Rattle.binary_write.proofs.KindLaws.{block-here, label-here, line-here, source-here, relocation-here, kind-5}
+use Rattle.binary_measure.proofs.KindLaws.{block-here, label-here, line-here, source-here, relocation-here, kind-5}
 use Rattle.binary_write.proofs.put_record.Statement.{statement}
 use Rattle.binary_write.proofs.put_record.Tie as tie
 

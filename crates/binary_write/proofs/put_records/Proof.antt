@@ -8,11 +8,12 @@ use lib.ListN.{length}
 use denote.Ref.{now}
 use Rattle.format.specs.Records.{Record}
 use Rattle.format.specs.Binary.{recordBytes}
+use Rattle.object.specs.Bodies.{bodyAt}
 use Rattle.object.specs.Access.{recordAt}
 use Rattle.writing.proofs.Parts.{Emits, after, begin, emit, emitted, within, small, same}
-use Rattle.binary_write.specs.Files.{recordsIn, bytesIn}
+use Rattle.binary_measure.specs.Measured.{recordsIn, bytesIn}
 use Rattle.binary_write.proofs.RoomLaws.{lent-part}
-use Rattle.binary_write.proofs.WalkLaws.{From, Turn, start, turn, record-begins, no-more}
+use Rattle.binary_measure.proofs.WalkLaws.{From, Turn, start, turn, record-begins, no-more}
 use Rattle.binary_write.proofs.put_records.Statement.{statement}
 use Rattle.binary_write.proofs.put_records.Tie as tie
 
@@ -28,9 +29,6 @@ loop-holds c =
     let s = c .before .before in
     (recordsIn (now (s .args .object)), start (now (s .args .object)) (s .pre .0), begin _ _ (s .pre .1))
 
-record-end-requires : tie.Need-record-end-requires Inv-loop μ-loop
-record-end-requires c κs = record-begins _ _ _ (c .loop-test .taken) (c .before .loop .inv .1)
-
 -- the record at the place
 module _ (c : tie.After-record-end Inv-loop μ-loop) where
   abbrev loop : tie.At-loop Inv-loop μ-loop
@@ -42,8 +40,11 @@ module _ (c : tie.After-record-end Inv-loop μ-loop) where
   abbrev ws : List ℕ
   ws = now (begun .args .object)
 
+  ends : c .record-end .result ≡ loop .loop .at + 1 + length (bodyAt ws (loop .loop .at + 1))
+  ends = c .record-end .ensures (record-begins _ _ _ (c .before .loop-test .taken) (loop .loop .inv .1))
+
   here : Turn ws (loop .loop .at) (c .record-end .result) (loop .loop .inv .0)
-  here = turn _ _ _ _ (c .before .loop-test .taken) (c .record-end .ensures) (loop .loop .inv .1)
+  here = turn _ _ _ _ (c .before .loop-test .taken) ends (loop .loop .inv .1)
 
   abbrev part : List ℕ
   part = recordBytes (recordAt ws (loop .loop .at))
@@ -67,7 +68,7 @@ add-o c = let p = c .before .before in small (emits p) (begun (p .before .before
 
 loop-less : tie.Need-loop-less Inv-loop μ-loop
 loop-less c =
-    let b = c .before .before .before .before in omega (arith, b .record-end .ensures, b .before .loop-test .taken)
+    let b = c .before .before .before .before in omega (arith, ends b, b .before .loop-test .taken)
 
 loop-again : tie.Need-loop-again Inv-loop μ-loop
 loop-again c = let p = c .before .before in let b = p .before .before in (here b .rest, here b .left, emits p)
@@ -88,7 +89,7 @@ put-records-spec =
     Inv-loop
     μ-loop
     loop-holds
-    record-end-requires
+    (λ c κs. search needs)
     (λ c. within (loop c .loop .inv .2))
     (λ c. within (loop c .loop .inv .2))
     (λ c. search needs)

@@ -8,8 +8,9 @@ use denote.Ref.{now}
 use Rattle.format.specs.Digits.{digitsOf}
 use Rattle.writing.proofs.Parts.{State, Emits, after, begin, emit, emitted, within, small, same}
 use Rattle.object.specs.Texts.{textLen}
-use Rattle.binary_write.specs.Files.{textOf, sized}
-use Rattle.binary_write.proofs.TextLaws.{text-length}
+use Rattle.binary_measure.specs.Measured.{textOf}
+use Rattle.binary_write.specs.Files.{sized}
+use Rattle.binary_measure.proofs.TextLaws.{text-length}
 use Rattle.binary_write.proofs.RoomLaws.{lent-part}
 use Rattle.binary_write.proofs.put_sized.Statement.{statement}
 use Rattle.binary_write.proofs.put_sized.Tie as tie

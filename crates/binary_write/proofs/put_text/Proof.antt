@@ -11,8 +11,8 @@ use Rattle.object.specs.Bodies.{Text}
 use Rattle.writing.specs.Written.{Put}
 use Rattle.writing.proofs.WriteLaws.{stored}
 use Rattle.writing.proofs.Parts.{Emits, begin, emit, emit-one, emitted, room-one, after, within, small, same}
-use Rattle.binary_write.specs.Files.{textOf}
-use Rattle.binary_write.proofs.TextLaws.{text-here, text-last, no-words}
+use Rattle.binary_measure.specs.Measured.{textOf}
+use Rattle.binary_measure.proofs.TextLaws.{text-here, text-last, no-words}
 use Rattle.binary_write.proofs.RoomLaws.{lent-part}
 use Rattle.binary_write.proofs.put_text.Statement.{statement}
 use Rattle.binary_write.proofs.put_text.Tie as tie

@@ -1,0 +1,4 @@
+pub mod TextLaws
+pub mod KindLaws
+pub mod WalkLaws
+pub mod MeasureLaws
