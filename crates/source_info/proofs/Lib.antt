@@ -3,3 +3,4 @@ pub mod RecordLaws
 pub mod SourceLaws
 pub mod TableLaws
 pub mod TrimLaws
+pub mod CountLaws

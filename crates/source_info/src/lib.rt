@@ -3,12 +3,12 @@
 ghost use mathlib.Core.Path.{_≡_};
 ghost use Prim.Native.Nat.{_+_, _-_, _*_, _≤_, _<_};
 ghost use lib.ListN.{length, drop, getD};
-ghost use mathlib.Core.List.{map};
+ghost use mathlib.Core.List.{[], _∷_, map};
 ghost use Rattle.format.specs.Basics.{need};
 ghost use Rattle.format.specs.Source.{newlines, rawLineSpan, getPosPair, offsetOf};
 ghost use Rattle.format.specs.Calls.{valueAnswer, queryCountLines, queryRawLineSpan, queryLineSpan, queryPosPair, queryGet, queryFind};
 ghost use Rattle.object.specs.Bodies.{bodyAt};
-ghost use Rattle.object.specs.Texts.{textBytes};
+ghost use Rattle.object.specs.Texts.{textBytes, wholeWords};
 ghost use Rattle.object.specs.Access.{addressIn, lineBlockAt};
 ghost use Rattle.trim.specs.WhiteSpace.{whiteAt, endsWhite, whiteBefore};
 ghost use Rattle.source_info.specs.Sources.{Sourced, SourceIs, countAnswer, spanIn, Within, TrimsStart, TrimsEnd, spanAnswer};
@@ -80,12 +80,40 @@ fn source_of(object: &[u32]) -> Source
     Source::Words(at, object::text_len(object, at, end))
 }
 
+// 1 for a newline.
+fn one_newline(b: u32) -> u32
+    ensures { λ r. ⌜ r ≡ newlines (b ∷ []) ⌝ }
+{
+    if b == 10 {
+        return 1;
+    }
+    0
+}
+
+// The newlines in the first words of a text, counted without an exit from the loop.
+fn newlines_in_words(ws: &[u32], at: usize, n: usize, words: usize) -> u64
+    requires { ⌜ words ≡ wholeWords (now ws) at n ⌝ }
+    ensures { λ r. ⌜ (r ≤ 3 * words)
+        × (r + newlines (drop (3 * words) (textBytes (now (ws .entry)) at n)) ≡ newlines (textBytes (now (ws .entry)) at n)) ⌝ }
+{
+    let mut count: u64 = 0;
+    let mut k = 0;
+    while k < words {
+        let w = ws[at + k];
+        let here = one_newline(w % 256) + one_newline(w / 256 % 256) + one_newline(w / 65536 % 256);
+        count += here as u64;
+        k += 1;
+    }
+    count
+}
+
 // The newlines among the first `n` bytes of a text.
 pub fn count_newlines(ws: &[u32], at: usize, n: usize) -> u64
     ensures { λ r. ⌜ (r ≡ newlines (textBytes (now (ws .entry)) at n)) × (r ≤ n) ⌝ }
 {
-    let mut count = 0;
-    let mut i = 0;
+    let words = object::whole_words(ws, at, n);
+    let mut count = newlines_in_words(ws, at, n, words);
+    let mut i = 3 * words;
     while i < n {
         if object::text_byte(ws, at, i) == 10 {
             count += 1;
