@@ -10,7 +10,7 @@ use lib.ListN.{length, drop, getD, length-append, length-drop, drop-of-length-le
 use borrow.Rule.Slice.PartAt.{part-to-end}
 use lib.Seq.{drop-drop}
 use lib.Dec.{ltb, leb, eqb}
-use borrow.Author.Tests.{lt-ltb, le-ltb, le-leb, lt-leb, eq-eqb, ne-eqb, eqb-true, eqb-false}
+use borrow.Author.Tests.{ltb-true, ltb-false, lt-ltb, le-ltb, le-leb, lt-leb, eq-eqb, ne-eqb, eqb-true, eqb-false}
 use Rattle.format.specs.Basics.{if_then_else_, ascii, andThen, isSome}
 use Rattle.format.specs.Utf8.{charAt, scalarsFrom, isUtf8, isBetween}
 use Rattle.format.specs.TextWriter.{lowerDigit, numeral, escapeChar, escape}
@@ -23,9 +23,13 @@ use Rattle.text_numerals.specs.Memory.{knownWord}
 use Rattle.format.specs.Digits.{digitsOf}
 use Rattle.format.specs.TextWriter.{hex4, decimal, memoryText, spaces, toRight, tableDiv, textLine}
 use Rattle.text_escape.specs.Rows.{lineLine}
-use Rattle.utf8.proofs.CharLaws.{front}
-use Rattle.word_chars.proofs.CharLaws.{char-low}
-use Rattle.text_escape.specs.Escaped.{letterOf, codeText, escapeNext, escapeFrom}
+use Rattle.utf8.proofs.CharLaws.{front, char-inside}
+use Rattle.word_chars.proofs.CharLaws.{char-low, byte-is, size-is}
+use Rattle.word_chars.specs.Stretches.{Stretch}
+use Rattle.word_chars.proofs.StretchLaws.{stretch-within}
+use Rattle.object.specs.Texts.{textByte, bytesFrom, textBytes, spanBytes, EachByte}
+use Rattle.object.proofs.ByteLaws.{bytes-here, bytes-end}
+use Rattle.text_escape.specs.Escaped.{letterOf, codeText, escapeNext, escapeFrom, escapedIn, Itself}
 
 -- THE NUMERAL: six digits hold a scalar value
 numeral-short : (k : ℕ) (n : ℕ) (ds : List ℕ) → n < 16 → numeral k 16 n ds ≡ lowerDigit n ∷ ds
@@ -159,6 +163,38 @@ module _ (t : List ℕ) (i : ℕ) (h : i < length t) where
       let k : i + (0 + 1) ≡ i + 1 = omega arith in
       escaped-char b 0 (char-low t i b h e (p .0))
       ∙ ap₂ (λ (x y : List ℕ). x ++ y) (p .1) (ap (λ (j : ℕ). escapeFrom 0 (drop j t)) k)
+
+-- a character that is there, and none
+module _ (t : List ℕ) (i : ℕ) where
+  pub escaped-some : (v n : ℕ) → some (v, n) ≡ charAt (drop i t) → escapeFrom 0 (drop i t) ≡ escapeChar v ++ escapeFrom 0 (drop (i + (n + 1)) t)
+  escaped-some v n e = escaped-char t i (omega (arith, char-inside t i v n (sym e))) v n e
+
+  pub some-bound : (v n : ℕ) → some (v, n) ≡ charAt (drop i t) → v < 0x110000
+  some-bound v n e = char-bound t i (omega (arith, char-inside t i v n (sym e))) v n e
+
+  pub escaped-nothing : none ≡ charAt (drop i t) → escapeFrom 0 (drop i t) ≡ []
+  escaped-nothing e =
+      by-test (ltb i (length t)) (λ l. escaped-none t i (ltb-true i (length t) l) e) (λ l. escaped-end t i (ltb-false i (length t) l))
+
+-- bytes that stand for themselves, and what follows them
+module _ (ws : List ℕ) (at end : ℕ) where
+  plain-each :
+      (d i j : ℕ) → i + d ≡ j → j ≤ end → EachByte Itself ws at i j
+      → escapedIn ws at i end ≡ spanBytes ws at i j ++ escapedIn ws at j end
+  plain-each zero i j e h f =
+      let q : i ≡ j = omega arith in
+      ap (λ (k : ℕ). escapedIn ws at k end) q ∙ ap (λ (xs : List ℕ). xs ++ escapedIn ws at j end) (sym (bytes-end ws at i j (omega arith)))
+  plain-each (suc d) i j e h f =
+      let l : i < end = omega arith in
+      escaped-plain (textBytes ws at end) i (omega (arith, size-is ws at end)) (textByte ws at i) (byte-is ws at end i l)
+      (f i (omega arith) (omega arith))
+      ∙ ap (λ (xs : List ℕ). textByte ws at i ∷ xs) (plain-each d (i + 1) j (omega arith) h (λ k a b. f k (omega arith) b))
+      ∙ ap (λ (xs : List ℕ). xs ++ escapedIn ws at j end) (sym (bytes-here ws at i j (omega arith)))
+
+  pub escaped-stretch :
+      (i j : ℕ) → i < end → Stretch Itself ws at end i j → escapedIn ws at i end ≡ spanBytes ws at i j ++ escapedIn ws at j end
+  escaped-stretch i j h f =
+      plain-each (j - i) i j (omega (arith, f .0)) (stretch-within Itself ws at end i j f h) (f .2)
 
 -- NO CHARACTER TAKES MORE THAN TEN BYTES
 others-short : (t : Bool) (c : ℕ) → length (if t then c ∷ [] else ascii "\\u{" ++ numeral 5 16 c [] ++ ascii "}") ≤ 10

@@ -42,6 +42,10 @@ escapeFrom (suc k) (b ∷ bs) = escapeFrom k bs
 abbrev pub escapedIn : List ℕ → ℕ → ℕ → ℕ → List ℕ
 escapedIn ws at start end = escapeFrom 0 (drop start (textBytes ws at end))
 
--- what a test says of a byte: it is a character that stands for itself
+-- a byte is a character that stands for itself
+abbrev pub Itself : ℕ → Type 0
+Itself b = (b < 0x80) × (escapeChar b ≡ b ∷ [])
+
+-- what a test says of a byte
 abbrev pub Plain : ℕ → Bool → Type 0
-Plain b t = t ≡ true → (b < 0x80) × (escapeChar b ≡ b ∷ [])
+Plain b t = t ≡ true → Itself b

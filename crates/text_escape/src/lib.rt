@@ -1,6 +1,8 @@
 // `escape_default` of the source, as it lies in text words, and the rows of the line table, whose last cell it is.
 use measuring::Room;
+use object::put_span;
 use object::text_byte;
+use object::whole_words;
 use text_numerals::count_digits;
 use text_numerals::count_hex;
 use text_numerals::put_hex;
@@ -10,6 +12,7 @@ use utf8::Char;
 use writing::put_bytes;
 use writing::put_u8;
 ghost use mathlib.Core.Path.{_≡_};
+ghost use mathlib.Core.Bool.{true};
 ghost use Prim.Native.Nat.{_+_, _≤_, _<_};
 ghost use lib.ListN.{length};
 ghost use lib.Dec.{leb};
@@ -17,7 +20,9 @@ ghost use Rattle.format.specs.TextWriter.{escapeChar, decimal, toRight};
 ghost use Rattle.writing.specs.Written.{Put};
 ghost use Rattle.measuring.specs.Room.{roomOf, lessPart};
 ghost use Rattle.text_numerals.specs.Memory.{knownWord};
-ghost use Rattle.text_escape.specs.Escaped.{letterOf, codeText, escapedIn, Plain};
+ghost use Rattle.object.specs.Texts.{EachIn};
+ghost use Rattle.word_chars.specs.Stretches.{Stretch};
+ghost use Rattle.text_escape.specs.Escaped.{letterOf, codeText, escapedIn, Itself, Plain};
 ghost use Rattle.text_escape.specs.Rows.{lineLine};
 
 // What a character is escaped with: \u{
@@ -131,6 +136,77 @@ fn is_plain(b: u8) -> bool
     true
 }
 
+// Whether each byte of a text word does.
+fn is_plain_word(w: u32) -> bool
+    ensures { λ r. ⌜ (r ≡ true → EachIn Itself w) ⌝ }
+{
+    if !is_plain((w % 256) as u8) {
+        return false;
+    }
+    if !is_plain((w / 256 % 256) as u8) {
+        return false;
+    }
+    is_plain((w / 65536 % 256) as u8)
+}
+
+// Bytes that stand for themselves from byte `i` on, up to the first byte of a word.
+fn plain_head(ws: &[u32], at: usize, end: usize, i: usize) -> usize
+    ensures { λ r. ⌜ Stretch Itself (now (ws .entry)) at end i r ⌝ }
+{
+    let mut k = i;
+    while k % 3 != 0 {
+        if end <= k {
+            return k;
+        }
+        if !is_plain(text_byte(ws, at, k)) {
+            return k;
+        }
+        k += 1;
+    }
+    k
+}
+
+// Whole words of them from byte `i` on.
+fn plain_words(ws: &[u32], at: usize, end: usize, i: usize) -> usize
+    ensures { λ r. ⌜ Stretch Itself (now (ws .entry)) at end i r ⌝ }
+{
+    if i % 3 != 0 {
+        return i;
+    }
+    let words = whole_words(ws, at, end);
+    let mut k = i / 3;
+    while k < words {
+        if !is_plain_word(ws[at + k]) {
+            return 3 * k;
+        }
+        k += 1;
+    }
+    3 * k
+}
+
+// They, byte by byte.
+fn plain_bytes(ws: &[u32], at: usize, end: usize, i: usize) -> usize
+    ensures { λ r. ⌜ Stretch Itself (now (ws .entry)) at end i r ⌝ }
+{
+    let mut k = i;
+    while k < end {
+        if !is_plain(text_byte(ws, at, k)) {
+            return k;
+        }
+        k += 1;
+    }
+    k
+}
+
+// Up to where the bytes from byte `i` on stand for themselves.
+fn plain_end(ws: &[u32], at: usize, end: usize, i: usize) -> usize
+    ensures { λ r. ⌜ Stretch Itself (now (ws .entry)) at end i r ⌝ }
+{
+    let head = plain_head(ws, at, end, i);
+    let words = plain_words(ws, at, end, head);
+    plain_bytes(ws, at, end, words)
+}
+
 // The room that the bytes from `start` up to `end` of a text leave, escaped.
 pub fn measure_escaped(room: usize, ws: &[u32], at: usize, start: usize, end: usize) -> Room
     ensures { λ r. ⌜ roomOf r ≡ lessPart room (escapedIn (now (ws .entry)) at start end) ⌝ }
@@ -138,23 +214,20 @@ pub fn measure_escaped(room: usize, ws: &[u32], at: usize, start: usize, end: us
     let mut left = room;
     let mut i = start;
     while i < end {
-        if is_plain(text_byte(ws, at, i)) {
-            if left == 0 {
-                return Room::Short;
-            }
-            left -= 1;
-            i += 1;
-        } else {
-            let Char::Scalar { value, more } = word_chars::char_in(ws, at, i, end) else {
-                return Room::Left(left);
-            };
-            let n = escaped_len(value);
-            if left < n {
-                return Room::Short;
-            }
-            left -= n;
-            i += more + 1;
+        let j = plain_end(ws, at, end, i);
+        if left < j - i {
+            return Room::Short;
         }
+        left -= j - i;
+        let Char::Scalar { value, more } = word_chars::char_in(ws, at, j, end) else {
+            return Room::Left(left);
+        };
+        let n = escaped_len(value);
+        if left < n {
+            return Room::Short;
+        }
+        left -= n;
+        i = j + (more + 1);
     }
     Room::Left(left)
 }
@@ -167,18 +240,13 @@ fn put_chars(out: &mut [u8], ws: &[u32], at: usize, start: usize, end: usize) ->
     let mut n = 0;
     let mut i = start;
     while i < end {
-        let b = text_byte(ws, at, i);
-        if is_plain(b) {
-            out[n] = b;
-            n += 1;
-            i += 1;
-        } else {
-            let Char::Scalar { value, more } = word_chars::char_in(ws, at, i, end) else {
-                return n;
-            };
-            n += put_escaped_char(&mut out[n..], value);
-            i += more + 1;
-        }
+        let j = plain_end(ws, at, end, i);
+        n += put_span(&mut out[n..], ws, at, i, j);
+        let Char::Scalar { value, more } = word_chars::char_in(ws, at, j, end) else {
+            return n;
+        };
+        n += put_escaped_char(&mut out[n..], value);
+        i = j + (more + 1);
     }
     n
 }

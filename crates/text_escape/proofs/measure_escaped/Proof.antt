@@ -11,10 +11,11 @@ use Rattle.format.specs.Utf8.{charAt}
 use Rattle.format.specs.TextWriter.{escapeChar}
 use Rattle.utf8.specs.Chars.{charOf}
 use Rattle.utf8.proofs.CharLaws.{char-inside}
-use Rattle.object.specs.Texts.{textBytes}
-use Rattle.word_chars.proofs.CharLaws.{byte-is, size-is}
+use Rattle.object.specs.Texts.{textBytes, spanBytes}
+use Rattle.object.proofs.SpanLaws.{span-length}
+use Rattle.word_chars.proofs.CharLaws.{size-is}
 use Rattle.text_escape.specs.Escaped.{escapedIn}
-use Rattle.text_escape.proofs.EscapeLaws.{escaped-end, escaped-none, escaped-char, escaped-plain, char-bound}
+use Rattle.text_escape.proofs.EscapeLaws.{escaped-end, escaped-some, escaped-nothing, escaped-stretch, some-bound}
 use Rattle.measuring.specs.Room.{less, lessPart}
 use Rattle.measuring.proofs.RoomLaws.{less-some, less-none, less-nothing, part-fits, part-short}
 use Rattle.word_chars.proofs.char_in.Reads as char-in-reads
@@ -28,24 +29,56 @@ Inv-loop room ws at start end left₀ i₀ left i = lessPart left (escapedIn ws 
 abbrev μ-loop : tie.MeasureT-loop
 μ-loop room ws at start end left₀ i₀ left i = end - i
 
--- in the loop
-module _ (c : tie.In-loop Inv-loop μ-loop) where
+-- in the loop, past the bytes that stand for themselves
+module _ (c : tie.After-plain-end Inv-loop μ-loop) where
   abbrev a : tie.Start Inv-loop μ-loop
-  a = c .before .before .before
+  a = c .before .before .before .before
+
+  abbrev ws : List ℕ
+  ws = now (a .args .ws)
 
   abbrev i : ℕ
-  i = c .before .loop .i
+  i = c .before .before .loop .i
+
+  abbrev j : ℕ
+  j = c .plain-end .result
+
+  abbrev room : ℕ
+  room = c .before .before .loop .left
 
   abbrev t : List ℕ
-  t = textBytes (now (a .args .ws)) (a .args .at) (a .args .end)
+  t = textBytes ws (a .args .at) (a .args .end)
 
-  inside : i < length t
-  inside = omega (arith, size-is (now (a .args .ws)) (a .args .at) (a .args .end), c .loop-test .taken)
+  abbrev plain : List ℕ
+  plain = spanBytes ws (a .args .at) i j
+
+  abbrev others : List ℕ
+  others = escapedIn ws (a .args .at) j (a .args .end)
+
+  itself : escapedIn ws (a .args .at) i (a .args .end) ≡ plain ++ others
+  itself = escaped-stretch ws (a .args .at) (a .args .end) i j (c .before .loop-test .taken) (c .plain-end .ensures)
+
+  size : length plain ≡ j - i
+  size = span-length ws (a .args .at) i j
+
+-- there is room for them
+module _ (c : tie.Else1 Inv-loop μ-loop) where
+  abbrev p : tie.After-plain-end Inv-loop μ-loop
+  p = c .before
+
+  past : lessPart (room p - (j p - i p)) (others p)
+      ≡ lessPart (a p .args .room) (escapedIn (ws p) (a p .args .at) (a p .args .start) (a p .args .end))
+  past =
+      part-fits (room p) (plain p) (others p) (itself p)
+      (less-some (room p) (j p - i p) (c .if1 .left) ∙ ap (less (room p)) (sym (size p))) ∙ p .before .before .loop .inv
 
 -- a character
 module _ (c : tie.After-known-told Inv-loop μ-loop) where
-  abbrev l : tie.In-loop Inv-loop μ-loop
-  l = c .before .before .before .before .before .before .before
+  abbrev e : tie.Else1 Inv-loop μ-loop
+  e = c .before .before .before .before
+
+  abbrev q : tie.After-plain-end Inv-loop μ-loop
+  q = p e
 
   abbrev v : ℕ
   v = c .before .value .given .0 .0
@@ -53,100 +86,45 @@ module _ (c : tie.After-known-told Inv-loop μ-loop) where
   abbrev n : ℕ
   n = c .before .value .given .0 .1 .0
 
-  char : some (v, n) ≡ charAt (drop (i l) (t l))
+  char : some (v, n) ≡ charAt (drop (j q) (t q))
   char = sym (ap charOf (c .before .value .given .1)) ∙ c .before .before .before .char-in .ensures
 
-  abbrev left : List ℕ
-  left = escapedIn (now (a l .args .ws)) (a l .args .at) (i l + (n + 1)) (a l .args .end)
+  abbrev rest : ℕ
+  rest = room q - (j q - i q)
 
-  next : escapedIn (now (a l .args .ws)) (a l .args .at) (i l) (a l .args .end) ≡ escapeChar v ++ left
-  next = escaped-char (t l) (i l) (inside l) v n char
+  abbrev after : List ℕ
+  after = escapedIn (ws q) (a q .args .at) (j q + (n + 1)) (a q .args .end)
 
-  lies : i l + n < a l .args .end
-  lies = omega (arith, char-inside (t l) (i l) v n (sym char), size-is (now (a l .args .ws)) (a l .args .at) (a l .args .end))
+  next : others q ≡ escapeChar v ++ after
+  next = escaped-some (t q) (j q) v n char
 
--- no character
-nothing :
-    (c : tie.After-enum-told Inv-loop μ-loop)
-    → escapedIn (now (a (c .before .before .before .before .before .before) .args .ws)) (a (c .before .before .before .before .before .before) .args .at) (i (c .before .before .before .before .before .before))
-    (a (c .before .before .before .before .before .before) .args .end) ≡ []
-nothing c =
-    let l = c .before .before .before .before .before .before in
-    escaped-none (t l) (i l) (inside l) (sym (ap charOf (c .enum-told .given .1)) ∙ c .before .before .char-in .ensures)
-
--- a byte that stands for itself
-module _ (c : tie.Then1 Inv-loop μ-loop) where
-  abbrev pl : tie.In-loop Inv-loop μ-loop
-  pl = c .before .before .before
-
-  abbrev b : ℕ
-  b = c .before .before .text-byte .result
-
-  abbrev others : List ℕ
-  others = escapedIn (now (a pl .args .ws)) (a pl .args .at) (i pl + 1) (a pl .args .end)
-
-  itself : escapedIn (now (a pl .args .ws)) (a pl .args .at) (i pl) (a pl .args .end) ≡ b ∷ others
-  itself =
-      escaped-plain (t pl) (i pl) (inside pl) b
-      (c .before .before .text-byte .ensures ∙ byte-is (now (a pl .args .ws)) (a pl .args .at) (a pl .args .end) (i pl) (pl .loop-test .taken))
-      (c .before .is-plain .ensures (c .if1 .taken))
-
-loop-holds : tie.Need-loop-holds Inv-loop μ-loop
-loop-holds c = refl
-
-char-in-requires : tie.Need-char-in-requires Inv-loop μ-loop
-char-in-requires c κs = search needs
-
-enum-known-value : tie.Need-enum-known-value Inv-loop μ-loop
-enum-known-value c = search needs
-
-enum-told : tie.Need-enum-told Inv-loop μ-loop
-enum-told c = search needs
+  lies : j q + n < a q .args .end
+  lies = omega (arith, char-inside (t q) (j q) v n (sym char), size-is (ws q) (a q .args .at) (a q .args .end))
 
 returns : tie.Need-returns Inv-loop μ-loop
 returns c =
-    let k = c .before in
-    let o = pl k .before .loop in
-    part-short (o .left) (b k ∷ []) (others k) (itself k) (less-none (o .left) 1 (omega (arith, c .if2 .taken))) ∙ o .inv
-
--- there is room for it
-one : (c : tie.Else2 Inv-loop μ-loop) → 1 ≤ pl (c .before) .before .loop .left
-one c = let d = c .if2 .left in omega arith
-
-loop-again : tie.Need-loop-again Inv-loop μ-loop
-loop-again c =
-    let k = c .before in
-    let o = pl k .before .loop in
-    part-fits (o .left) (b k ∷ []) (others k) (itself k) (less-some (o .left) 1 (one c)) ∙ o .inv
+    let q = c .before in
+    part-short (room q) (plain q) (others q) (itself q)
+    (less-none (room q) (j q - i q) (c .if1 .taken) ∙ ap (less (room q)) (sym (size q))) ∙ q .before .before .loop .inv
 
 returns-2 : tie.Need-returns-2 Inv-loop μ-loop
 returns-2 c =
-    let o = c .before .before .before .before .before .before .before .loop in
-    less-nothing (o .left) ∙ ap (lessPart (o .left)) (sym (nothing c)) ∙ o .inv
-
-escaped-len-requires : tie.Need-escaped-len-requires Inv-loop μ-loop
-escaped-len-requires c κs = char-bound (t (l c)) (i (l c)) (inside (l c)) (v c) (n c) (char c)
+    let d = c .before .before .before in
+    let q = p d in
+    let none-left = escaped-nothing (t q) (j q) (sym (ap charOf (c .enum-told .given .1)) ∙ c .before .before .char-in .ensures) in
+    less-nothing (room q - (j q - i q)) ∙ ap (lessPart (room q - (j q - i q))) (sym none-left) ∙ past d
 
 returns-3 : tie.Need-returns-3 Inv-loop μ-loop
-returns-3 c = let k = c .before .before in
-    let o = l k .before .loop in
-    part-short (o .left) (escapeChar (v k)) (left k) (next k)
-    (less-none (o .left) (length (escapeChar (v k))) (omega (arith, c .if3 .taken, c .before .escaped-len .ensures))) ∙ o .inv
+returns-3 c =
+    let k = c .before .before in
+    part-short (rest k) (escapeChar (v k)) (after k) (next k)
+    (less-none (rest k) (length (escapeChar (v k))) (omega (arith, c .if2 .taken, c .before .escaped-len .ensures))) ∙ past (e k)
 
-add-i-2 : tie.Need-add-i-2 Inv-loop μ-loop
-add-i-2 c = omega (arith, lies (c .before .before))
-
-add-i-3 : tie.Need-add-i-3 Inv-loop μ-loop
-add-i-3 c = omega (arith, lies (c .before .before))
-
-loop-less-2 : tie.Need-loop-less-2 Inv-loop μ-loop
-loop-less-2 c = omega (arith, lies (c .before .before))
-
-loop-again-2 : tie.Need-loop-again-2 Inv-loop μ-loop
-loop-again-2 c = let k = c .before .before in
-    let o = l k .before .loop in
-    part-fits (o .left) (escapeChar (v k)) (left k) (next k)
-    (less-some (o .left) (c .before .escaped-len .result) (c .if3 .left) ∙ ap (less (o .left)) (c .before .escaped-len .ensures)) ∙ o .inv
+loop-again : tie.Need-loop-again Inv-loop μ-loop
+loop-again c =
+    let k = c .before .before in
+    part-fits (rest k) (escapeChar (v k)) (after k) (next k)
+    (less-some (rest k) (c .before .escaped-len .result) (c .if2 .left) ∙ ap (less (rest k)) (c .before .escaped-len .ensures)) ∙ past (e k)
 
 returns-4 : tie.Need-returns-4 Inv-loop μ-loop
 returns-4 c = let o = c .before .loop in
@@ -163,22 +141,20 @@ measure-escaped-spec =
     (tie.spec
     Inv-loop
     μ-loop
-    loop-holds
+    (λ c. refl)
     (λ c κs. search needs)
-    (λ c κs. search needs)
+    (λ c. omega (arith, c .plain-end .ensures .0))
     returns
-    (λ c. omega (arith, one c))
-    (λ c. omega (arith, pl (c .before) .loop-test .taken))
-    (λ c. omega (arith, pl (c .before) .loop-test .taken))
-    loop-again
-    char-in-requires
-    enum-known-value
-    enum-told
+    (λ c. omega (arith, c .before .plain-end .ensures .0))
+    (λ c. omega (arith, c .if1 .left))
+    (λ c κs. search needs)
+    (λ c. search needs)
+    (λ c. search needs)
     returns-2
-    escaped-len-requires
+    (λ c κs. some-bound (t (q c)) (j (q c)) (v c) (n c) (char c))
     returns-3
-    add-i-2
-    add-i-3
-    loop-less-2
-    loop-again-2
+    (λ c. omega (arith, lies (c .before .before)))
+    (λ c. omega (arith, lies (c .before .before)))
+    (λ c. omega (arith, lies (c .before .before), q (c .before .before) .plain-end .ensures .0))
+    loop-again
     returns-4)
