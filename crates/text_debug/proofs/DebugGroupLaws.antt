@@ -27,9 +27,10 @@ use Rattle.text_tables.proofs.DebugLaws.{up-all}
 use Rattle.text_tables.proofs.ReadLaws.{foldl, through-parse, table-any}
 use Rattle.text_tables.proofs.LabelLaws.{label-row}
 use Rattle.text_source.specs.Stream.{sourceCell}
-use Rattle.text_debug.specs.LineTable.{lineColumns, LineTableIs}
+use Rattle.text_debug.specs.LineTable.{lineColumns, sourceIn, Makes, TableNumber, LineTableIs}
+use Rattle.text_debug.specs.declared.LineTable.{LineTable}
 use Rattle.text_debug.specs.DebugGroup.{LastBar, FirstRow, addressIn, lineBlocksIn}
-use Rattle.text_debug.specs.DebugGroup.{sourceIn, LinesSet, withoutRows, DebugSettles, DebugChecked}
+use Rattle.text_debug.specs.DebugGroup.{LinesSet, withoutRows, DebugSettles, DebugChecked}
 use Rattle.text_lines.specs.declared.Passed.the-variants as pa
 use Rattle.text_debug.proofs.RefusalLaws.{Numbered, numbered-ask, refused-by, numbered-unescape}
 use Rattle.text_debug.proofs.LineTableLaws.{Parsed, row, end, rows-28, source-of, rest, opened}
@@ -259,7 +260,7 @@ module _ (h : ObjectFile) (ls : List (List ℕ)) (l : List ℕ) (ks : List (List
           go (refused m) s = s
           go (given h′) s = absurd (ne (s .0))
 
-      module _ (k : 0 ≡ refusalOf (parseLabelTable emptyObject (splitAtBar ls .before))) (b : Bool) (m : ℕ) (is : LineTableIs rows b m)
+      module _ (k : 0 ≡ refusalOf (parseLabelTable emptyObject (splitAtBar ls .before))) (b : Bool) (m : ℕ) (is : TableNumber rows b m)
           (g : isSome (h .source) ≡ b) where
         number-of : (h′ : ObjectFile) → Kept h h′ → m ≡ refusalOf (parseLineTable h′ rows)
         number-of h′ s = is h′ (ap isSome (s .2) ∙ g)
@@ -317,7 +318,7 @@ module _ (h : ObjectFile) (ls : List (List ℕ)) (l : List ℕ) (ks : List (List
 pub checked-no : (t : List ℕ) (at : ℕ) (b : Bool) (n : ℕ) → (n ≡ 0 → ⊥)
     → ((h : ObjectFile) → isSome (h .source) ≡ b → DebugSettles false (lineView t 0 .0) h n (parseDebugGroup h (partsFrom t at .before)))
     → DebugChecked t at b (withoutRows n at)
-checked-no t at b n ne f = record { from = omega arith; after = λ z. absurd (ne z); inside = omega arith; settles = f }
+checked-no t at b n ne f = record { from = omega arith; after = λ z. absurd (ne z); inside = omega arith; makes = λ y. absurd (true≢false (sym y)); settles = f }
 
 pub checked-none : (t : List ℕ) (at : ℕ) (b : Bool) → partsFrom t at .before ≡ [] → DebugChecked t at b (withoutRows 0 at)
 checked-none t at b e =
@@ -326,6 +327,7 @@ checked-none t at b e =
           omega arith;
       after = λ z. parts-of t at _ e refl;
       inside = omega arith;
+      makes = λ y. absurd (true≢false (sym y));
       settles = λ h g. debug-none h (partsFrom t at .before) (lineView t 0 .0) e;
     }
 
@@ -345,14 +347,14 @@ module _ (t : List ℕ) (at a e n : ℕ) (r : RowAt t at a e n) (b : Bool) where
           → DebugChecked t at b (withoutRows k at)
       checked-labels k w ne = checked-no t at b k ne λ h g. debug-labels h _ _ _ first _ _ _ (bar .after) (u .2) k w ne
 
-      module _ (w : 0 ≡ refusalOf (parseLabelTable emptyObject (labelView t at .0))) (k : ℕ) (is : LineTableIs (lineView t q .0) b k) where
-        pub checked-lines : (k ≡ 0 → ⊥) → DebugChecked t at b (withoutRows k at)
-        checked-lines ne = checked-no t at b k ne λ h g. debug-lines h _ _ _ first _ _ _ (bar .after) (u .2) w b k is g ne
+      module _ (w : 0 ≡ refusalOf (parseLabelTable emptyObject (labelView t at .0))) (k : LineTable) (is : LineTableIs (lineView t q .0) b k) where
+        pub checked-lines : (k .number ≡ 0 → ⊥) → DebugChecked t at b (withoutRows (k .number) at)
+        checked-lines ne = checked-no t at b (k .number) ne λ h g. debug-lines h _ _ _ first _ _ _ (bar .after) (u .2) w b (k .number) (is .0) g ne
 
         after-bars : partsFrom t m ≡ record { before = []; groups = partsFrom t at .groups }
         after-bars = u .1 ∙ ap (λ (g : List (List ℕ × List (List ℕ))). record { before = []; groups = g }) (bar .groups)
 
-        module _ (z : k ≡ 0) where
+        module _ (z : k .number ≡ 0) where
           pub checked-unlined : isEmpty (drop 1 (lineView t q .0)) ≡ true → DebugChecked t at b (withoutRows 0 m)
           checked-unlined o =
               record {
@@ -360,16 +362,18 @@ module _ (t : List ℕ) (at a e n : ℕ) (r : RowAt t at a e n) (b : Bool) where
                     omega (arith, bar .on, u .0);
                 after = λ y. after-bars;
                 inside = omega arith;
-                settles = λ h g. debug-unlined h _ _ _ first _ _ _ (bar .after) (u .2) w b k is g z o;
+                makes = λ y. absurd (true≢false (sym y));
+                settles = λ h g. debug-unlined h _ _ _ first _ _ _ (bar .after) (u .2) w b (k .number) (is .0) g z o;
               }
 
           pub checked-lined : (p : ℕ) → FirstRow t q (pa.To p)
-              → DebugChecked t at b (record { number = 0; next = m; lined = true; rows = p })
+              → DebugChecked t at b (record { number = 0; next = m; lined = true; rows = p; lines = k .lines })
           checked-lined p o =
               record {
                 from =
                     omega (arith, bar .on, u .0);
                 after = λ y. after-bars;
                 inside = o .0;
-                settles = λ h g. debug-lined h _ _ _ first _ _ _ (bar .after) (u .2) w b k is g z (o .1) (o .2);
+                makes = λ y. subst (λ (ls : List (List ℕ)). Makes ls (k .lines)) (sym (o .2)) (is .1 z (o .1));
+                settles = λ h g. debug-lined h _ _ _ first _ _ _ (bar .after) (u .2) w b (k .number) (is .0) g z (o .1) (o .2);
               }

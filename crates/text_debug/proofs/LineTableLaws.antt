@@ -1,11 +1,12 @@
 -- The line table's number, question by question. Assumes nothing.
 use mathlib.Core.Path.{_≡_, refl, sym, ap, _∙_}
-use mathlib.Core.Bool.{Bool, true, false, not}
+use mathlib.Core.Bool.{Bool, true, false, true≢false, not}
 use mathlib.Core.List.{List, [], _∷_, _++_, map, flatMap}
 use mathlib.Core.Option.{Option, none, some}
-use Prim.Native.Nat.{ℕ, suc}
+use Prim.Native.Nat.{ℕ, suc, _^_, _%_}
 use native.Mathlib.Omega.{arith}
 use lib.Dec.{eqb}
+use lib.ListN.{length, drop}
 use Rattle.format.specs.Basics.{Outcome, refused, given, _>>=_, ask, need, isSome, isEmpty, if_then_else_}
 use Rattle.format.specs.Utf8.{trim}
 use Rattle.format.specs.ObjectFile.{ObjectFile}
@@ -17,7 +18,9 @@ use Rattle.trim.specs.Span.{part}
 use Rattle.text_lines.specs.Views.{StepAt}
 use Rattle.text_tables.specs.Debug.{Groups, lineView}
 use Rattle.text_source.specs.Stream.{sourceCell}
-use Rattle.text_debug.specs.LineTable.{lineColumns, LineTableIs}
+use Rattle.text_source.specs.Unescape.{UnescapedIs}
+use Rattle.text_source.specs.declared.Unescaped.{Unescaped}
+use Rattle.text_debug.specs.LineTable.{lineColumns, sourceIn, withoutLines, LineTableIs}
 
 abbrev pub Parsed : Type 0
 Parsed = Option ℕ × List ℕ
@@ -142,6 +145,10 @@ module _ (h : ObjectFile) where
             q ∙ ap (λ (s : List ℕ). refusalOf (unescape s)) (sym (source-of 0 rows (parsed .0) (parsed .1) .0)) ∙ rest-source (parsed .0) some-rows g ∙ to-rest
 
 -- the same at a place
+pub lines-none : (ls : List (List ℕ)) → ls ≡ [] → (b : Bool) → LineTableIs ls b (withoutLines 0)
+unfolding isEmpty
+lines-none ls e b = ((λ h g. table-empty h ls e), λ z q. absurd (true≢false (sym (ap (λ (x : List (List ℕ)). isEmpty (drop 1 x)) e) ∙ q)))
+
 module _ (t : List ℕ) (from a e n : ℕ) (s : StepAt (lineView t) t from a e n) where
   first : lineView t from .0 ≡ part a e t ∷ lineView t n .0
   first = ap (λ (p : List (List ℕ) × Groups). p .0) (s .same)
@@ -150,23 +157,35 @@ module _ (t : List ℕ) (from a e n : ℕ) (s : StepAt (lineView t) t from a e n
   unfolding isEmpty
   not-empty = ap isEmpty first
 
+  after : drop 1 (lineView t from .0) ≡ lineView t n .0
+  after = ap (drop 1) first
+
   as-lines : (h : ObjectFile) (k : ℕ) → k ≡ refusalOf (parseLineTable h (part a e t ∷ lineView t n .0)) → k ≡ refusalOf (parseLineTable h (lineView t from .0))
   as-lines h k q = q ∙ ap (λ (ls : List (List ℕ)). refusalOf (parseLineTable h ls)) (sym first)
 
-  pub header-bad : sameCells (map trim (splitn 2 (part a e t))) lineColumns ≡ false → (b : Bool) → LineTableIs (lineView t from .0) b 28
-  header-bad q b h g = as-lines h 28 (table-header h (part a e t) (lineView t n .0) q)
+  pub header-bad : sameCells (map trim (splitn 2 (part a e t))) lineColumns ≡ false → (b : Bool) → LineTableIs (lineView t from .0) b (withoutLines 28)
+  header-bad q b = ((λ h g. as-lines h 28 (table-header h (part a e t) (lineView t n .0) q)), λ z. absurd (omega (arith, z)))
 
   module _ (q : sameCells (map trim (splitn 2 (part a e t))) lineColumns ≡ true) (b : Bool) where
-    pub rows-bad : (k : ℕ) → k ≡ refusalOf (parseLineRows 0 (lineView t n .0)) → (k ≡ 0 → ⊥) → LineTableIs (lineView t from .0) b k
-    rows-bad k w ne h g = as-lines h k (table-bad h (part a e t) (lineView t n .0) q k w ne)
+    pub rows-bad : (k : ℕ) → k ≡ refusalOf (parseLineRows 0 (lineView t n .0)) → (k ≡ 0 → ⊥) → LineTableIs (lineView t from .0) b (withoutLines k)
+    rows-bad k w ne = ((λ h g. as-lines h k (table-bad h (part a e t) (lineView t n .0) q k w ne)), λ z. absurd (ne z))
 
     module _ (z : 0 ≡ refusalOf (parseLineRows 0 (lineView t n .0))) where
-      pub rows-none : lineView t n .0 ≡ [] → LineTableIs (lineView t from .0) b 0
-      rows-none w h g = as-lines h 0 (table-none h (part a e t) (lineView t n .0) q z w)
+      pub rows-none : lineView t n .0 ≡ [] → LineTableIs (lineView t from .0) b (withoutLines 0)
+      unfolding isEmpty
+      rows-none w = (
+        (λ h g. as-lines h 0 (table-none h (part a e t) (lineView t n .0) q z w)),
+        λ y o. absurd (true≢false (sym (ap isEmpty (after ∙ w)) ∙ o)),
+      )
 
       module _ (w : isEmpty (lineView t n .0) ≡ false) where
-        pub rows-again : b ≡ true → LineTableIs (lineView t from .0) b 29
-        rows-again y h g = as-lines h 29 (table-again h (part a e t) (lineView t n .0) q z w (g ∙ y))
+        pub rows-again : b ≡ true → LineTableIs (lineView t from .0) b (withoutLines 29)
+        rows-again y = ((λ h g. as-lines h 29 (table-again h (part a e t) (lineView t n .0) q z w (g ∙ y))), λ o. absurd (omega (arith, o)))
 
-        pub rows-source : b ≡ false → (k : ℕ) → k ≡ refusalOf (unescape (flatMap sourceCell (lineView t n .0))) → LineTableIs (lineView t from .0) b k
-        rows-source y k u h g = as-lines h k (table-source h (part a e t) (lineView t n .0) q z w (g ∙ y) k u)
+        pub rows-source : b ≡ false → (u : Unescaped) → UnescapedIs (unescape (flatMap sourceCell (lineView t n .0))) u
+            → LineTableIs (lineView t from .0) b (record { number = u .number; lines = record { len = u .len } })
+        unfolding sourceIn
+        rows-source y u k = (
+          (λ h g. as-lines h (u .number) (table-source h (part a e t) (lineView t n .0) q z w (g ∙ y) (u .number) (k .0))),
+          λ o v. k .1 ∙ ap (λ (ls : List (List ℕ)). length (sourceIn ls) % 2 ^ 64) (sym after),
+        )

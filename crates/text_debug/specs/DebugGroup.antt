@@ -5,7 +5,7 @@ use mathlib.Core.List.{List, [], map, flatMap}
 use mathlib.Core.Option.{Option, none, some}
 use Prim.Native.Nat.{ℕ, _≤_, _<_}
 use lib.ListN.{length, drop}
-use Rattle.format.specs.Basics.{Outcome, refused, given, andThen, givenOr, isSome, isEmpty}
+use Rattle.format.specs.Basics.{Outcome, refused, given, andThen, isSome, isEmpty}
 use Rattle.format.specs.ObjectFile.{LineBlock, ObjectFile}
 use Rattle.format.specs.TextReader.{runsFrom, unescape, upToBar, parseDebugGroup}
 use Rattle.text_lines.specs.declared.Passed.{Passed}
@@ -14,6 +14,7 @@ use Rattle.text_lines.specs.Groups.{partsFrom}
 use Rattle.text_tables.specs.Debug.{lineView}
 use Rattle.text_tables.specs.LineRows.{lineIn}
 use Rattle.text_source.specs.Stream.{sourceCell}
+use Rattle.text_debug.specs.LineTable.{sourceIn, Makes}
 use Rattle.text_debug.specs.declared.DebugGroup.{DebugGroup}
 
 -- the place after the group, where its last line begins with =; the line table is then all but this line
@@ -37,10 +38,6 @@ addressIn l = andThen (lineIn l) λ r. r .1
 unfoldable pub lineBlocksIn : List (List ℕ) → List LineBlock
 lineBlocksIn ls = runsFrom 0 [] (map addressIn ls)
 
--- "Joined source unescapes": the source in them, empty where it doesn't
-unfoldable pub sourceIn : List (List ℕ) → List ℕ
-sourceIn ls = givenOr (unescape (flatMap sourceCell ls)) []
-
 -- from one object to the next: the line blocks and the source are those of a line table's rows, which unescape, or stand as before
 abbrev pub LinesSet : Bool → List (List ℕ) → ObjectFile → ObjectFile → Type 0
 LinesSet true ls h h′ =
@@ -49,7 +46,7 @@ LinesSet false ls h h′ = (h′ .lineBlocks ≡ h .lineBlocks) × (h′ .source
 
 -- the answer for a group that has no rows of lines
 abbrev pub withoutRows : ℕ → ℕ → DebugGroup
-withoutRows number next = record { number = number; next = next; lined = false; rows = 0 }
+withoutRows number next = record { number = number; next = next; lined = false; rows = 0; lines = record { len = 0 } }
 
 -- an outcome has this number, never 0 for a refusal; with 0 the blocks stand, and the lines are set or stand
 abbrev pub DebugSettles : Bool → List (List ℕ) → ObjectFile → ℕ → Outcome ObjectFile → Type 0
@@ -57,10 +54,11 @@ DebugSettles lined ls h number (refused n) = (number ≡ n) × (0 < n)
 DebugSettles lined ls h number (given h′) = (number ≡ 0) × (h′ .blocks ≡ h .blocks) × LinesSet lined ls h h′
 
 -- What a check of .DEBUG's lines comes to, for every object that has a source, or that has none: the number, the place after the
--- group, and the place of the line table's rows, where it has rows. Refused, it is at the group's place and has no rows.
+-- group, and the place of the line table's rows and what they make, where it has rows. Refused, it is at the group's place and has no rows.
 pub record DebugChecked (t : List ℕ) (at : ℕ) (sourced : Bool) (r : DebugGroup) : Type 0 where
   pub from : at ≤ r .next
   pub after : r .number ≡ 0 → partsFrom t (r .next) ≡ record { before = []; groups = partsFrom t at .groups }
   pub inside : r .rows ≤ length t
+  pub makes : r .lined ≡ true → Makes (lineView t (r .rows) .0) (r .lines)
   pub settles : (h : ObjectFile) → isSome (h .source) ≡ sourced
       → DebugSettles (r .lined) (lineView t (r .rows) .0) h (r .number) (parseDebugGroup h (partsFrom t at .before))

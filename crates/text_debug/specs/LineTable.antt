@@ -1,16 +1,36 @@
--- The line table's number. Assumes nothing.
+-- The line table's number, and what its rows make. Assumes nothing.
 use mathlib.Core.Path.{_≡_}
-use mathlib.Core.Bool.{Bool}
-use mathlib.Core.List.{List, [], _∷_}
-use Prim.Native.Nat.{ℕ}
-use Rattle.format.specs.Basics.{ascii, isSome}
+use mathlib.Core.Bool.{Bool, false}
+use mathlib.Core.List.{List, [], _∷_, flatMap}
+use Prim.Native.Nat.{ℕ, _^_, _%_}
+use lib.ListN.{length, drop}
+use Rattle.format.specs.Basics.{ascii, givenOr, isSome, isEmpty}
 use Rattle.format.specs.ObjectFile.{ObjectFile}
-use Rattle.format.specs.TextReader.{parseLineTable}
+use Rattle.format.specs.TextReader.{unescape, parseLineTable}
 use Rattle.format.specs.Calls.{refusalOf}
+use Rattle.text_source.specs.Stream.{sourceCell}
+use Rattle.text_debug.specs.declared.Lines.{Lines}
+use Rattle.text_debug.specs.declared.LineTable.{LineTable}
 
 abbrev pub lineColumns : List (List ℕ)
 lineColumns = ascii "LINE" ∷ ascii "ADDR" ∷ ascii "SOURCE" ∷ []
 
+-- "Joined source unescapes": the source in rows, empty where it doesn't
+unfoldable pub sourceIn : List (List ℕ) → List ℕ
+sourceIn ls = givenOr (unescape (flatMap sourceCell ls)) []
+
+-- what rows make: the bytes of their source, as 64 bits count
+abbrev pub Makes : List (List ℕ) → Lines → Type 0
+Makes ls r = r .len ≡ length (sourceIn ls) % 2 ^ 64
+
+-- the answer for a line table that is refused, or that has no rows
+abbrev pub withoutLines : ℕ → LineTable
+withoutLines number = record { number = number; lines = record { len = 0 } }
+
 -- the number of these lines as a line table, for every object that has a source, or that has none
-abbrev pub LineTableIs : List (List ℕ) → Bool → ℕ → Type 0
-LineTableIs ls sourced number = (h : ObjectFile) → isSome (h .source) ≡ sourced → number ≡ refusalOf (parseLineTable h ls)
+abbrev pub TableNumber : List (List ℕ) → Bool → ℕ → Type 0
+TableNumber ls sourced number = (h : ObjectFile) → isSome (h .source) ≡ sourced → number ≡ refusalOf (parseLineTable h ls)
+
+-- and, where it reads and has rows, what these make
+abbrev pub LineTableIs : List (List ℕ) → Bool → LineTable → Type 0
+LineTableIs ls sourced r = TableNumber ls sourced (r .number) × (r .number ≡ 0 → isEmpty (drop 1 ls) ≡ false → Makes (drop 1 ls) (r .lines))

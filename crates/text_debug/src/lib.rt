@@ -15,7 +15,7 @@ ghost use mathlib.Core.List.{map};
 ghost use Rattle.format.specs.Utf8.{trim};
 ghost use Rattle.format.specs.TextReader.{splitn, sameCells};
 ghost use Rattle.text_tables.specs.Debug.{lineView};
-ghost use Rattle.text_debug.specs.LineTable.{lineColumns, LineTableIs};
+ghost use Rattle.text_debug.specs.LineTable.{lineColumns, withoutLines, LineTableIs};
 ghost use Rattle.text_debug.specs.DebugGroup.{LastBar, FirstRow, withoutRows, DebugChecked};
 
 const LINE: [u8; 4] = [0x4C, 0x49, 0x4E, 0x45];
@@ -40,19 +40,40 @@ fn parse_line_header(l: &[u8]) -> bool
     cell_is(l, 2, 2, &source)
 }
 
-// The number of the line table that starts at a place, where a source stands already or none does: 28, 29, 30.
-pub fn parse_line_table(t: &[u8], from: usize, sourced: bool) -> u8
+// What the rows of a line table make: how many bytes of source, as 64 bits count.
+pub struct Lines {
+    pub len: usize,
+}
+
+// A line table's number, and what its rows make, where it reads and has rows.
+pub struct LineTable {
+    pub number: u8,
+    pub lines: Lines,
+}
+
+// A line table that is refused, or has no rows.
+fn without_lines(number: u8) -> LineTable
+    ensures { λ r. ⌜ r ≡ withoutLines number ⌝ }
+{
+    LineTable {
+        number: number,
+        lines: Lines { len: 0 },
+    }
+}
+
+// The line table that starts at a place, where a source stands already or none does: 28, 29, 30.
+pub fn parse_line_table(t: &[u8], from: usize, sourced: bool) -> LineTable
     ensures { λ r. ⌜ LineTableIs (lineView (now (t .entry)) from .0) sourced r ⌝ }
 {
     let Line::At { start, end, next } = next_source_line(t, from) else {
-        return 0;
+        return without_lines(0);
     };
     if !parse_line_header(&t[start..end]) {
-        return 28;
+        return without_lines(28);
     }
     let n = parse_line_rows(t, next);
     if n != 0 {
-        return n;
+        return without_lines(n);
     }
     let Line::At {
         start: _,
@@ -60,27 +81,33 @@ pub fn parse_line_table(t: &[u8], from: usize, sourced: bool) -> u8
         next: _,
     } = next_source_line(t, next)
     else {
-        return 0;
+        return without_lines(0);
     };
     if sourced {
-        return 29;
+        return without_lines(29);
     }
-    unescape(
+    let u = unescape(
         t,
         Source {
             at: 0,
             end: 0,
             next: next,
         },
-    )
+    );
+    LineTable {
+        number: u.number,
+        lines: Lines { len: u.len },
+    }
 }
 
-// What a .DEBUG group's check comes to, the place after the group, and the place of its line table's rows, if there are rows.
+// What a .DEBUG group's check comes to, the place after the group, and the place of its line table's rows and what they make, if there are
+// rows.
 pub struct DebugGroup {
     pub number: u8,
     pub next: usize,
     pub lined: bool,
     pub rows: usize,
+    pub lines: Lines,
 }
 
 // The place after the group, if its last line begins with `=`.
@@ -133,6 +160,7 @@ fn without_rows(number: u8, next: usize) -> DebugGroup
         next: next,
         lined: false,
         rows: 0,
+        lines: Lines { len: 0 },
     }
 }
 
@@ -159,16 +187,18 @@ pub fn parse_debug(t: &[u8], at: usize, sourced: bool) -> DebugGroup
         return without_rows(n, at);
     }
     let m = parse_line_table(t, bar, sourced);
-    if m != 0 {
-        return without_rows(m, at);
+    if m.number != 0 {
+        return without_rows(m.number, at);
     }
     let Passed::To(rows) = first_line_row(t, bar) else {
         return without_rows(0, next);
     };
+    let lines = m.lines;
     DebugGroup {
         number: 0,
         next: next,
         lined: true,
         rows: rows,
+        lines: lines,
     }
 }

@@ -29,7 +29,7 @@ use Rattle.text_scan.specs.Scan.{Read, Scans}
 use Rattle.text_rows.proofs.FileLaws.{PartsOf, text-parts}
 use Rattle.text_labels.specs.Labels.{labelsOf}
 use Rattle.text_labels.proofs.FileLaws.{text-words}
-use Rattle.text_read.specs.SourceText.{sourceAt, Unescapes, Countable}
+use Rattle.text_read.specs.SourceText.{sourceAt, Unescapes, Counted}
 use Rattle.text_read.specs.Parts.{joined, rowParts, lineParts, sourceParts, relocationParts, keepsRelocations, objectParts}
 use Rattle.text_read.proofs.PartLaws.{from4, joined-parts, joined1, joined2, joined3}
 
@@ -158,12 +158,15 @@ module _ (s t : List ℕ) (r : Scanned) (q : Scans t (textObject s) r) (z : r .n
       let x = read-given s t r q z in
       ap (λ (o : Outcome ObjectFile). o >>= λ h. given (wordsOf h)) (x .1) ∙ ap given (file-words s t r (x .0) (x .1) (x .2))
 
-  pub read-countable : length s < 2 ^ 63 → r .sourced ≡ true → Countable t (r .rows)
-  read-countable l y =
-      let x = read-given s t r q z in (
-        file-unescapes s t r (x .0) (x .1) (x .2) y,
-        (let k = file-source s t r (x .0) (x .1) (x .2) y in omega arith),
-      )
+  pub read-unescapes : r .sourced ≡ true → Unescapes t (r .rows)
+  read-unescapes y = let x = read-given s t r q z in file-unescapes s t r (x .0) (x .1) (x .2) y
+
+  pub read-counted : length s < 2 ^ 63 → r .sourced ≡ true → Counted t (r .rows) (r .lines)
+  read-counted l y =
+      let x = read-given s t r q z in
+      let few = file-source s t r (x .0) (x .1) (x .2) y in
+      let len = x .2 .lines .makes y in
+      (omega (arith, len, few), omega (arith, len, few))
 
   pub read-inside : r .end ≡ length t
   read-inside = let x = read-given s t r q z in x .2 .end
@@ -211,8 +214,11 @@ module _ (s : List ℕ) (r : Scanned) (q : Scans (take (r .end) s) (textObject s
   pub lent-inside : r .end ≤ length s
   lent-inside = omega (arith, read-inside s (take (r .end) s) r q z, length-take (r .end) s)
 
-  pub lent-countable : length s < 2 ^ 63 → r .sourced ≡ true → Countable (take (r .end - 0) s) (r .rows)
-  lent-countable l y = subst (λ (t : List ℕ). Countable t (r .rows)) cut-is (read-countable s (take (r .end) s) r q z l y)
+  pub lent-unescapes : r .sourced ≡ true → Unescapes (take (r .end - 0) s) (r .rows)
+  lent-unescapes y = subst (λ (t : List ℕ). Unescapes t (r .rows)) cut-is (read-unescapes s (take (r .end) s) r q z y)
+
+  pub lent-counted : length s < 2 ^ 63 → r .sourced ≡ true → Counted (take (r .end - 0) s) (r .rows) (r .lines)
+  lent-counted l y = subst (λ (t : List ℕ). Counted t (r .rows) (r .lines)) cut-is (read-counted s (take (r .end) s) r q z l y)
 
   pub lent-parts : (u : List ℕ) → trim s ≡ u
       → objectParts u (take (r .end - 0) s) (r .sourced) (r .rows) ≡ objectParts (trim s) (take (r .end) s) (r .sourced) (r .rows)

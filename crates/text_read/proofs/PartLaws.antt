@@ -21,11 +21,11 @@ use Rattle.text_scan.specs.Walk.{lineBlocksOf, sourceOf}
 use Rattle.text_labels.specs.Labels.{labelsOf}
 use Rattle.text_words.specs.Written.{putEach, PutEach}
 use Rattle.text_words.specs.Room.{roomFor, roomAfter}
-use Rattle.text_words.proofs.RoomLaws.{room-one, rooms-short, rooms-on, room-is}
+use Rattle.text_words.proofs.RoomLaws.{room-one, rooms-none, rooms-short, rooms-on, room-is}
 use Rattle.text_words.proofs.PutLaws.{put-fits}
 use Rattle.text_read.specs.Runs.{blockWords}
 use Rattle.text_read.specs.SourceText.{sourceAt}
-use Rattle.text_read.specs.Parts.{joined, rowParts, labelParts, lineParts, sourceParts, relocationParts}
+use Rattle.text_read.specs.Parts.{joined, rowParts, labelParts, lineParts, sourceParts, sourceRoom, relocationParts}
 use Rattle.text_read.specs.Parts.{keepsRelocations, objectParts}
 
 module _ (sourced : Bool) (t : List ℕ) (rows : ℕ) where
@@ -80,7 +80,7 @@ module _ (sourced : Bool) (t : List ℕ) (rows : ℕ) (e : sourced ≡ true) (ro
   size : length (0x8000_0000 ∷ textWords (sourceAt t rows)) ≡ suc ((length (sourceAt t rows) + 2) / 3)
   size = ap suc (length-words (sourceAt t rows))
 
-  pub source-counted : (n : ℕ) → n ≡ length (sourceAt t rows) → (o : Option ℕ) → o ≡ roomFor (1 + (n + 2) / 3) room
+  source-counted : (n : ℕ) → n ≡ length (sourceAt t rows) → (o : Option ℕ) → o ≡ roomFor (1 + (n + 2) / 3) room
       → o ≡ roomAfter (sourceParts sourced t rows) room
   source-counted n q o w =
       let m : ℕ = length (sourceAt t rows) in
@@ -88,6 +88,20 @@ module _ (sourced : Bool) (t : List ℕ) (rows : ℕ) (e : sourced ≡ true) (ro
       same-room _ _ room o
       (room-one (0x8000_0000 ∷ textWords (sourceAt t rows)) room o (w ∙ ap (λ (k : ℕ). roomFor k room) (z ∙ sym size)))
       (sym (source-some sourced t rows e))
+
+pub source-room-none : (sourced : Bool) (len room : ℕ) → sourced ≡ false → some room ≡ sourceRoom sourced len room
+unfolding sourceRoom
+source-room-none sourced len room e = simp e
+
+pub source-room-some : (sourced : Bool) (len room : ℕ) → sourced ≡ true → roomFor (1 + (len + 2) / 3) room ≡ sourceRoom sourced len room
+unfolding sourceRoom
+source-room-some sourced len room e = simp e
+
+pub source-room-is : (sourced : Bool) (t : List ℕ) (rows len room : ℕ) → (sourced ≡ true → len ≡ length (sourceAt t rows))
+    → sourceRoom sourced len room ≡ roomAfter (sourceParts sourced t rows) room
+unfolding sourceRoom
+source-room-is true t rows len room q = source-counted true t rows refl room len (q refl) _ refl
+source-room-is false t rows len room q = rooms-none _ room (source-none false t rows refl)
 
 -- RELOCATIONS are kept where there are words of labels, or a source
 labels-words : (ls : List Label) → isEmpty ls ≡ eqb (length (joined (map recordWords (map label ls)))) 0

@@ -4,7 +4,7 @@ use mathlib.Core.Bool.{true}
 use mathlib.Core.List.{List, [], _∷_, _++_, flatMap}
 use Prim.Native.Nat.{ℕ, suc, _+_, _-_, _*_, _≤_, _<_}
 use native.Mathlib.Omega.{arith}
-use lib.ListN.{length, take, drop, getD, set, length-append, drop-of-length-le}
+use lib.ListN.{length, take, drop, getD, set, drop-of-length-le}
 use lib.Seq.{take-at}
 use Rattle.format.specs.Basics.{refused, given}
 use Rattle.format.specs.Digits.{valueOf}
@@ -21,7 +21,6 @@ use Rattle.format.proofs.WordsOnly.{bind-given, given-same}
 use Rattle.text_source.specs.declared.Source.{Source}
 use Rattle.text_source.specs.Stream.{sourceFrom, bytesLeft}
 use Rattle.text_source.specs.Unescape.{tokensLeft, TokenAt}
-use borrow.Author.Tests.{lt-ltb, le-ltb}
 use Rattle.text_bound.proofs.Pieces.{encode-few}
 use Rattle.writing.proofs.Parts.{Emits, begin, emit-one, room-one, has-room, emitted, same}
 use Rattle.text_read.specs.declared.Held.{Held}
@@ -251,22 +250,6 @@ module _ (v : ℕ) (bytes after : List ℕ) (n : ℕ) (z : isScalar v ≡ true) 
       ap₂ take (p .0 ∙ filled-fits (scalarBytes v) bytes fits) (p .1 ∙ written-fits (scalarBytes v) bytes fits)
       ∙ take-at (scalarBytes v) (drop (length (scalarBytes v)) bytes) (length (scalarBytes v)) refl ∙ bytes-are
 
-pub length-one : (v : ℕ) → v < 0x80 → 1 ≡ length (encodeScalar v)
-unfolding encodeScalar
-length-one v h = rw (lt-ltb v 0x80 h) refl
-
-pub length-two : (v : ℕ) → 0x80 ≤ v → v < 0x800 → 2 ≡ length (encodeScalar v)
-unfolding encodeScalar
-length-two v g h = rw (le-ltb v 0x80 g, lt-ltb v 0x800 h) refl
-
-pub length-three : (v : ℕ) → 0x800 ≤ v → v < 0x10000 → 3 ≡ length (encodeScalar v)
-unfolding encodeScalar
-length-three v g h = rw (le-ltb v 0x80 (omega arith), le-ltb v 0x800 g, lt-ltb v 0x10000 h) refl
-
-pub length-four : (v : ℕ) → 0x10000 ≤ v → 4 ≡ length (encodeScalar v)
-unfolding encodeScalar
-length-four v g = rw (le-ltb v 0x80 (omega arith), le-ltb v 0x800 (omega arith), le-ltb v 0x10000 g) refl
-
 -- TOKENS
 abbrev joined : List (List ℕ) → List ℕ
 joined ts = flatMap (λ t. t) ts
@@ -346,24 +329,3 @@ module _ (t : List ℕ) (rows : ℕ) (room out : List ℕ) (cur : Source) (h : H
 
     pub draining-end : (r : ℕ) (after : List ℕ) → Flushes h out r after → Put (textWords (sourceAt t rows)) room r after
     draining-end r after w = w (textWords (sourceAt t rows)) room last
-
--- and counted
-pub record Measuring (t : List ℕ) (rows : ℕ) (cur : Source) (n : ℕ) : Type 0 where
-  pub left : List ℕ
-  pub drains : Drains t cur left
-  pub count : n + length left ≡ length (sourceAt t rows)
-
-pub measuring-begin : (t : List ℕ) (rows : ℕ) → Unescapes t rows → Measuring t rows (atRows rows) 0
-measuring-begin t rows u = record { left = sourceAt t rows; drains = drains-begin t rows u; count = omega arith }
-
-module _ (t : List ℕ) (rows : ℕ) (cur : Source) (n : ℕ) (s : Measuring t rows cur n) where
-  pub measuring-on : (bs : List ℕ) (d : Source) → TokenAt t cur bs d → (k : ℕ) → k ≡ length bs → Measuring t rows d (n + k)
-  measuring-on bs d w k e =
-      let x = drains-on t cur (s .left) (s .drains) bs d w in
-      record { left = x .0; drains = x .2; count = omega (arith, s .count, e, ap length (x .1), length-append bs (x .0)) }
-
-  pub measuring-small : n ≤ length (sourceAt t rows)
-  measuring-small = omega (arith, s .count)
-
-  pub measuring-end : bytesLeft t cur ≡ [] → n ≡ length (sourceAt t rows)
-  measuring-end e = omega (arith, s .count, ap length (drains-done t cur (s .left) (s .drains) e))

@@ -2,7 +2,8 @@
 -- trimming leaves, where the rows of the line table are. Assumes nothing.
 use mathlib.Core.Bool.{Bool, _&&_, not}
 use mathlib.Core.List.{List, [], _++_, map, flatMap}
-use Prim.Native.Nat.{ℕ}
+use mathlib.Core.Option.{Option, some}
+use Prim.Native.Nat.{ℕ, _+_, _/_}
 use Rattle.format.specs.Basics.{if_then_else_, isEmpty}
 use Rattle.format.specs.Sorted.{sorted}
 use Rattle.format.specs.Records.{label, sourceRecords}
@@ -11,6 +12,7 @@ use Rattle.text_tables.specs.Debug.{lineView}
 use Rattle.text_scan.specs.Walk.{lineBlocksOf, sourceOf}
 use Rattle.text_rows.specs.Rows.{rowKey, rowsOf}
 use Rattle.text_labels.specs.Labels.{labelsOf}
+use Rattle.text_words.specs.Room.{roomFor}
 use Rattle.text_read.specs.Runs.{blockWords}
 
 abbrev pub joined : List (List ℕ) → List ℕ  -- parts one after the other
@@ -27,6 +29,9 @@ lineParts sourced t rows = blockWords (lineBlocksOf sourced (lineView t rows .0)
 
 abbrev pub sourceParts : Bool → List ℕ → ℕ → List (List ℕ)  -- of the source
 sourceParts sourced t rows = map recordWords (sourceRecords (sourceOf sourced (lineView t rows .0)))
+
+unfoldable pub sourceRoom : Bool → ℕ → ℕ → Option ℕ  -- the room after it, where it has so many bytes
+sourceRoom sourced len room = if sourced then roomFor (1 + (len + 2) / 3) room else some room
 
 unfoldable pub relocationParts : Bool → List ℕ → List (List ℕ)  -- of each relocation, if they are kept
 relocationParts kept u = if kept then rowParts 2 u else []

@@ -10,7 +10,8 @@ use Rattle.writing.specs.Written.{Put}
 use Rattle.writing.proofs.Parts.{Emits}
 use Rattle.text_tables.specs.Debug.{lineView}
 use Rattle.text_source.specs.Stream.{sourceFrom}
-use Rattle.text_debug.specs.DebugGroup.{sourceIn}
+use Rattle.text_debug.specs.declared.Lines.{Lines}
+use Rattle.text_debug.specs.LineTable.{sourceIn}
 use Rattle.text_read.specs.declared.Held.{Held}
 
 -- the source in the rows from a place on
@@ -21,9 +22,9 @@ sourceAt t rows = sourceIn (lineView t rows .0)
 abbrev pub Unescapes : List ℕ → ℕ → Type 0
 Unescapes t rows = unescape (sourceFrom t rows) ≡ given (sourceAt t rows)
 
--- and 64 bits can count the bytes of the source
-abbrev pub Countable : List ℕ → ℕ → Type 0
-Countable t rows = Unescapes t rows × (length (sourceAt t rows) < 2 ^ 63)
+-- what they make: the bytes of the source, which 64 bits can count
+abbrev pub Counted : List ℕ → ℕ → Lines → Type 0
+Counted t rows lines = (lines .len ≡ length (sourceAt t rows)) × (lines .len < 2 ^ 63)
 
 -- the bytes held over, at most two, whose value is kept low byte first
 abbrev pub HeldIs : Held → List ℕ → Type 0

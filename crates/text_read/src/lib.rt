@@ -1,5 +1,6 @@
 // The text reader: how many words a text file makes, and the words.
 use encode::encode_scalar;
+use text_debug::Lines;
 use text_labels::labels_room;
 use text_labels::put_labels;
 use text_lines::Line;
@@ -21,7 +22,7 @@ use writing::put_word;
 ghost use mathlib.Core.Path.{_≡_};
 ghost use mathlib.Core.Bool.{true, _||_, not};
 ghost use mathlib.Core.List.{[], _∷_, map};
-ghost use Prim.Native.Nat.{_≤_};
+ghost use Prim.Native.Nat.{_^_, _≤_, _<_};
 ghost use lib.ListN.{length, take};
 ghost use lib.Dec.{eqb};
 ghost use Rattle.format.specs.Calls.{readText, fill, measured};
@@ -34,8 +35,8 @@ ghost use Rattle.text_debug.specs.DebugGroup.{addressIn, lineBlocksIn};
 ghost use Rattle.text_words.specs.Written.{PutEach};
 ghost use Rattle.text_words.specs.Room.{roomOf, roomFor, roomAfter};
 ghost use Rattle.text_read.specs.Runs.{addressesFrom, NextRun, blockWords, runParts, runRoom};
-ghost use Rattle.text_read.specs.Parts.{joined, lineParts, sourceParts, relocationParts, objectParts};
-ghost use Rattle.text_read.specs.SourceText.{sourceAt, Unescapes, Countable, Ready, Pushes, Flushes};
+ghost use Rattle.text_read.specs.Parts.{joined, lineParts, sourceParts, sourceRoom, relocationParts, objectParts};
+ghost use Rattle.text_read.specs.SourceText.{sourceAt, Unescapes, Counted, Ready, Pushes, Flushes};
 
 // A run of rows with an address: how many, and the place after the row without one that ends it; or one that reaches the last row.
 enum Run {
@@ -303,58 +304,6 @@ fn put_source_text(out: &mut [u32], t: &[u8], rows: usize) -> usize
     }
 }
 
-// How many bytes a scalar value has.
-fn scalar_length(v: u32) -> usize
-    ensures { λ r. ⌜ r ≡ length (encodeScalar v) ⌝ }
-{
-    if v < 0x80 {
-        return 1;
-    }
-    if v < 0x800 {
-        return 2;
-    }
-    if v < 0x10000 {
-        return 3;
-    }
-    4
-}
-
-// How many bytes the source has.
-fn source_length(t: &[u8], rows: usize) -> usize
-    requires { ⌜ Countable (now t) rows ⌝ }
-    ensures { λ r. ⌜ r ≡ length (sourceAt (now (t .entry)) rows) ⌝ }
-{
-    let mut n: usize = 0;
-    let mut cur = Source {
-        at: 0,
-        end: 0,
-        next: rows,
-    };
-    loop {
-        let token = next_token(t, cur);
-        match token {
-            Token::Plain(_, d) => {
-                n += 1;
-                cur = d;
-            }
-            Token::Scalar(v, d) => {
-                n += scalar_length(v);
-                cur = d;
-            }
-            Token::Stretch(a, e, d) => {
-                n += e - a;
-                cur = d;
-            }
-            Token::Bad => {
-                return 0;
-            }
-            Token::Done => {
-                return n;
-            }
-        }
-    }
-}
-
 // The room after n words.
 fn take_room(room: usize, n: usize) -> Room
     ensures { λ r. ⌜ roomOf r ≡ roomFor n room ⌝ }
@@ -365,16 +314,15 @@ fn take_room(room: usize, n: usize) -> Room
     Room::Left(room - n)
 }
 
-// The room after the source.
-fn source_room(t: &[u8], sourced: bool, rows: usize, room: usize) -> Room
-    requires { ⌜ (sourced ≡ true → Countable (now t) rows) ⌝ }
-    ensures { λ r. ⌜ roomOf r ≡ roomAfter (sourceParts sourced (now (t .entry)) rows) room ⌝ }
+// The room after the source, if there is one, of so many bytes.
+fn source_room(sourced: bool, len: usize, room: usize) -> Room
+    requires { ⌜ (sourced ≡ true → len < 2 ^ 63) ⌝ }
+    ensures { λ r. ⌜ roomOf r ≡ sourceRoom sourced len room ⌝ }
 {
     if !sourced {
         return Room::Left(room);
     }
-    let n = source_length(t, rows);
-    take_room(room, 1 + (n + 2) / 3)
+    take_room(room, 1 + (len + 2) / 3)
 }
 
 // The room after the line blocks, if there are rows of lines.
@@ -442,8 +390,8 @@ fn keeps_relocations(sourced: bool, labels: usize) -> bool
 }
 
 // The room after the five parts.
-fn object_room(u: &[u8], t: &[u8], sourced: bool, rows: usize, room: usize) -> Room
-    requires { ⌜ (sourced ≡ true → Countable (now t) rows) ⌝ }
+fn object_room(u: &[u8], t: &[u8], sourced: bool, rows: usize, lines: Lines, room: usize) -> Room
+    requires { ⌜ (sourced ≡ true → Counted (now t) rows lines) ⌝ }
     ensures { λ r. ⌜ roomOf r ≡ roomAfter (objectParts (now (u .entry)) (now (t .entry)) sourced rows) room ⌝ }
 {
     let Room::Left(a) = rows_room(u, 0, room) else {
@@ -455,7 +403,7 @@ fn object_room(u: &[u8], t: &[u8], sourced: bool, rows: usize, room: usize) -> R
     let Room::Left(c) = lines_room(t, sourced, rows, b) else {
         return Room::Short;
     };
-    let Room::Left(d) = source_room(t, sourced, rows, c) else {
+    let Room::Left(d) = source_room(sourced, lines.len, c) else {
         return Room::Short;
     };
     relocations_room(u, keeps_relocations(sourced, a - b), d)
@@ -492,12 +440,14 @@ pub fn text_length(s: &[u8]) -> Measured
     let from = w.start;
     let to = w.end;
     let end = scanned.end;
+    let lines = scanned.lines;
     let most = 0xFFFF_FFFF_FFFF_FFFF;
     let Room::Left(left) = object_room(
         &s[from..to],
         &s[0..end],
         scanned.sourced,
         scanned.rows,
+        lines,
         most,
     ) else {
         return Measured { number: 3, len: 0 };
@@ -518,11 +468,13 @@ pub fn read_text(s: &[u8], out: &mut [u32]) -> Filled
     let from = w.start;
     let to = w.end;
     let end = scanned.end;
+    let lines = scanned.lines;
     let Room::Left(_) = object_room(
         &s[from..to],
         &s[0..end],
         scanned.sourced,
         scanned.rows,
+        lines,
         out.len(),
     ) else {
         return Filled::refused(3);

@@ -90,17 +90,17 @@ module _ (t : List ℕ) (start a e n : ℕ) (l : LineAt kept t start a e n) wher
       pub scan-groups : (w .number ≡ 0 → ⊥) → trimmedObject t start ≡ refused (w .number)
       scan-groups ne = go (groupsFrom t n emptyObject) refl c
         where
-          go : (o : Outcome ObjectFile) → groupsFrom t n emptyObject ≡ o → Comes (Lined t (w .sourced) (w .rows)) (w .number) o
+          go : (o : Outcome ObjectFile) → groupsFrom t n emptyObject ≡ o → Comes (Lined t (w .sourced) (w .rows) (w .lines)) (w .number) o
               → trimmedObject t start ≡ refused (w .number)
           go (refused m) g s = from-groups (refused m) g ∙ ap refused (sym (s .0))
           go (given h) g s = absurd (ne (s .0))
 
       module _ (z : w .number ≡ 0) where
-        groups-given : (h : ObjectFile) × (groupsFrom t n emptyObject ≡ given h) × Lined t (w .sourced) (w .rows) h
+        groups-given : (h : ObjectFile) × (groupsFrom t n emptyObject ≡ given h) × Lined t (w .sourced) (w .rows) (w .lines) h
         groups-given = go (groupsFrom t n emptyObject) refl c
           where
-            go : (o : Outcome ObjectFile) → groupsFrom t n emptyObject ≡ o → Comes (Lined t (w .sourced) (w .rows)) (w .number) o
-                → (h : ObjectFile) × (groupsFrom t n emptyObject ≡ given h) × Lined t (w .sourced) (w .rows) h
+            go : (o : Outcome ObjectFile) → groupsFrom t n emptyObject ≡ o → Comes (Lined t (w .sourced) (w .rows) (w .lines)) (w .number) o
+                → (h : ObjectFile) × (groupsFrom t n emptyObject ≡ given h) × Lined t (w .sourced) (w .rows) (w .lines) h
             go (refused m) g s = absurd (omega (arith, s .0, s .1, z))
             go (given h) g s = (h, g, s .1)
 
@@ -126,9 +126,9 @@ module _ (t : List ℕ) (start a e n : ℕ) (l : LineAt kept t start a e n) wher
         scan-fallen q = concludes false q
 
         pub scan-read : blocksRise (lineBlocksOf (w .sourced) (lineView t (w .rows) .0)) ≡ true
-            → Scans t (trimmedObject t start) (record { number = 0; first = n; end = length t; sourced = w .sourced; rows = w .rows })
+            → Scans t (trimmedObject t start) (record { number = 0; first = n; end = length t; sourced = w .sourced; rows = w .rows; lines = w .lines })
         scan-read q =
-            let r : Scanned = record { number = 0; first = n; end = length t; sourced = w .sourced; rows = w .rows } in
+            let r : Scanned = record { number = 0; first = n; end = length t; sourced = w .sourced; rows = w .rows; lines = w .lines } in
             subst (λ (o : Outcome ObjectFile). Scans t o r) (sym (concludes true q))
             (record {
               yes = refl;

@@ -27,6 +27,7 @@ use Rattle.text_linker.specs.Linker.{linkerColumns, linkerIn, setLinker, Linker
 use Rattle.text_linker.proofs.LinkerLaws.{linker-row}
 use Rattle.text_blocks.specs.Blocks.{Seen, Settles, BlocksChecked}
 use Rattle.text_debug.specs.declared.DebugGroup.{DebugGroup}
+use Rattle.text_debug.specs.declared.Lines.{Lines}
 use Rattle.text_debug.specs.DebugGroup.{DebugSettles, DebugChecked}
 use Rattle.text_debug.proofs.RefusalLaws.{Numbered, numbered-need, numbered-ask, numbered-scan}
 use Rattle.text_debug.proofs.DebugGroupLaws.{Kept, Keeps, table-keeps}
@@ -173,41 +174,41 @@ module _ (t : List ℕ) (kind at : ℕ) (seen : List ℕ) where
       record { from = omega arith; after = λ z. absurd (omega (arith, z)); settles = f }
 
 -- .DEBUG
-lined-some : (t : List ℕ) (sourced : Bool) (rows : ℕ) (h : ObjectFile) → Lined t sourced rows h → isSome (h .source) ≡ sourced
+lined-some : (t : List ℕ) (sourced : Bool) (rows : ℕ) (lines : Lines) (h : ObjectFile) → Lined t sourced rows lines h → isSome (h .source) ≡ sourced
 unfolding sourceOf isSome
-lined-some t true rows h l = ap isSome (l .source)
-lined-some t false rows h l = ap isSome (l .source)
+lined-some t true rows lines h l = ap isSome (l .source)
+lined-some t false rows lines h l = ap isSome (l .source)
 
-module _ (t : List ℕ) (at : ℕ) (sourced : Bool) (rows : ℕ) (g : DebugGroup) (c : DebugChecked t at sourced g) where
-  lined-new : (h : ObjectFile) (n : ℕ) (o : Outcome ObjectFile) → DebugSettles true (lineView t (g .rows) .0) h n o
-      → Comes (λ h′. (h′ .blocks ≡ h .blocks) × Lined t true (g .rows) h′) n o
+module _ (t : List ℕ) (at : ℕ) (sourced : Bool) (rows : ℕ) (lines : Lines) (g : DebugGroup) (c : DebugChecked t at sourced g) where
+  lined-new : g .lined ≡ true → (h : ObjectFile) (n : ℕ) (o : Outcome ObjectFile) → DebugSettles true (lineView t (g .rows) .0) h n o
+      → Comes (λ h′. (h′ .blocks ≡ h .blocks) × Lined t true (g .rows) (g .lines) h′) n o
   unfolding lineBlocksOf sourceOf
-  lined-new h n (refused m) s = s
-  lined-new h n (given h′) s = (s .0, (s .1, record { blocks = s .2 .0; source = s .2 .1; reads = λ z. s .2 .2 }))
+  lined-new q h n (refused m) s = s
+  lined-new q h n (given h′) s = (s .0, (s .1, record { blocks = s .2 .0; source = s .2 .1; reads = λ z. s .2 .2; makes = λ z. c .makes q }))
 
-  lined-old : (h : ObjectFile) → Lined t sourced rows h → (ls : List (List ℕ)) (n : ℕ) (o : Outcome ObjectFile)
-      → DebugSettles false ls h n o → Comes (λ h′. (h′ .blocks ≡ h .blocks) × Lined t sourced rows h′) n o
+  lined-old : (h : ObjectFile) → Lined t sourced rows lines h → (ls : List (List ℕ)) (n : ℕ) (o : Outcome ObjectFile)
+      → DebugSettles false ls h n o → Comes (λ h′. (h′ .blocks ≡ h .blocks) × Lined t sourced rows lines h′) n o
   lined-old h l ls n (refused m) s = s
-  lined-old h l ls n (given h′) s = (s .0, (s .1, record { blocks = s .2 .0 ∙ l .blocks; source = s .2 .1 ∙ l .source; reads = l .reads }))
+  lined-old h l ls n (given h′) s = (s .0, (s .1, record { blocks = s .2 .0 ∙ l .blocks; source = s .2 .1 ∙ l .source; reads = l .reads; makes = l .makes }))
 
-  settles-as : (b : Bool) → g .lined ≡ b → (h : ObjectFile) → Lined t sourced rows h
+  settles-as : (b : Bool) → g .lined ≡ b → (h : ObjectFile) → Lined t sourced rows lines h
       → DebugSettles b (lineView t (g .rows) .0) h (g .number) (parseDebugGroup h (partsFrom t at .before))
   settles-as b e h l =
       subst (λ (x : Bool). DebugSettles x (lineView t (g .rows) .0) h (g .number) (parseDebugGroup h (partsFrom t at .before))) e
-      (c .settles h (lined-some t sourced rows h l))
+      (c .settles h (lined-some t sourced rows lines h l))
 
   pub debug-new : g .lined ≡ true
-      → DebugWalked t at sourced rows (record { number = g .number; next = g .next; sourced = true; rows = g .rows })
+      → DebugWalked t at sourced rows lines (record { number = g .number; next = g .next; sourced = true; rows = g .rows; lines = g .lines })
   debug-new e =
       record {
         from =
             c .from;
         after = c .after;
-        settles = λ h l. lined-new h (g .number) (parseDebugGroup h (partsFrom t at .before)) (settles-as true e h l);
+        settles = λ h l. lined-new e h (g .number) (parseDebugGroup h (partsFrom t at .before)) (settles-as true e h l);
       }
 
   pub debug-old : g .lined ≡ false
-      → DebugWalked t at sourced rows (record { number = g .number; next = g .next; sourced = sourced; rows = rows })
+      → DebugWalked t at sourced rows lines (record { number = g .number; next = g .next; sourced = sourced; rows = rows; lines = lines })
   debug-old e =
       record {
         from =
@@ -222,29 +223,29 @@ comes-map : (P Q : ObjectFile → Type 0) → ((h : ObjectFile) → P h → Q h)
 comes-map P Q f n (refused m) s = s
 comes-map P Q f n (given h) s = (s .0, f h (s .1))
 
-module _ (t : List ℕ) (kind at : ℕ) (sourced : Bool) (rows : ℕ) (seen : List ℕ) where
+module _ (t : List ℕ) (kind at : ℕ) (sourced : Bool) (rows : ℕ) (lines : Lines) (seen : List ℕ) where
   abbrev Fits : List ℕ → Walked → Type 0
   Fits seen′ r =
-      (name : List ℕ) → kind ≡ kindOf name → (h : ObjectFile) → Agrees t seen sourced rows h
-      → Comes (Agrees t seen′ (r .sourced) (r .rows)) (r .number) (parseGroup h (name, partsFrom t at .before))
+      (name : List ℕ) → kind ≡ kindOf name → (h : ObjectFile) → Agrees t seen sourced rows lines h
+      → Comes (Agrees t seen′ (r .sourced) (r .rows) (r .lines)) (r .number) (parseGroup h (name, partsFrom t at .before))
 
-  pub group-debug : (r : Walked) → kind ≡ 3 → DebugWalked t at sourced rows r → GroupChecked t kind at sourced rows seen seen r
+  pub group-debug : (r : Walked) → kind ≡ 3 → DebugWalked t at sourced rows lines r → GroupChecked t kind at sourced rows lines seen seen r
   group-debug r k c =
       let f : Fits seen r = λ name e h s.
-      subst (Comes (Agrees t seen (r .sourced) (r .rows)) (r .number)) (sym (is-debug h name (partsFrom t at .before) kind e k))
-      (comes-map (λ h′. (h′ .blocks ≡ h .blocks) × Lined t (r .sourced) (r .rows) h′) (Agrees t seen (r .sourced) (r .rows))
+      subst (Comes (Agrees t seen (r .sourced) (r .rows) (r .lines)) (r .number)) (sym (is-debug h name (partsFrom t at .before) kind e k))
+      (comes-map (λ h′. (h′ .blocks ≡ h .blocks) × Lined t (r .sourced) (r .rows) (r .lines) h′) (Agrees t seen (r .sourced) (r .rows) (r .lines))
       (λ h′ p. record { marks = λ a. ap (λ (bs : List Block). isSome (atKey blockKey (a ∷ []) bs)) (p .0) ∙ s .marks a; lines = p .1 })
       (r .number) (parseDebugGroup h (partsFrom t at .before)) (c .settles h (s .lines))) in
       record { from = c .from; after = c .after; settles = f }
 
   pub group-lines : (seen′ : List ℕ) (r : Group) → LinesChecked t kind at seen seen′ r
-      → GroupChecked t kind at sourced rows seen seen′ (record { number = r .number; next = r .next; sourced = sourced; rows = rows })
+      → GroupChecked t kind at sourced rows lines seen seen′ (record { number = r .number; next = r .next; sourced = sourced; rows = rows; lines = lines })
   group-lines seen′ r c =
-      let f : Fits seen′ (record { number = r .number; next = r .next; sourced = sourced; rows = rows }) = λ name e h s.
-      comes-map (Stands seen′ h) (Agrees t seen′ sourced rows)
+      let f : Fits seen′ (record { number = r .number; next = r .next; sourced = sourced; rows = rows; lines = lines }) = λ name e h s.
+      comes-map (Stands seen′ h) (Agrees t seen′ sourced rows lines)
       (λ h′ p.
-      let o : Lined t sourced rows h = s .lines in
-      let b : Lined t sourced rows h′ = record { blocks = p .1 ∙ o .blocks; source = p .2 ∙ o .source; reads = o .reads } in
+      let o : Lined t sourced rows lines h = s .lines in
+      let b : Lined t sourced rows lines h′ = record { blocks = p .1 ∙ o .blocks; source = p .2 ∙ o .source; reads = o .reads; makes = o .makes } in
       record { marks = p .0; lines = b })
       (r .number) (parseGroup h (name, partsFrom t at .before)) (c .settles name e h (s .marks)) in
       record { from = c .from; after = c .after; settles = f }
@@ -287,36 +288,36 @@ groups-read t at h g e = go (isEmpty (partsFrom t at .before)) e
     go false q = let z : _≡_ {A = ℕ} 0 1 = cc in absurd (omega arith)
 
 -- what the walk knows: the object that the definition's fold has by now
-pub record Walking (t : List ℕ) (first : ℕ) (seen₀ : List ℕ) (at : ℕ) (seen : List ℕ) (sourced : Bool) (rows : ℕ) : Type 0 where
+pub record Walking (t : List ℕ) (first : ℕ) (seen₀ : List ℕ) (at : ℕ) (seen : List ℕ) (sourced : Bool) (rows : ℕ) (lines : Lines) : Type 0 where
   pub size : length seen ≡ length seen₀
   pub object : ObjectFile
   pub same : groupsFrom t at object ≡ groupsFrom t first emptyObject
-  pub agrees : Agrees t seen sourced rows object
+  pub agrees : Agrees t seen sourced rows lines object
 
-pub walking-begin : (t : List ℕ) (first : ℕ) (seen : List ℕ) → Seen emptyObject seen → Walking t first seen first seen false 0
+pub walking-begin : (t : List ℕ) (first : ℕ) (seen : List ℕ) → Seen emptyObject seen → Walking t first seen first seen false 0 (record { len = 0 })
 unfolding lineBlocksOf sourceOf emptyObject
 walking-begin t first seen s =
-    let b : Lined t false 0 emptyObject = record { blocks = refl; source = refl; reads = λ z. absurd (true≢false (sym z)) } in
+    let b : Lined t false 0 (record { len = 0 }) emptyObject = record { blocks = refl; source = refl; reads = λ z. absurd (true≢false (sym z)); makes = λ z. absurd (true≢false (sym z)) } in
     record { size = refl; object = emptyObject; same = refl; agrees = record { marks = s; lines = b } }
 
-module _ (t : List ℕ) (first : ℕ) (seen₀ : List ℕ) (at : ℕ) (seen : List ℕ) (sourced : Bool) (rows : ℕ)
-    (w : Walking t first seen₀ at seen sourced rows) where
+module _ (t : List ℕ) (first : ℕ) (seen₀ : List ℕ) (at : ℕ) (seen : List ℕ) (sourced : Bool) (rows : ℕ) (lines : Lines)
+    (w : Walking t first seen₀ at seen sourced rows lines) where
   settled : (P : ObjectFile → Type 0) (n : ℕ) (o : Outcome ObjectFile) → groupsFrom t at (w .object) ≡ o → Comes P n o
       → Comes P n (groupsFrom t first emptyObject)
   settled P n o e s = subst (Comes P n) (sym e ∙ w .same) s
 
-  module _ (k n : ℕ) (l : HeadAt t at k n) (seen′ : List ℕ) (r : Walked) (g : GroupChecked t k n sourced rows seen seen′ r) where
+  module _ (k n : ℕ) (l : HeadAt t at k n) (seen′ : List ℕ) (r : Walked) (g : GroupChecked t k n sourced rows lines seen seen′ r) where
     abbrev parsed : Outcome ObjectFile
     parsed = parseGroup (w .object) (l .name, partsFrom t n .before)
 
-    comes : Comes (Agrees t seen′ (r .sourced) (r .rows)) (r .number) parsed
+    comes : Comes (Agrees t seen′ (r .sourced) (r .rows) (r .lines)) (r .number) parsed
     comes = g .settles (l .name) (l .kind) (w .object) (w .agrees)
 
-    pub walking-on : length seen′ ≡ length seen → r .number ≡ 0 → Walking t first seen₀ (r .next) seen′ (r .sourced) (r .rows)
+    pub walking-on : length seen′ ≡ length seen → r .number ≡ 0 → Walking t first seen₀ (r .next) seen′ (r .sourced) (r .rows) (r .lines)
     walking-on q z = go parsed refl comes
       where
-        go : (o : Outcome ObjectFile) → parsed ≡ o → Comes (Agrees t seen′ (r .sourced) (r .rows)) (r .number) o
-            → Walking t first seen₀ (r .next) seen′ (r .sourced) (r .rows)
+        go : (o : Outcome ObjectFile) → parsed ≡ o → Comes (Agrees t seen′ (r .sourced) (r .rows) (r .lines)) (r .number) o
+            → Walking t first seen₀ (r .next) seen′ (r .sourced) (r .rows) (r .lines)
         go (refused m) e s = absurd (omega (arith, s .0, s .1, z))
         go (given h′) e s =
             let f = groups-on t at k n l (w .object) h′ e (r .next) (g .after z) in
@@ -325,14 +326,14 @@ module _ (t : List ℕ) (first : ℕ) (seen₀ : List ℕ) (at : ℕ) (seen : Li
     pub walking-refused : (r .number ≡ 0 → ⊥) → GroupsWalked t first r
     walking-refused ne = go parsed refl comes
       where
-        go : (o : Outcome ObjectFile) → parsed ≡ o → Comes (Agrees t seen′ (r .sourced) (r .rows)) (r .number) o → GroupsWalked t first r
-        go (refused m) e s = settled (Lined t (r .sourced) (r .rows)) (r .number) (refused m) (groups-refused t at k n l (w .object) m e) s
+        go : (o : Outcome ObjectFile) → parsed ≡ o → Comes (Agrees t seen′ (r .sourced) (r .rows) (r .lines)) (r .number) o → GroupsWalked t first r
+        go (refused m) e s = settled (Lined t (r .sourced) (r .rows) (r .lines)) (r .number) (refused m) (groups-refused t at k n l (w .object) m e) s
         go (given h′) e s = absurd (ne (s .0))
 
   pub walking-loose : isEmpty (partsFrom t at .before) ≡ false
-      → GroupsWalked t first (record { number = 22; next = at; sourced = false; rows = 0 })
-  walking-loose e = settled (Lined t false 0) 22 (refused 22) (groups-loose t at (w .object) e) (refl, omega arith)
+      → GroupsWalked t first (record { number = 22; next = at; sourced = false; rows = 0; lines = record { len = 0 } })
+  walking-loose e = settled (Lined t false 0 (record { len = 0 })) 22 (refused 22) (groups-loose t at (w .object) e) (refl, omega arith)
 
   pub walking-done : partsFrom t at ≡ record { before = []; groups = [] }
-      → GroupsWalked t first (record { number = 0; next = at; sourced = sourced; rows = rows })
-  walking-done e = settled (Lined t sourced rows) 0 (given (w .object)) (groups-done t at (w .object) e) (refl, w .agrees .lines)
+      → GroupsWalked t first (record { number = 0; next = at; sourced = sourced; rows = rows; lines = lines })
+  walking-done e = settled (Lined t sourced rows lines) 0 (given (w .object)) (groups-done t at (w .object) e) (refl, w .agrees .lines)

@@ -25,7 +25,7 @@ trimmedObject t start = do
 
 -- a refusal: every other value is 0
 abbrev pub refusedScan : ℕ → Scanned
-refusedScan number = record { number = number; first = 0; end = 0; sourced = false; rows = 0 }
+refusedScan number = record { number = number; first = 0; end = 0; sourced = false; rows = 0; lines = record { len = 0 } }
 
 -- A file that reads, where t is the file up to the end of what trimming leaves: the object that the groups from the place after the first
 -- kept line come to, where no line stands before the first of them, and the place of the rows that its line blocks and source are from.
@@ -37,7 +37,7 @@ pub record Read (t : List ℕ) (r : Scanned) (h : ObjectFile) : Type 0 where
   pub object : ObjectFile
   pub before : isEmpty (partsFrom t (r .first) .before) ≡ true
   pub groups : foldOutcome parseGroup emptyObject (partsFrom t (r .first) .groups) ≡ given object
-  pub lines : Lined t (r .sourced) (r .rows) object
+  pub lines : Lined t (r .sourced) (r .rows) (r .lines) object
   pub whole : h ≡ dropStrayRelocations object
 
 -- what a scan hands back for each outcome; no refusal has number 0

@@ -14,7 +14,9 @@ use Rattle.text_lines.specs.Groups.{partsFrom, kindOf}
 use Rattle.text_tables.specs.Debug.{lineView}
 use Rattle.text_source.specs.Stream.{sourceCell}
 use Rattle.text_blocks.specs.Blocks.{Seen}
-use Rattle.text_debug.specs.DebugGroup.{lineBlocksIn, sourceIn}
+use Rattle.text_debug.specs.declared.Lines.{Lines}
+use Rattle.text_debug.specs.LineTable.{sourceIn, Makes}
+use Rattle.text_debug.specs.DebugGroup.{lineBlocksIn}
 use Rattle.text_scan.specs.declared.Walked.{Walked}
 
 -- "addresses in each kept run never fall", of line blocks
@@ -31,17 +33,18 @@ lineBlocksOf sourced ls = if sourced then lineBlocksIn ls else []
 unfoldable pub sourceOf : Bool → List (List ℕ) → Option (List ℕ)  -- and its source
 sourceOf sourced ls = if sourced then some (sourceIn ls) else none
 
--- THE OBJECT SO FAR agrees with what the walk keeps of it: a source is there or not, and the rows that it comes from, which unescape, start
--- at a place
-pub record Lined (t : List ℕ) (sourced : Bool) (rows : ℕ) (h : ObjectFile) : Type 0 where
+-- THE OBJECT SO FAR agrees with what the walk keeps of it: a source is there or not, and the rows that it comes from, which unescape and
+-- make so much, start at a place
+pub record Lined (t : List ℕ) (sourced : Bool) (rows : ℕ) (lines : Lines) (h : ObjectFile) : Type 0 where
   pub blocks : h .lineBlocks ≡ lineBlocksOf sourced (lineView t rows .0)
   pub source : h .source ≡ sourceOf sourced (lineView t rows .0)
   pub reads : sourced ≡ true → unescape (flatMap sourceCell (lineView t rows .0)) ≡ given (sourceIn (lineView t rows .0))
+  pub makes : sourced ≡ true → Makes (lineView t rows .0) lines
 
 -- and the addresses of its blocks are marked
-pub record Agrees (t : List ℕ) (seen : List ℕ) (sourced : Bool) (rows : ℕ) (h : ObjectFile) : Type 0 where
+pub record Agrees (t : List ℕ) (seen : List ℕ) (sourced : Bool) (rows : ℕ) (made : Lines) (h : ObjectFile) : Type 0 where
   pub marks : Seen h seen
-  pub lines : Lined t sourced rows h
+  pub lines : Lined t sourced rows made h
 
 -- an outcome has the number handed back, never 0 for a refusal; with 0 it is so of the object
 abbrev pub Comes : (ObjectFile → Type 0) → ℕ → Outcome ObjectFile → Type 0
@@ -57,18 +60,18 @@ pub record LinesChecked (t : List ℕ) (kind at : ℕ) (seen seen′ : List ℕ)
       (parseGroup h (name, partsFrom t at .before))
 
 -- A group of any kind from its lines on, for every object that agrees with the marks and the lines before it.
-pub record GroupChecked (t : List ℕ) (kind at : ℕ) (sourced : Bool) (rows : ℕ) (seen seen′ : List ℕ) (r : Walked) : Type 0 where
+pub record GroupChecked (t : List ℕ) (kind at : ℕ) (sourced : Bool) (rows : ℕ) (lines : Lines) (seen seen′ : List ℕ) (r : Walked) : Type 0 where
   pub from : at ≤ r .next
   pub after : r .number ≡ 0 → partsFrom t (r .next) ≡ record { before = []; groups = partsFrom t at .groups }
-  pub settles : (name : List ℕ) → kind ≡ kindOf name → (h : ObjectFile) → Agrees t seen sourced rows h
-      → Comes (Agrees t seen′ (r .sourced) (r .rows)) (r .number) (parseGroup h (name, partsFrom t at .before))
+  pub settles : (name : List ℕ) → kind ≡ kindOf name → (h : ObjectFile) → Agrees t seen sourced rows lines h
+      → Comes (Agrees t seen′ (r .sourced) (r .rows) (r .lines)) (r .number) (parseGroup h (name, partsFrom t at .before))
 
 -- .DEBUG alone; blocks stand as they were
-pub record DebugWalked (t : List ℕ) (at : ℕ) (sourced : Bool) (rows : ℕ) (r : Walked) : Type 0 where
+pub record DebugWalked (t : List ℕ) (at : ℕ) (sourced : Bool) (rows : ℕ) (lines : Lines) (r : Walked) : Type 0 where
   pub from : at ≤ r .next
   pub after : r .number ≡ 0 → partsFrom t (r .next) ≡ record { before = []; groups = partsFrom t at .groups }
-  pub settles : (h : ObjectFile) → Lined t sourced rows h
-      → Comes (λ h′. (h′ .blocks ≡ h .blocks) × Lined t (r .sourced) (r .rows) h′) (r .number)
+  pub settles : (h : ObjectFile) → Lined t sourced rows lines h
+      → Comes (λ h′. (h′ .blocks ≡ h .blocks) × Lined t (r .sourced) (r .rows) (r .lines) h′) (r .number)
       (parseDebugGroup h (partsFrom t at .before))
 
 -- "Every later kept line in a group? 22", "Then per group": from a place on, with an object so far
@@ -77,4 +80,4 @@ groupsFrom t at h = ask 22 (isEmpty (partsFrom t at .before)) >>= λ _. foldOutc
 
 -- all groups from a place on
 abbrev pub GroupsWalked : List ℕ → ℕ → Walked → Type 0
-GroupsWalked t first r = Comes (Lined t (r .sourced) (r .rows)) (r .number) (groupsFrom t first emptyObject)
+GroupsWalked t first r = Comes (Lined t (r .sourced) (r .rows) (r .lines)) (r .number) (groupsFrom t first emptyObject)

@@ -1,5 +1,6 @@
 // The text reader's questions, 20 to 31, on a file's bytes in place; what it reads is not stored.
 use text_blocks::parse_text;
+use text_debug::Lines;
 use text_debug::parse_debug;
 use text_lines::Group;
 use text_lines::Head;
@@ -71,25 +72,29 @@ pub fn runs_rise(t: &[u8], from: usize) -> bool
     }
 }
 
-// What the groups up to a place come to: their number, the place after them, whether there is a source, and where its rows are.
+// What the groups up to a place come to: their number, the place after them, whether there is a source, where its rows are, and what
+// they make.
 pub struct Walked {
     pub number: u8,
     pub next: usize,
     pub sourced: bool,
     pub rows: usize,
+    pub lines: Lines,
 }
 
 // A .DEBUG group, after groups that had a source or none: 26 to 30.
-fn parse_debug_group(t: &[u8], at: usize, sourced: bool, rows: usize) -> Walked
-    ensures { λ r. ⌜ DebugWalked (now (t .entry)) at sourced rows r ⌝ }
+fn parse_debug_group(t: &[u8], at: usize, sourced: bool, rows: usize, lines: Lines) -> Walked
+    ensures { λ r. ⌜ DebugWalked (now (t .entry)) at sourced rows lines r ⌝ }
 {
     let g = parse_debug(t, at, sourced);
     if g.lined {
+        let own = g.lines;
         return Walked {
             number: g.number,
             next: g.next,
             sourced: true,
             rows: g.rows,
+            lines: own,
         };
     }
     Walked {
@@ -97,6 +102,7 @@ fn parse_debug_group(t: &[u8], at: usize, sourced: bool, rows: usize) -> Walked
         next: g.next,
         sourced: sourced,
         rows: rows,
+        lines: lines,
     }
 }
 
@@ -121,12 +127,20 @@ fn parse_lines(t: &[u8], kind: u8, at: usize, seen: &mut [u8]) -> Group
 }
 
 // A group of any kind: 23 to 30.
-fn parse_group(t: &[u8], kind: u8, at: usize, sourced: bool, rows: usize, seen: &mut [u8]) -> Walked
+fn parse_group(
+    t: &[u8],
+    kind: u8,
+    at: usize,
+    sourced: bool,
+    rows: usize,
+    lines: Lines,
+    seen: &mut [u8],
+) -> Walked
     requires { ⌜ 65536 ≤ length (now seen) ⌝ }
-    ensures { λ r. ⌜ GroupChecked (now (t .entry)) kind at sourced rows (now (seen .entry)) (now (seen .exit)) r ⌝ }
+    ensures { λ r. ⌜ GroupChecked (now (t .entry)) kind at sourced rows lines (now (seen .entry)) (now (seen .exit)) r ⌝ }
 {
     if kind == 3 {
-        return parse_debug_group(t, at, sourced, rows);
+        return parse_debug_group(t, at, sourced, rows, lines);
     }
     let g = parse_lines(t, kind, at, seen);
     Walked {
@@ -134,6 +148,7 @@ fn parse_group(t: &[u8], kind: u8, at: usize, sourced: bool, rows: usize, seen: 
         next: g.next,
         sourced: sourced,
         rows: rows,
+        lines: lines,
     }
 }
 
@@ -145,17 +160,19 @@ fn parse_groups(t: &[u8], first: usize, seen: &mut [u8]) -> Walked
     let mut at = first;
     let mut sourced = false;
     let mut rows = 0;
+    let mut lines = Lines { len: 0 };
     loop {
         let head = next_head(t, at);
         match head {
             Head::Opens { kind, next } => {
-                let g = parse_group(t, kind, next, sourced, rows, seen);
+                let g = parse_group(t, kind, next, sourced, rows, lines, seen);
                 if g.number != 0 {
                     return g;
                 }
                 at = g.next;
                 sourced = g.sourced;
                 rows = g.rows;
+                lines = g.lines;
             }
             Head::Loose => {
                 return Walked {
@@ -163,6 +180,7 @@ fn parse_groups(t: &[u8], first: usize, seen: &mut [u8]) -> Walked
                     next: at,
                     sourced: false,
                     rows: 0,
+                    lines: Lines { len: 0 },
                 };
             }
             Head::Done => {
@@ -171,6 +189,7 @@ fn parse_groups(t: &[u8], first: usize, seen: &mut [u8]) -> Walked
                     next: at,
                     sourced: sourced,
                     rows: rows,
+                    lines: lines,
                 };
             }
         }
@@ -178,13 +197,14 @@ fn parse_groups(t: &[u8], first: usize, seen: &mut [u8]) -> Walked
 }
 
 // What a scan comes to. The places in a file that reads: after its first kept line, the end of what trimming leaves, and the rows that its
-// source is from, if there is one.
+// source is from, if there is one, with what they make.
 pub struct Scanned {
     pub number: u8,
     pub first: usize,
     pub end: usize,
     pub sourced: bool,
     pub rows: usize,
+    pub lines: Lines,
 }
 
 const MAGIC: [u8; 13] = [
@@ -212,6 +232,7 @@ fn refuse(number: u8) -> Scanned
         end: 0,
         sourced: false,
         rows: 0,
+        lines: Lines { len: 0 },
     }
 }
 
@@ -249,12 +270,14 @@ fn scan_trimmed(t: &[u8], start: usize) -> Scanned
     if !lines_rise(t, w.sourced, w.rows) {
         return refuse(31);
     }
+    let lines = w.lines;
     Scanned {
         number: 0,
         first: first,
         end: t.len(),
         sourced: w.sourced,
         rows: w.rows,
+        lines: lines,
     }
 }
 

@@ -4,7 +4,7 @@ use mathlib.Core.Path.{_≡_, refl, sym, ap, _∙_, subst}
 use mathlib.Core.Bool.{Bool, true, false, _&&_}
 use mathlib.Core.List.{List, [], _∷_, _++_, map, flatMap, append-nil}
 use mathlib.Core.Option.{Option, none, some}
-use Prim.Native.Nat.{ℕ, zero, suc, _+_, _-_, _*_, _^_, _≤_, _<_}
+use Prim.Native.Nat.{ℕ, zero, suc, _+_, _-_, _*_, _^_, _%_, _≤_, _<_}
 use native.Mathlib.Omega.{arith}
 use native.Mathlib.Nat.{pow-suc, pow-zero, pow-le-pow-right}
 use native.Mathlib.Numerals.{add-one}
@@ -13,7 +13,7 @@ use lib.Seq.{drop-drop}
 use lib.Dec.{eqb, ltb}
 use borrow.Author.Tests.{lt-ltb, le-ltb, le-leb, lt-leb, eq-eqb, ne-eqb, ltb-true, ltb-false}
 use Rattle.format.specs.Basics.{Outcome, refused, given, _>>=_, ask, beginsWith, ascii, if_then_else_, isSome}
-use Rattle.format.specs.Calls.{refusalOf}
+use Rattle.format.proofs.ListLaws.{flatMap-append}
 use Rattle.format.specs.Tokens.{tokens}
 use Rattle.format.specs.Utf8.{encodeScalar, isScalar, isBetween}
 use Rattle.format.specs.TextReader.{digitValue, digitsFrom, hexDigits, scalarOf, unicodeEscape, afterBackslash, unescapeAt, unescape}
@@ -23,10 +23,11 @@ use Rattle.trim.specs.Span.{part}
 use Rattle.text_lines.proofs.LineLaws.{length-part}
 use Rattle.text_source.specs.Stream.{bytesLeft, sourceFrom, atMost}
 use Rattle.text_source.proofs.StreamLaws.{part-front, part-end, part-most, at-most}
-use Rattle.text_source.specs.Unescape.{escapeByte, EscapeAt, tokensLeft, Plain, TokenAt, NextDigits, NextEscape}
+use Rattle.text_source.specs.Unescape.{escapeByte, EscapeAt, tokensLeft, Plain, TokenAt, NextDigits, NextEscape, UnescapedIs}
 use Rattle.text_source.specs.declared.Unicode.{Unicode}
 use Rattle.text_source.specs.declared.Unicode.the-variants as un
 use Rattle.text_source.specs.declared.Source.{Source}
+use Rattle.text_source.specs.declared.Unescaped.{Unescaped}
 use Rattle.text_lines.proofs.TestLaws.{by-test, and-no, within-yes, within-low, within-high}
 
 digit-no : (b : ℕ) → 16 ≤ digitOr16 b → digitValue 16 b ≡ none
@@ -382,25 +383,61 @@ escape-some t c d b k h v g n e r z =
 pub escape-bad : (t : List ℕ) (c d : Source) (b : ℕ) → bytesLeft t c ≡ b ∷ bytesLeft t d → b ≡ 0x7B → unicodeEscape (0x7B ∷ bytesLeft t d) ≡ refused 30 → unicodeEscape (bytesLeft t c) ≡ refused 30
 escape-bad t c d b k h e = ap unicodeEscape (k ∙ ap (λ (x : ℕ). x ∷ bytesLeft t d) h) ∙ e
 
--- whether a source unescapes
-number-more : {A : Type 0} (o : Outcome (List A)) (xs : List A) → refusalOf (o >>= λ ts. given (xs ++ ts)) ≡ refusalOf o
-number-more (refused n) xs = refl
-number-more (given ts) xs = refl
+-- a scalar value's length
+pub length-one : (v : ℕ) → v < 0x80 → 1 ≡ length (encodeScalar v)
+unfolding encodeScalar
+length-one v h = rw (lt-ltb v 0x80 h) refl
 
-pub number-on : (t : List ℕ) (c : Source) (bs : List ℕ) (d : Source) → TokenAt t c bs d → refusalOf (tokensLeft t d) ≡ refusalOf (tokensLeft t c)
-number-on t c bs d k = sym (ap refusalOf (k .same) ∙ number-more (tokensLeft t d) (k .parts))
+pub length-two : (v : ℕ) → 0x80 ≤ v → v < 0x800 → 2 ≡ length (encodeScalar v)
+unfolding encodeScalar
+length-two v g h = rw (le-ltb v 0x80 g, lt-ltb v 0x800 h) refl
 
-joined : (o : Outcome (List (List ℕ))) → refusalOf (o >>= λ ts. given (flatMap (λ (x : List ℕ). x) ts)) ≡ refusalOf o
-joined (refused n) = refl
-joined (given ts) = refl
+pub length-three : (v : ℕ) → 0x800 ≤ v → v < 0x10000 → 3 ≡ length (encodeScalar v)
+unfolding encodeScalar
+length-three v g h = rw (le-ltb v 0x80 (omega arith), le-ltb v 0x800 g, lt-ltb v 0x10000 h) refl
 
-pub number-all : (bs : List ℕ) → refusalOf (tokens unescapeAt 0 bs) ≡ refusalOf (unescape bs)
+pub length-four : (v : ℕ) → 0x10000 ≤ v → 4 ≡ length (encodeScalar v)
+unfolding encodeScalar
+length-four v g = rw (le-ltb v 0x80 (omega arith), le-ltb v 0x800 (omega arith), le-ltb v 0x10000 g) refl
+
+-- what a source comes to from a place on, after n bytes: its number, and the length of all, as 64 bits count
+abbrev pub bytesOf : List (List ℕ) → ℕ
+bytesOf ts = length (flatMap (λ (x : List ℕ). x) ts)
+
+abbrev pub countedFrom : ℕ → Outcome (List (List ℕ)) → ℕ × ℕ
+countedFrom n (refused m) = (m, 0)
+countedFrom n (given ts) = (0, (n + bytesOf ts) % 2 ^ 64)
+
+more-bytes : (xs ys : List (List ℕ)) (bs : List ℕ) → flatMap (λ x. x) xs ≡ bs → bytesOf (xs ++ ys) ≡ length bs + bytesOf ys
+more-bytes xs ys bs e = ap length (flatMap-append (λ x. x) xs ys) ∙ length-append (flatMap (λ x. x) xs) (flatMap (λ x. x) ys) ∙ ap (λ (l : List ℕ). length l + bytesOf ys) e
+
+pub counted-on : (t : List ℕ) (c : Source) (bs : List ℕ) (d : Source) → TokenAt t c bs d → (n k m : ℕ) → k ≡ length bs → m ≡ (n + k) % 2 ^ 64
+    → countedFrom m (tokensLeft t d) ≡ countedFrom n (tokensLeft t c)
+counted-on t c bs d w n k m e q = go (tokensLeft t d) ∙ ap (countedFrom n) (sym (w .same))
+  where
+    go : (o : Outcome (List (List ℕ))) → countedFrom m o ≡ countedFrom n (o >>= λ ts. given (w .parts ++ ts))
+    go (refused j) = refl
+    go (given ts) =
+        let z : (m + bytesOf ts) % 2 ^ 64 ≡ (n + bytesOf (w .parts ++ ts)) % 2 ^ 64 = omega (arith, q, e, more-bytes (w .parts) ts bs (w .bytes)) in
+        ap (λ (x : ℕ). (0, x)) z
+
+pub counted-bad : (t : List ℕ) (c : Source) (n : ℕ) → tokensLeft t c ≡ refused 30 → (30, 0) ≡ countedFrom n (tokensLeft t c)
+counted-bad t c n e = sym (ap (countedFrom n) e)
+
+pub counted-end : (t : List ℕ) (c : Source) (n : ℕ) → n < 2 ^ 64 → bytesLeft t c ≡ [] → (0, n) ≡ countedFrom n (tokensLeft t c)
+unfolding tokens flatMap
+counted-end t c n h e =
+    let z : n ≡ (n + 0) % 2 ^ 64 = omega arith in
+    ap (λ (x : ℕ). (0, x)) z ∙ sym (ap (λ (bs : List ℕ). countedFrom n (tokens unescapeAt 0 bs)) e)
+
+pub counted-all : (bs : List ℕ) (r : Unescaped) → (r .number, r .len) ≡ countedFrom 0 (tokens unescapeAt 0 bs) → UnescapedIs (unescape bs) r
 unfolding unescape
-number-all bs = sym (joined (tokens unescapeAt 0 bs))
-
-pub number-end : (t : List ℕ) (c : Source) → bytesLeft t c ≡ [] → 0 ≡ refusalOf (tokensLeft t c)
-unfolding tokens
-number-end t c e = sym (ap (λ (bs : List ℕ). refusalOf (tokens unescapeAt 0 bs)) e)
+counted-all bs r = go (tokens unescapeAt 0 bs)
+  where
+    go : (o : Outcome (List (List ℕ))) → (r .number, r .len) ≡ countedFrom 0 o → UnescapedIs (o >>= λ ts. given (flatMap (λ (x : List ℕ). x) ts)) r
+    go (refused m) e = (ap (λ (x : ℕ × ℕ). x .0) e, ap (λ (x : ℕ × ℕ). x .1) e)
+    go (given ts) e =
+        let z : (0 + bytesOf ts) % 2 ^ 64 ≡ bytesOf ts % 2 ^ 64 = omega arith in (ap (λ (x : ℕ × ℕ). x .0) e, ap (λ (x : ℕ × ℕ). x .1) e ∙ z)
 
 pub escape-of : (t : List ℕ) (c d : Source) (b : ℕ) → bytesLeft t c ≡ b ∷ bytesLeft t d → b ≡ 0x7B → (r : Unicode) → NextDigits t d r → NextEscape t c r
 escape-of t c d b k h (un.Scalar v g) i = escape-some t c d b k h v g (i .0) (i .1) (i .2) (i .3)

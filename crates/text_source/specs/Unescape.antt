@@ -3,10 +3,11 @@
 use mathlib.Core.Path.{_≡_}
 use mathlib.Core.Bool.{true}
 use mathlib.Core.List.{List, [], _∷_, _++_, flatMap}
-use Prim.Native.Nat.{ℕ, _+_, _≤_, _<_}
+use Prim.Native.Nat.{ℕ, _+_, _^_, _%_, _≤_, _<_}
 use lib.ListN.{length, drop, getD}
 use lib.Dec.{eqb}
-use Rattle.format.specs.Basics.{Outcome, refused, given, _>>=_, if_then_else_}
+use Rattle.format.specs.Basics.{Outcome, refused, given, _>>=_, givenOr, if_then_else_}
+use Rattle.format.specs.Calls.{refusalOf}
 use Rattle.format.specs.Tokens.{tokens}
 use Rattle.format.specs.Utf8.{encodeScalar, isScalar}
 use Rattle.format.specs.TextReader.{unescapeAt, unicodeEscape}
@@ -16,6 +17,7 @@ use Rattle.text_source.specs.declared.Unicode.{Unicode}
 use Rattle.text_source.specs.declared.Unicode.the-variants as un
 use Rattle.text_source.specs.declared.Token.{Token}
 use Rattle.text_source.specs.declared.Token.the-variants as tk
+use Rattle.text_source.specs.declared.Unescaped.{Unescaped}
 use Rattle.text_source.specs.Stream.{bytesLeft}
 
 -- what a letter after a backslash stands for; 0 if for nothing
@@ -68,3 +70,7 @@ NextDigits t c (un.Scalar v d) =
     (n : ℕ) × (unicodeEscape (0x7B ∷ bytesLeft t c) ≡ given (encodeScalar v, 1 + (1 + n + 1)))
     × (drop (n + 1) (bytesLeft t c) ≡ bytesLeft t d) × (isScalar v ≡ true)
 NextDigits t c un.Bad = unicodeEscape (0x7B ∷ bytesLeft t c) ≡ refused 30
+
+-- the number of a text that is unescaped, and its length, as 64 bits count
+abbrev pub UnescapedIs : Outcome (List ℕ) → Unescaped → Type 0
+UnescapedIs o r = (r .number ≡ refusalOf o) × (r .len ≡ length (givenOr o []) % 2 ^ 64)

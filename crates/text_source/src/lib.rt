@@ -6,14 +6,14 @@ use text_tables::next_source_line;
 use trim::Span;
 ghost use mathlib.Core.Path.{_≡_};
 ghost use mathlib.Core.Bool.{true};
-ghost use Prim.Native.Nat.{_+_, _-_, _≤_, _<_};
+ghost use Prim.Native.Nat.{_+_, _-_, _^_, _%_, _≤_, _<_};
 ghost use mathlib.Core.List.{[]};
 ghost use lib.ListN.{length, getD};
-ghost use Rattle.format.specs.Calls.{refusalOf};
+ghost use Rattle.format.specs.Utf8.{encodeScalar};
 ghost use Rattle.format.specs.TextReader.{splitn, unescape};
 ghost use Rattle.trim.specs.Span.{Spans};
 ghost use Rattle.text_source.specs.Stream.{atMost, NextByte, bytesLeft};
-ghost use Rattle.text_source.specs.Unescape.{NextEscape, NextDigits, NextToken, Plain, escapeByte};
+ghost use Rattle.text_source.specs.Unescape.{NextEscape, NextDigits, NextToken, Plain, UnescapedIs, escapeByte};
 
 // A place in the source column: in a cell, and the place of the next line.
 pub struct Source {
@@ -231,28 +231,65 @@ pub fn next_token(t: &[u8], c: Source) -> Token
     one_token(t, c)
 }
 
-// Whether the source column unescapes: 30 where it does not.
-pub fn unescape(t: &[u8], c: Source) -> u8
-    ensures { λ r. ⌜ r ≡ refusalOf (unescape (bytesLeft (now (t .entry)) c)) ⌝ }
+// How many bytes a scalar value has.
+fn scalar_length(v: u32) -> usize
+    ensures { λ r. ⌜ r ≡ length (encodeScalar v) ⌝ }
+{
+    if v < 0x80 {
+        return 1;
+    }
+    if v < 0x800 {
+        return 2;
+    }
+    if v < 0x10000 {
+        return 3;
+    }
+    4
+}
+
+// So many more, as 64 bits count.
+fn more(n: usize, k: usize) -> usize
+    ensures { λ r. ⌜ r ≡ (n + k) % 2 ^ 64 ⌝ }
+{
+    let left = 0xFFFF_FFFF_FFFF_FFFF - n;
+    if left < k {
+        return k - left - 1;
+    }
+    n + k
+}
+
+// What unescaping comes to: the number, and the length of the text, as 64 bits count.
+pub struct Unescaped {
+    pub number: u8,
+    pub len: usize,
+}
+
+// The source column unescaped, which is not stored: 30 where it does not unescape.
+pub fn unescape(t: &[u8], c: Source) -> Unescaped
+    ensures { λ r. ⌜ UnescapedIs (unescape (bytesLeft (now (t .entry)) c)) r ⌝ }
 {
     let mut cur = c;
+    let mut n = 0;
     loop {
         let token = next_token(t, cur);
         match token {
             Token::Plain(_, d) => {
+                n = more(n, 1);
                 cur = d;
             }
-            Token::Scalar(_, d) => {
+            Token::Scalar(v, d) => {
+                n = more(n, scalar_length(v));
                 cur = d;
             }
-            Token::Stretch(_, _, d) => {
+            Token::Stretch(a, e, d) => {
+                n = more(n, e - a);
                 cur = d;
             }
             Token::Bad => {
-                return 30;
+                return Unescaped { number: 30, len: 0 };
             }
             Token::Done => {
-                return 0;
+                return Unescaped { number: 0, len: n };
             }
         }
     }

@@ -1,11 +1,15 @@
 -- Question by question. Assumes nothing.
 use borrow.Author.Needs.{needs}
-use mathlib.Core.Path.{sym, _∙_, subst}
+use mathlib.Core.Path.{_≡_, sym, _∙_, subst}
 use denote.Ref.{now}
+use Rattle.format.specs.Records.{emptyObject}
+use Rattle.format.specs.TextReader.{parseLabelTable}
+use Rattle.format.specs.Calls.{refusalOf}
 use Rattle.text_lines.specs.Groups.{NextRow, RowAt}
 use Rattle.text_lines.specs.declared.Passed.the-variants as pa
-use Rattle.text_tables.specs.Debug.{BarAt, FirstBar}
+use Rattle.text_tables.specs.Debug.{labelView, BarAt, FirstBar}
 use Rattle.text_debug.specs.DebugGroup.{LastBar, FirstRow, DebugChecked}
+use Rattle.text_debug.specs.declared.DebugGroup.{DebugGroup}
 use Rattle.text_debug.proofs.DebugGroupLaws.{checked-none, checked-first, checked-last, checked-labels, checked-lines, checked-unlined, checked-lined}
 use Rattle.text_debug.proofs.parse_debug.Statement.{statement}
 use Rattle.text_debug.proofs.parse_debug.Tie as tie
@@ -31,14 +35,42 @@ returns-3 c = subst (DebugChecked (now (c .before .before .before .before .befor
 returns-4 : tie.Need-returns-4
 returns-4 c = subst (DebugChecked (now (c .before .before .before .before .before .before .before .before .before .before .before .before .before .before .before .args .t)) (c .before .before .before .before .before .before .before .before .before .before .before .before .before .before .before .args .at) (c .before .before .before .before .before .before .before .before .before .before .before .before .before .before .before .args .sourced)) (sym (c .without-rows4 .ensures)) (checked-labels _ _ _ _ _ (row (c .before .before .before .before .before .before .before .before .before .before .before)) _ _ (bar (c .before .before .before .before .before .before .before .before)) _ (last (c .before .before .before .before)) _ (c .before .before .parse-label-table .ensures) (c .before .if1 .taken))
 
+-- from the line table on
+abbrev ends : tie.After-parse-line-table → tie.After-next
+ends p = p .before .before .before .before
+
+abbrev start : tie.After-parse-line-table → tie.Start
+start p = ends p .before .before .before .before .before .before .before .before .before .before .before
+
+abbrev Is : tie.After-parse-line-table → DebugGroup → Type 0
+Is p = DebugChecked (now (start p .args .t)) (start p .args .at) (start p .args .sourced)
+
+labels : (p : tie.After-parse-line-table) → 0 ≡ refusalOf (parseLabelTable emptyObject (labelView (now (start p .args .t)) (start p .args .at) .0))
+labels p = sym (p .before .if1 .left) ∙ p .before .before .parse-label-table .ensures
+
 returns-5 : tie.Need-returns-5
-returns-5 c = subst (DebugChecked (now (c .before .before .before .before .before .before .before .before .before .before .before .before .before .before .before .before .before .args .t)) (c .before .before .before .before .before .before .before .before .before .before .before .before .before .before .before .before .before .args .at) (c .before .before .before .before .before .before .before .before .before .before .before .before .before .before .before .before .before .args .sourced)) (sym (c .without-rows5 .ensures)) (checked-lines _ _ _ _ _ (row (c .before .before .before .before .before .before .before .before .before .before .before .before .before)) _ _ (bar (c .before .before .before .before .before .before .before .before .before .before)) _ (last (c .before .before .before .before .before .before)) (sym (c .before .before .before .if1 .left) ∙ c .before .before .before .before .parse-label-table .ensures) _ (c .before .before .parse-line-table .ensures) (c .before .if2 .taken))
+returns-5 c =
+    let p = c .before .before .before in
+    let b = ends p .before .before .before .before in
+    subst (Is p) (sym (c .without-rows5 .ensures))
+    (checked-lines _ _ _ _ _ (row (b .before .before .before)) _ _ (bar b) _ (last (ends p)) (labels p) _ (p .parse-line-table .ensures) (c .before .if2 .taken))
 
 returns-6 : tie.Need-returns-6
-returns-6 c = subst (DebugChecked (now (c .before .before .before .before .before .before .before .before .before .before .before .before .before .before .before .before .before .before .before .before .args .t)) (c .before .before .before .before .before .before .before .before .before .before .before .before .before .before .before .before .before .before .before .before .args .at) (c .before .before .before .before .before .before .before .before .before .before .before .before .before .before .before .before .before .before .before .before .args .sourced)) (sym (c .without-rows6 .ensures)) (checked-unlined _ _ _ _ _ (row (c .before .before .before .before .before .before .before .before .before .before .before .before .before .before .before .before)) _ _ (bar (c .before .before .before .before .before .before .before .before .before .before .before .before .before)) _ (last (c .before .before .before .before .before .before .before .before .before)) (sym (c .before .before .before .before .before .before .if1 .left) ∙ c .before .before .before .before .before .before .before .parse-label-table .ensures) _ (c .before .before .before .before .before .parse-line-table .ensures) (c .before .before .before .before .if2 .left) (subst (FirstRow (now (c .before .before .before .before .before .before .before .before .before .before .before .before .before .before .before .before .before .before .before .before .args .t)) (c .before .before .before .before .before .before .before .before .before .before .before .before .before .bar .given .0 .0)) (c .before .enum-told5 .given .1) (c .before .before .before .first-line-row .ensures)))
+returns-6 c =
+    let f = c .before .before .before in
+    let p = f .before .before .before in
+    let b = ends p .before .before .before .before in
+    subst (Is p) (sym (c .without-rows6 .ensures))
+    (checked-unlined _ _ _ _ _ (row (b .before .before .before)) _ _ (bar b) _ (last (ends p)) (labels p) _ (p .parse-line-table .ensures) (f .before .if2 .left)
+    (subst (FirstRow (now (start p .args .t)) (b .bar .given .0 .0)) (c .before .enum-told5 .given .1) (f .first-line-row .ensures)))
 
 returns-7 : tie.Need-returns-7
-returns-7 c = checked-lined _ _ _ _ _ (row (c .before .before .before .before .before .before .before .before .before .before .before .before .before .before .before .before)) _ _ (bar (c .before .before .before .before .before .before .before .before .before .before .before .before .before)) _ (last (c .before .before .before .before .before .before .before .before .before)) (sym (c .before .before .before .before .before .before .if1 .left) ∙ c .before .before .before .before .before .before .before .parse-label-table .ensures) _ (c .before .before .before .before .before .parse-line-table .ensures) (c .before .before .before .before .if2 .left) _ (subst (FirstRow (now (c .before .before .before .before .before .before .before .before .before .before .before .before .before .before .before .before .before .before .before .before .args .t)) (c .before .before .before .before .before .before .before .before .before .before .before .before .before .bar .given .0 .0)) (c .before .rows .given .1) (c .before .before .before .first-line-row .ensures))
+returns-7 c =
+    let f = c .before .before .before .before in
+    let p = f .before .before .before in
+    let b = ends p .before .before .before .before in
+    checked-lined _ _ _ _ _ (row (b .before .before .before)) _ _ (bar b) _ (last (ends p)) (labels p) _ (p .parse-line-table .ensures) (f .before .if2 .left) _
+    (subst (FirstRow (now (start p .args .t)) (b .bar .given .0 .0)) (c .before .before .rows .given .1) (f .first-line-row .ensures))
 
 pub parse-debug-spec : {M : Type 1} → statement M
 parse-debug-spec = tie.close (tie.spec (λ c κs. search needs) (λ c. search needs) (λ c. search needs) (λ c κs. search needs) returns (λ c κs. search needs) (λ c. search needs) (λ c. search needs) (λ c κs. search needs) returns-2 (λ c κs. search needs) (λ c. search needs) (λ c. search needs) (λ c κs. search needs) returns-3 (λ c κs. search needs) (λ c κs. search needs) returns-4 (λ c κs. search needs) (λ c κs. search needs) returns-5 (λ c κs. search needs) (λ c. search needs) (λ c. search needs) (λ c κs. search needs) returns-6 returns-7)

@@ -4,8 +4,8 @@ use mathlib.Core.Path.{_≡_, sym, ap, _∙_}
 use mathlib.Core.Option.{some}
 use denote.Ref.{now}
 use Rattle.text_words.specs.Room.{roomOf, roomAfter}
-use Rattle.text_read.specs.Parts.{rowParts, labelParts, lineParts, sourceParts}
-use Rattle.text_read.proofs.PartLaws.{short0, short1, short2, short3, below1, on3}
+use Rattle.text_read.specs.Parts.{rowParts, labelParts, lineParts, sourceParts, sourceRoom}
+use Rattle.text_read.proofs.PartLaws.{source-room-is, short0, short1, short2, short3, below1, on3}
 use Rattle.text_read.proofs.object_room.Statement.{statement}
 use Rattle.text_read.proofs.object_room.Tie as tie
 
@@ -32,10 +32,16 @@ left2 c = sym (ap roomOf (c .c .given .1)) ∙ c .before .before .lines-room .en
 abbrev to-c : tie.After-d → tie.After-c
 to-c c = c .before .before .before .before
 
+after-source : (c : tie.After-c) →
+    let k = start (to-a (to-b c)) in
+    sourceRoom (k .args .sourced) (k .args .lines .len) (c .c .given .0 .0)
+    ≡ roomAfter (sourceParts (k .args .sourced) (now (k .args .t)) (k .args .rows)) (c .c .given .0 .0)
+after-source c = let k = start (to-a (to-b c)) in source-room-is (k .args .sourced) (now (k .args .t)) (k .args .rows) _ _ λ y. k .pre y .0
+
 left3 : (c : tie.After-d) →
     let k = start (to-a (to-b (to-c c))) in
     some (c .d .given .0 .0) ≡ roomAfter (sourceParts (k .args .sourced) (now (k .args .t)) (k .args .rows)) (to-c c .c .given .0 .0)
-left3 c = sym (ap roomOf (c .d .given .1)) ∙ c .before .before .source-room .ensures
+left3 c = sym (ap roomOf (c .d .given .1)) ∙ c .before .before .source-room .ensures ∙ after-source (to-c c)
 
 returns : tie.Need-returns
 returns c = short0 _ _ _ _ _ (sym (ap roomOf (c .enum-told .given .1)) ∙ c .before .before .rows-room .ensures)
@@ -53,14 +59,14 @@ returns-3 c =
     short2 _ _ _ _ _ _ (left0 (to-a b)) _ (left1 b) (sym (ap roomOf (c .enum-told3 .given .1)) ∙ l .lines-room .ensures)
 
 source-room-requires : tie.Need-source-room-requires
-source-room-requires c κs = start (to-a (to-b (c .before))) .pre
+source-room-requires c κs y = start (to-a (to-b (c .before))) .pre y .1
 
 returns-4 : tie.Need-returns-4
 returns-4 c =
     let l = c .before .before in
     let x = l .before .before in
     let b = to-b x in
-    short3 _ _ _ _ _ _ (left0 (to-a b)) _ (left1 b) _ (left2 x) (sym (ap roomOf (c .enum-told4 .given .1)) ∙ l .source-room .ensures)
+    short3 _ _ _ _ _ _ (left0 (to-a b)) _ (left1 b) _ (left2 x) (sym (ap roomOf (c .enum-told4 .given .1)) ∙ l .source-room .ensures ∙ after-source x)
 
 sub-keeps-relocations : tie.Need-sub-keeps-relocations
 sub-keeps-relocations c =

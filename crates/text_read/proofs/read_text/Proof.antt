@@ -12,9 +12,9 @@ use Rattle.units.specs.Filled.{filledOf}
 use Rattle.writing.specs.Written.{Put}
 use Rattle.text_lines.proofs.LineLaws.{to-end}
 use Rattle.text_words.specs.Room.{roomOf, roomAfter}
-use Rattle.text_read.specs.SourceText.{Countable}
+use Rattle.text_read.specs.SourceText.{Counted}
 use Rattle.text_read.specs.Parts.{joined, objectParts}
-use Rattle.text_read.proofs.FileLaws.{read-refused, read-short, read-fits, read-put, lent-inside, lent-countable, lent-parts}
+use Rattle.text_read.proofs.FileLaws.{read-refused, read-short, read-fits, read-put, lent-inside, lent-unescapes, lent-counted, lent-parts}
 use Rattle.text_read.proofs.read_text.Statement.{statement}
 use Rattle.text_read.proofs.read_text.Tie as tie
 
@@ -33,11 +33,11 @@ trimmed-is c = ap trim (sym (to-end (bytes c) 0)) ∙ sym (c .trim .ensures .1 .
 inside : (c : tie.After-trim) → scan c .scan-text .result .end ≤ length (bytes c)
 inside c = lent-inside (bytes c) (scan c .scan-text .result) (scan c .scan-text .ensures) (c .before .if1 .left)
 
-countable : (c : tie.After-trim) →
+counted : (c : tie.After-trim) →
     let r = scan c .scan-text .result in
-    (r .sourced ≡ true → Countable (take (r .end - 0) (bytes c)) (r .rows))
-countable c =
-    lent-countable (bytes c) (scan c .scan-text .result) (scan c .scan-text .ensures) (c .before .if1 .left)
+    (r .sourced ≡ true → Counted (take (r .end - 0) (bytes c)) (r .rows) (r .lines))
+counted c =
+    lent-counted (bytes c) (scan c .scan-text .result) (scan c .scan-text .ensures) (c .before .if1 .left)
     (let h = scan c .before .before .shared-slice-known .given in omega arith)
 
 abbrev parts : tie.After-trim → List (List ℕ)
@@ -50,10 +50,10 @@ parts-are : (c : tie.After-trim) →
 parts-are c = lent-parts (bytes c) (scan c .scan-text .result) (scan c .scan-text .ensures) (c .before .if1 .left) _ (trimmed-is c)
 
 fits : (c : tie.After-object-room) →
-    let w = c .before .before .before in
+    let w = c .before .before .before .before in
     roomOf (c .object-room .result) ≡ roomAfter (parts w) (length (room w))
 fits c =
-    let w = c .before .before .before in
+    let w = c .before .before .before .before in
     c .object-room .ensures ∙ ap (λ (ps : List (List ℕ)). roomAfter ps (length (room w))) (parts-are w)
 
 returns : tie.Need-returns
@@ -66,7 +66,7 @@ returns-2 : tie.Need-returns-2
 returns-2 c =
     let d = c .before in
     let o = d .before .before in
-    let w = o .before .before .before in
+    let w = o .before .before .before .before in
     ap (λ x. filledOf x (room w)) (c .refused2 .ensures)
     ∙ read-short (bytes w) _ _ (room w) (scan w .scan-text .ensures) (w .before .if1 .left)
     (sym (ap roomOf (d .enum-told2 .given .1)) ∙ fits o)
@@ -75,8 +75,8 @@ put-object-requires : tie.Need-put-object-requires
 put-object-requires c κs =
     let d = c .before .before .before in
     let o = d .before .before in
-    let w = o .before .before .before in (
-      λ q. countable w q .0,
+    let w = o .before .before .before .before in (
+      lent-unescapes (bytes w) (scan w .scan-text .result) (scan w .scan-text .ensures) (w .before .if1 .left),
       subst (λ (ps : List (List ℕ)). length (joined ps) ≤ length (room w)) (sym (parts-are w))
           (read-fits (bytes w) _ _ (room w) (scan w .scan-text .ensures) (w .before .if1 .left) _
           (sym (ap roomOf (d .enum-told .given .1)) ∙ fits o)),
@@ -87,7 +87,7 @@ returns-3 c =
     let p = c .before .before .before in
     let d = p .before .before .before .before in
     let o = d .before .before in
-    let w = o .before .before .before in
+    let w = o .before .before .before .before in
     ap (λ x. filledOf x (p .put-object .last .0)) (c .given .ensures)
     ∙ read-put (bytes w) _ _ (room w) (scan w .scan-text .ensures) (w .before .if1 .left) _
     (sym (ap roomOf (d .enum-told .given .1)) ∙ fits o) _ _
@@ -95,13 +95,13 @@ returns-3 c =
     (p .put-object .ensures))
 
 object-room-requires : tie.Need-object-room-requires
-object-room-requires c κs = countable (c .before .before)
+object-room-requires c κs = counted (c .before .before .before)
 
 pub read-text-spec : {M : Type 1} → statement M
 read-text-spec =
     tie.close
     (tie.spec (λ c κs. search needs) (λ c κs. search needs) returns (λ c κs. search needs) (λ c. search needs) (λ c. search needs)
-    (λ c. search needs) (λ c. search needs) (λ c. search needs) (λ c. omega (arith, inside (c .before))) object-room-requires
+    (λ c. search needs) (λ c. search needs) (λ c. search needs) (λ c. omega (arith, inside (c .before .before))) object-room-requires
     (λ c. search needs) (λ c. search needs) (λ c κs. search needs) returns-2 (λ c. search needs) (λ c. search needs) (λ c. search needs)
-    (λ c. search needs) (λ c. search needs) (λ c. omega (arith, inside (c .before .before .before .before .before .before .before)))
+    (λ c. search needs) (λ c. search needs) (λ c. omega (arith, inside (c .before .before .before .before .before .before .before .before)))
     put-object-requires (λ c κs. search needs) (λ c. search needs) returns-3)

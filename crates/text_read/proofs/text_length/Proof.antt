@@ -12,7 +12,7 @@ use Rattle.text_lines.proofs.LineLaws.{to-end}
 use Rattle.text_words.specs.Room.{roomOf, roomAfter}
 use Rattle.text_read.specs.Parts.{objectParts}
 use Rattle.text_read.proofs.FileLaws.{length-refused, length-fits, length-left, length-given}
-use Rattle.text_read.proofs.FileLaws.{lent-inside, lent-countable, lent-parts}
+use Rattle.text_read.proofs.FileLaws.{lent-inside, lent-counted, lent-parts}
 use Rattle.text_read.proofs.text_length.Statement.{statement}
 use Rattle.text_read.proofs.text_length.Tie as tie
 
@@ -37,21 +37,21 @@ short c = let h = scan c .before .shared-slice-known .given in omega arith
 abbrev parts : tie.After-trim → List (List ℕ)
 parts c = let r = scan c .scan-text .result in objectParts (trim (bytes c)) (take (r .end) (bytes c)) (r .sourced) (r .rows)
 
-room : (c : tie.After-object-room) → roomOf (c .object-room .result) ≡ roomAfter (parts (c .before .before .before)) most
+room : (c : tie.After-object-room) → roomOf (c .object-room .result) ≡ roomAfter (parts (c .before .before .before .before)) most
 room c =
-    let w = c .before .before .before in
+    let w = c .before .before .before .before in
     c .object-room .ensures
     ∙ ap (λ (ps : List (List ℕ)). roomAfter ps most)
     (lent-parts (bytes w) (scan w .scan-text .result) (scan w .scan-text .ensures) (w .before .if1 .left) _ (trimmed-is w))
 
 left : (c : tie.After-known-told)
-    → some (c .before .left .given .0 .0) ≡ roomAfter (parts (c .before .before .before .before .before .before)) most
+    → some (c .before .left .given .0 .0) ≡ roomAfter (parts (c .before .before .before .before .before .before .before)) most
 left c = sym (ap roomOf (c .before .left .given .1)) ∙ room (c .before .before .before)
 
 object-room-requires : tie.Need-object-room-requires
 object-room-requires c κs =
-    let w = c .before .before in
-    lent-countable (bytes w) (scan w .scan-text .result) (scan w .scan-text .ensures) (w .before .if1 .left) (short w)
+    let w = c .before .before .before in
+    lent-counted (bytes w) (scan w .scan-text .result) (scan w .scan-text .ensures) (w .before .if1 .left) (short w)
 
 returns : tie.Need-returns
 returns c = let d = c .before in length-refused _ _ (d .scan-text .result) (d .scan-text .ensures) (c .if1 .taken)
@@ -59,24 +59,24 @@ returns c = let d = c .before in length-refused _ _ (d .scan-text .result) (d .s
 returns-2 : tie.Need-returns-2
 returns-2 c =
     let o = c .before .before in
-    let w = o .before .before .before in
+    let w = o .before .before .before .before in
     absurd
     (length-fits (bytes w) _ (scan w .scan-text .result) (scan w .scan-text .ensures) (w .before .if1 .left) most
     (omega (arith, short w)) (sym (ap roomOf (c .enum-told .given .1)) ∙ room o))
 
 sub-n : tie.Need-sub-n
 sub-n c =
-    let w = c .before .before .before .before .before .before in
+    let w = c .before .before .before .before .before .before .before in
     length-left (bytes w) _ (scan w .scan-text .result) (scan w .scan-text .ensures) (w .before .if1 .left) most _ (left c)
 
 returns-3 : tie.Need-returns-3
 returns-3 c =
-    let w = c .before .before .before .before .before .before in
+    let w = c .before .before .before .before .before .before .before in
     length-given (bytes w) _ (scan w .scan-text .result) (scan w .scan-text .ensures) (w .before .if1 .left) most _ (left c)
 
 pub text-length-spec : {M : Type 1} → statement M
 text-length-spec =
     tie.close
     (tie.spec (λ c κs. search needs) returns (λ c κs. search needs) (λ c. search needs) (λ c. search needs) (λ c. search needs)
-    (λ c. search needs) (λ c. search needs) (λ c. omega (arith, inside (c .before))) object-room-requires (λ c. search needs)
+    (λ c. search needs) (λ c. search needs) (λ c. omega (arith, inside (c .before .before))) object-room-requires (λ c. search needs)
     (λ c. search needs) returns-2 sub-n returns-3)

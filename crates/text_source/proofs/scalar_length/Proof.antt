@@ -1,7 +1,6 @@
-use native.Mathlib.Omega.{arith}
-use Rattle.text_read.proofs.TextLaws.{length-one, length-two, length-three, length-four}
-use Rattle.text_read.proofs.scalar_length.Statement.{statement}
-use Rattle.text_read.proofs.scalar_length.Tie as tie
+use Rattle.text_source.proofs.UnescapeLaws.{length-one, length-two, length-three, length-four}
+use Rattle.text_source.proofs.scalar_length.Statement.{statement}
+use Rattle.text_source.proofs.scalar_length.Tie as tie
 
 pub scalar-length-spec : {M : Type 1} → statement M
 scalar-length-spec =
