@@ -8,6 +8,7 @@ ghost use Rattle.binary_format.specs.Formats.{binaryFormat};
 use binary_read::read_records;
 use binary_read::records_length;
 use binary_write::write_file;
+use prefix::begins_with;
 use units::Filled;
 use units::Measured;
 
@@ -68,16 +69,6 @@ fn file_header() -> [u8; 7]
 fn has_header(s: &[u8]) -> bool
     ensures { λ r. ⌜ r ≡ beginsWith header (now (s .entry)) ⌝ }
 {
-    if s.len() < 7 {
-        return false;
-    }
     let front = file_header();
-    let mut i = 0;
-    while i < 7 {
-        if s[i] != front[i] {
-            return false;
-        }
-        i += 1;
-    }
-    true
+    begins_with(s, &front)
 }

@@ -15,12 +15,12 @@ ghost use Rattle.binary_measure.specs.Measured.{Ends, TextEnds, Stands, textOf,
 ghost use Rattle.binary_write.specs.Files.{WritesAfter, flagOf, memoryPart, addressPart, sized, RoomFor, PutRecord};
 use binary_measure::record_end;
 use binary_measure::write_number;
+use byte_numbers::put_u16_be;
+use byte_numbers::put_u16_le;
+use byte_numbers::put_u64_le;
 use units::Filled;
 use writing::put_bytes;
 use writing::put_u8;
-use writing::put_u16_be;
-use writing::put_u16_le;
-use writing::put_u64_le;
 
 // The first of a memory word's three bytes.
 fn flag(w: u32) -> u8

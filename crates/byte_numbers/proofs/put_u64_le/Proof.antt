@@ -4,9 +4,9 @@ use native.Mathlib.Omega.{arith}
 use lib.ListN.{length-set}
 use mathlib.Core.Path.{refl}
 use Rattle.format.specs.Digits.{digitsOf}
 use Rattle.writing.proofs.WriteLaws.{too-short, stored}
-use Rattle.writing.proofs.put_u64_le.Statement.{statement}
-use Rattle.writing.proofs.put_u64_le.Tie as tie
+use Rattle.byte_numbers.proofs.put_u64_le.Statement.{statement}
+use Rattle.byte_numbers.proofs.put_u64_le.Tie as tie
 
 returns : tie.Need-returns
 unfolding digitsOf
