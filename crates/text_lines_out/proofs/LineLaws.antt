@@ -1,6 +1,7 @@
 -- A source line by line. Assumes nothing.
 use mathlib.Core.Path.{_≡_, refl, sym, ap, ap₂, subst, _∙_}
 use mathlib.Core.Bool.{true, false}
+use mathlib.Core.Logic.{⊎-elim}
 use mathlib.Core.List.{List, [], _∷_, _++_, map, flatMap, append-nil, append-assoc}
 use mathlib.Core.Option.{Option, none, some}
 use Prim.Native.Nat.{ℕ, zero, suc, _+_, _-_, _^_, _≤_, _<_}
@@ -19,12 +20,13 @@ use Rattle.format.proofs.ListLaws.{by-test}
 use Rattle.format.proofs.Utf8Laws.{char-one, char-ascii, char-reads}
 use Rattle.source_info.specs.Passing.{span, spanFrom}
 use Rattle.source_info.proofs.LineLaws.{span-start, span-other, span-stop, span-pass, span-end, span-past}
-use Rattle.word_chars.proofs.CharLaws.{size-is}
+use Rattle.word_chars.specs.Stretches.{Other, Clear}
+use Rattle.word_chars.proofs.CharLaws.{size-is, byte-is}
 use Rattle.object.specs.Access.{addressIn, lineBlockAt}
 use Rattle.object.specs.Bodies.{bodyAt}
 use Rattle.object.proofs.BodyLaws.{body-fits, body-out}
 use Rattle.object.proofs.ByteLaws.{body-word}
-use Rattle.object.specs.Texts.{textByte, bytesFrom, textBytes}
+use Rattle.object.specs.Texts.{textByte, bytesFrom, textBytes, EachByte}
 use Rattle.text_escape.specs.Escaped.{escapeFrom, escapedIn}
 use Rattle.text_escape.specs.Rows.{lineLine}
 use Rattle.text_escape.proofs.EscapeLaws.{escape-is, line-parts}
@@ -175,6 +177,29 @@ module _ (s : List ℕ) (start i : ℕ) (p : Passing s start i) where
 
 pub passing-start : (s : List ℕ) (start : ℕ) → Passing s start start
 passing-start s start = (omega arith, λ h. h, λ k. refl)
+
+-- a stretch without a newline is passed at once
+module _ (ws : List ℕ) (at n start : ℕ) where
+  abbrev text : List ℕ
+  text = textBytes ws at n
+
+  pass-each : (d : ℕ) → start + d ≤ n → EachByte Other ws at start (start + d) → Passing text start (start + d)
+  pass-each zero h f = let e : start ≡ start + 0 = omega arith in subst (Passing text start) e (passing-start text start)
+  pass-each (suc d) h f =
+      let e : start + d + 1 ≡ start + suc d = omega arith in
+      let l : start + d < n = omega arith in
+      subst (Passing text start) e
+      (pass-on text start (start + d) (pass-each d (omega arith) (λ k a b. f k a (omega arith))) (omega (arith, size-is ws at n, l))
+      (λ z. f (start + d) (omega arith) (omega arith) (byte-is ws at n (start + d) l ∙ z)))
+
+  pub pass-clear : (i : ℕ) → Clear ws at n start i → Passing text start i
+  pass-clear i c =
+      ⊎-elim
+      (λ h. let e : start ≡ i = omega (arith, h, c .0) in subst (Passing text start) e (passing-start text start))
+      (λ h.
+      let e : start + (i - start) ≡ i = omega (arith, c .0) in
+      subst (Passing text start) e (pass-each (i - start) (omega (arith, h, e)) (λ k a b. c .2 k a (omega (arith, e)))))
+      (c .1)
 
 -- line 0, and from line to line
 pub at-start : (s : List ℕ) → isUtf8 s ≡ true → At s 0 0

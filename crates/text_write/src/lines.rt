@@ -31,6 +31,7 @@ use text_lines_out::smaller_line;
 use text_lines_out::straight_count;
 use text_numerals::count_digits;
 use units::Line;
+use word_chars::clear_end;
 use writing::put_bytes;
 ghost use mathlib.Core.Path.{_≡_};
 ghost use mathlib.Core.List.{[], _∷_};
@@ -57,7 +58,7 @@ fn next_line(ws: &[u32], at: usize, n: usize, start: usize) -> usize
     requires { ⌜ n ≤ 3 * length (now ws) ⌝ }
     ensures { λ r. ⌜ Next (textBytes (now (ws .entry)) at n) start r ⌝ }
 {
-    let mut i = start;
+    let mut i = clear_end(ws, at, n, start);
     while i < n {
         if text_byte(ws, at, i) == 10 {
             return i + 1;

@@ -1,4 +1,4 @@
--- Byte by byte, up to a newline. Assumes nothing.
+-- Past a stretch without a newline byte by byte, up to a newline. Assumes nothing.
 use borrow.Author.Needs.{needs}
 use native.Mathlib.Omega.{arith}
 use mathlib.Core.Path.{_≡_, sym, subst, _∙_}
@@ -9,7 +9,7 @@ use denote.Ref.{now}
 use Rattle.object.specs.Texts.{textBytes}
 use Rattle.word_chars.proofs.CharLaws.{byte-is, size-is}
 use Rattle.text_lines_out.specs.Lines.{Next}
-use Rattle.text_lines_out.proofs.LineLaws.{Passing, passing-start, pass-on, next-newline, next-end}
+use Rattle.text_lines_out.proofs.LineLaws.{Passing, pass-clear, pass-on, next-newline, next-end}
 use Rattle.text_write.proofs.lines.next_line.Statement.{statement}
 use Rattle.text_write.proofs.lines.next_line.Tie as tie
 
@@ -22,7 +22,7 @@ abbrev μ-loop : tie.MeasureT-loop
 -- the byte at the place
 module _ (c : tie.After-text-byte Inv-loop μ-loop) where
   abbrev s : tie.Start Inv-loop μ-loop
-  s = c .before .before .before .before
+  s = c .before .before .before .before .before
 
   abbrev text : List ℕ
   text = textBytes (now (s .args .ws)) (s .args .at) (s .args .n)
@@ -37,7 +37,9 @@ module _ (c : tie.After-text-byte Inv-loop μ-loop) where
   byte = c .text-byte .ensures ∙ byte-is (now (s .args .ws)) (s .args .at) (s .args .n) i (c .before .loop-test .taken)
 
 loop-holds : tie.Need-loop-holds Inv-loop μ-loop
-loop-holds c = passing-start _ _
+loop-holds c =
+    let a = c .before .before .args in
+    pass-clear (now (a .ws)) (a .at) (a .n) (a .start) (c .clear-end .result) (c .clear-end .ensures)
 
 add-result : tie.Need-add-result Inv-loop μ-loop
 add-result c = omega (arith, c .before .before .loop-test .taken)
@@ -59,10 +61,10 @@ loop-again c =
     pass-on (text k) (s k .args .start) (i k) (k .before .before .loop .inv) (there k) (λ z. c .if1 .left (byte k ∙ z))
 
 add-result-2 : tie.Need-add-result-2 Inv-loop μ-loop
-add-result-2 c = let h = c .before .before .before .pre in search needs
+add-result-2 c = let h = c .before .before .before .before .pre in search needs
 
 returns-2 : tie.Need-returns-2 Inv-loop μ-loop
-returns-2 c = let a = c .before .before .before .args in
+returns-2 c = let a = c .before .before .before .before .args in
     let z = size-is (now (a .ws)) (a .at) (a .n) in
     subst (λ (k : ℕ). Next (textBytes (now (a .ws)) (a .at) (a .n)) (a .start) (k + 1)) z
     (next-end (textBytes (now (a .ws)) (a .at) (a .n)) (a .start) (c .before .loop .i) (c .before .loop .inv) (omega
@@ -74,6 +76,7 @@ next-line-spec =
     (tie.spec
     Inv-loop
     μ-loop
+    (λ c κs. search needs)
     loop-holds
     (λ c κs. search needs)
     add-result
