@@ -29,7 +29,8 @@ use Rattle.text_tables.proofs.LabelLaws.{label-row}
 use Rattle.text_source.specs.Stream.{sourceCell}
 use Rattle.text_debug.specs.LineTable.{lineColumns, sourceIn, Makes, TableNumber, LineTableIs}
 use Rattle.text_debug.specs.declared.LineTable.{LineTable}
-use Rattle.text_debug.specs.DebugGroup.{LastBar, FirstRow, addressIn, lineBlocksIn}
+use Rattle.text_debug.specs.DebugGroup.{LastBar, FirstRow, lineBlocksIn}
+use Rattle.text_debug.specs.LineRuns.{addressIn}
 use Rattle.text_debug.specs.DebugGroup.{LinesSet, withoutRows, DebugSettles, DebugChecked}
 use Rattle.text_lines.specs.declared.Passed.the-variants as pa
 use Rattle.text_debug.proofs.RefusalLaws.{Numbered, numbered-ask, refused-by, numbered-unescape}

@@ -1,3 +1,4 @@
+pub mod RunLaws
 pub mod RefusalLaws
 pub mod LineTableLaws
 pub mod DebugGroupLaws

@@ -1,12 +1,12 @@
 -- The line table's number, question by question. Assumes nothing.
-use mathlib.Core.Path.{_≡_, refl, sym, ap, _∙_}
+use mathlib.Core.Path.{_≡_, refl, sym, ap, _∙_, subst}
 use mathlib.Core.Bool.{Bool, true, false, true≢false, not}
 use mathlib.Core.List.{List, [], _∷_, _++_, map, flatMap}
 use mathlib.Core.Option.{Option, none, some}
-use Prim.Native.Nat.{ℕ, suc, _^_, _%_}
+use Prim.Native.Nat.{ℕ, suc}
 use native.Mathlib.Omega.{arith}
 use lib.Dec.{eqb}
-use lib.ListN.{length, drop}
+use lib.ListN.{drop}
 use Rattle.format.specs.Basics.{Outcome, refused, given, _>>=_, ask, need, isSome, isEmpty, if_then_else_}
 use Rattle.format.specs.Utf8.{trim}
 use Rattle.format.specs.ObjectFile.{ObjectFile}
@@ -20,7 +20,9 @@ use Rattle.text_tables.specs.Debug.{Groups, lineView}
 use Rattle.text_source.specs.Stream.{sourceCell}
 use Rattle.text_source.specs.Unescape.{UnescapedIs}
 use Rattle.text_source.specs.declared.Unescaped.{Unescaped}
-use Rattle.text_debug.specs.LineTable.{lineColumns, sourceIn, withoutLines, LineTableIs}
+use Rattle.text_debug.specs.LineTable.{lineColumns, sourceIn, Makes, withoutLines, LineTableIs}
+use Rattle.text_debug.specs.LineRuns.{LineRowsAre}
+use Rattle.text_debug.specs.declared.LineRows.{LineRows}
 
 abbrev pub Parsed : Type 0
 Parsed = Option ℕ × List ℕ
@@ -183,9 +185,11 @@ module _ (t : List ℕ) (from a e n : ℕ) (s : StepAt (lineView t) t from a e n
         rows-again y = ((λ h g. as-lines h 29 (table-again h (part a e t) (lineView t n .0) q z w (g ∙ y))), λ o. absurd (omega (arith, o)))
 
         pub rows-source : b ≡ false → (u : Unescaped) → UnescapedIs (unescape (flatMap sourceCell (lineView t n .0))) u
-            → LineTableIs (lineView t from .0) b (record { number = u .number; lines = record { len = u .len } })
+            → (r : LineRows) → LineRowsAre (lineView t n .0) r → r .number ≡ 0
+            → LineTableIs (lineView t from .0) b (record { number = u .number; lines = record { len = u .len; words = r .words; rise = r .rise } })
         unfolding sourceIn
-        rows-source y u k = (
+        rows-source y u k r x zero = (
           (λ h g. as-lines h (u .number) (table-source h (part a e t) (lineView t n .0) q z w (g ∙ y) (u .number) (k .0))),
-          λ o v. k .1 ∙ ap (λ (ls : List (List ℕ)). length (sourceIn ls) % 2 ^ 64) (sym after),
+          λ o v. subst (λ (ls : List (List ℕ)). Makes ls (record { len = u .len; words = r .words; rise = r .rise })) (sym after)
+              (k .1, x .1 zero .0, x .1 zero .1),
         )

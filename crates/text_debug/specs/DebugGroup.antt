@@ -2,19 +2,19 @@
 use mathlib.Core.Path.{_≡_}
 use mathlib.Core.Bool.{Bool, true, false}
 use mathlib.Core.List.{List, [], map, flatMap}
-use mathlib.Core.Option.{Option, none, some}
+use mathlib.Core.Option.{none, some}
 use Prim.Native.Nat.{ℕ, _≤_, _<_}
 use lib.ListN.{length, drop}
-use Rattle.format.specs.Basics.{Outcome, refused, given, andThen, isSome, isEmpty}
+use Rattle.format.specs.Basics.{Outcome, refused, given, isSome, isEmpty}
 use Rattle.format.specs.ObjectFile.{LineBlock, ObjectFile}
 use Rattle.format.specs.TextReader.{runsFrom, unescape, upToBar, parseDebugGroup}
 use Rattle.text_lines.specs.declared.Passed.{Passed}
 use Rattle.text_lines.specs.declared.Passed.the-variants as pa
 use Rattle.text_lines.specs.Groups.{partsFrom}
 use Rattle.text_tables.specs.Debug.{lineView}
-use Rattle.text_tables.specs.LineRows.{lineIn}
 use Rattle.text_source.specs.Stream.{sourceCell}
-use Rattle.text_debug.specs.LineTable.{sourceIn, Makes}
+use Rattle.text_debug.specs.LineRuns.{addressIn}
+use Rattle.text_debug.specs.LineTable.{sourceIn, Makes, noLines}
 use Rattle.text_debug.specs.declared.DebugGroup.{DebugGroup}
 
 -- the place after the group, where its last line begins with =; the line table is then all but this line
@@ -30,10 +30,6 @@ FirstRow t from (pa.To q) =
     (q ≤ length t) × (isEmpty (drop 1 (lineView t from .0)) ≡ false) × (lineView t q .0 ≡ drop 1 (lineView t from .0))
 FirstRow t from pa.Bad = isEmpty (drop 1 (lineView t from .0)) ≡ true
 
--- a row's address, if it has one
-unfoldable pub addressIn : List ℕ → Option ℕ
-addressIn l = andThen (lineIn l) λ r. r .1
-
 -- the kept runs of a line table's rows
 unfoldable pub lineBlocksIn : List (List ℕ) → List LineBlock
 lineBlocksIn ls = runsFrom 0 [] (map addressIn ls)
@@ -46,7 +42,7 @@ LinesSet false ls h h′ = (h′ .lineBlocks ≡ h .lineBlocks) × (h′ .source
 
 -- the answer for a group that has no rows of lines
 abbrev pub withoutRows : ℕ → ℕ → DebugGroup
-withoutRows number next = record { number = number; next = next; lined = false; rows = 0; lines = record { len = 0 } }
+withoutRows number next = record { number = number; next = next; lined = false; rows = 0; lines = noLines }
 
 -- an outcome has this number, never 0 for a refusal; with 0 the blocks stand, and the lines are set or stand
 abbrev pub DebugSettles : Bool → List (List ℕ) → ObjectFile → ℕ → Outcome ObjectFile → Type 0

@@ -1,2 +1,3 @@
+pub mod LineRuns
 pub mod LineTable
 pub mod DebugGroup

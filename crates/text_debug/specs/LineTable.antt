@@ -1,6 +1,6 @@
 -- The line table's number, and what its rows make. Assumes nothing.
 use mathlib.Core.Path.{_≡_}
-use mathlib.Core.Bool.{Bool, false}
+use mathlib.Core.Bool.{Bool, true, false}
 use mathlib.Core.List.{List, [], _∷_, flatMap}
 use Prim.Native.Nat.{ℕ, _^_, _%_}
 use lib.ListN.{length, drop}
@@ -11,6 +11,7 @@ use Rattle.format.specs.Calls.{refusalOf}
 use Rattle.text_source.specs.Stream.{sourceCell}
 use Rattle.text_debug.specs.declared.Lines.{Lines}
 use Rattle.text_debug.specs.declared.LineTable.{LineTable}
+use Rattle.text_debug.specs.LineRuns.{runsIn}
 
 abbrev pub lineColumns : List (List ℕ)
 lineColumns = ascii "LINE" ∷ ascii "ADDR" ∷ ascii "SOURCE" ∷ []
@@ -19,13 +20,16 @@ lineColumns = ascii "LINE" ∷ ascii "ADDR" ∷ ascii "SOURCE" ∷ []
 unfoldable pub sourceIn : List (List ℕ) → List ℕ
 sourceIn ls = givenOr (unescape (flatMap sourceCell ls)) []
 
--- what rows make: the bytes of their source, as 64 bits count
+-- what rows make: the bytes of their source and the words of their line blocks, as 64 bits count, and whether these rise
 abbrev pub Makes : List (List ℕ) → Lines → Type 0
-Makes ls r = r .len ≡ length (sourceIn ls) % 2 ^ 64
+Makes ls r = (r .len ≡ length (sourceIn ls) % 2 ^ 64) × (r .words ≡ runsIn ls .words) × (r .rise ≡ runsIn ls .rise)
+
+abbrev pub noLines : Lines
+noLines = record { len = 0; words = 0; rise = true }
 
 -- the answer for a line table that is refused, or that has no rows
 abbrev pub withoutLines : ℕ → LineTable
-withoutLines number = record { number = number; lines = record { len = 0 } }
+withoutLines number = record { number = number; lines = noLines }
 
 -- the number of these lines as a line table, for every object that has a source, or that has none
 abbrev pub TableNumber : List (List ℕ) → Bool → ℕ → Type 0

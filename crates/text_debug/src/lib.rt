@@ -5,17 +5,23 @@ use text_lines::Passed;
 use text_lines::begins_with;
 use text_lines::next_row;
 use text_source::Source;
+use text_source::more;
 use text_source::unescape;
+use text_tables::LineRow;
 use text_tables::first_bar;
 use text_tables::next_source_line;
 use text_tables::parse_label_table;
-use text_tables::parse_line_rows;
+use text_tables::parse_line_row;
 ghost use mathlib.Core.Path.{_≡_};
+ghost use mathlib.Core.Bool.{_&&_, _||_, not};
 ghost use mathlib.Core.List.{map};
+ghost use Prim.Native.Nat.{_^_, _<_};
+ghost use lib.Dec.{ltb};
 ghost use Rattle.format.specs.Utf8.{trim};
 ghost use Rattle.format.specs.TextReader.{splitn, sameCells};
 ghost use Rattle.text_tables.specs.Debug.{lineView};
-ghost use Rattle.text_debug.specs.LineTable.{lineColumns, withoutLines, LineTableIs};
+ghost use Rattle.text_debug.specs.LineRuns.{runOn, wordsAfter, runEnd, RowStepIs, LineRowsAre};
+ghost use Rattle.text_debug.specs.LineTable.{lineColumns, noLines, withoutLines, LineTableIs};
 ghost use Rattle.text_debug.specs.DebugGroup.{LastBar, FirstRow, withoutRows, DebugChecked};
 
 const LINE: [u8; 4] = [0x4C, 0x49, 0x4E, 0x45];
@@ -40,9 +46,165 @@ fn parse_line_header(l: &[u8]) -> bool
     cell_is(l, 2, 2, &source)
 }
 
-// What the rows of a line table make: how many bytes of source, as 64 bits count.
+// The runs of rows with an address up to a row: of the run that it may go on, how many rows, the last address and whether it fell; of
+// those before, the words of their line blocks, as 64 bits count, and whether they rise.
+pub struct Runs {
+    pub count: usize,
+    pub last: u16,
+    pub fell: bool,
+    pub words: usize,
+    pub rise: bool,
+}
+
+// Whether a run falls that fell already or not, when an address comes after its last.
+fn falls(fell: bool, last: u16, address: u16) -> bool
+    ensures { λ r. ⌜ r ≡ (fell || ltb address last) ⌝ }
+{
+    if fell {
+        return true;
+    }
+    address < last
+}
+
+// After a row with an address.
+fn run_on(s: Runs, address: u16) -> Runs
+    requires { ⌜ s .count < 2 ^ 63 ⌝ }
+    ensures { λ r. ⌜ r ≡ runOn s address ⌝ }
+{
+    let fell = falls(s.fell, s.last, address);
+    Runs {
+        count: s.count + 1,
+        last: address,
+        fell: fell,
+        words: s.words,
+        rise: s.rise,
+    }
+}
+
+// The words after the line block of a run, if it has rows.
+fn words_after(words: usize, count: usize) -> usize
+    requires { ⌜ count < 2 ^ 63 ⌝ }
+    ensures { λ r. ⌜ r ≡ wordsAfter words count ⌝ }
+{
+    if count == 0 {
+        return words;
+    }
+    more(words, 4 + count)
+}
+
+// Whether runs rise after one that fell or not.
+fn rise_after(rise: bool, fell: bool) -> bool
+    ensures { λ r. ⌜ r ≡ (rise && not fell) ⌝ }
+{
+    if fell {
+        return false;
+    }
+    rise
+}
+
+// After a row without an address, which ends a run.
+fn run_end(s: Runs) -> Runs
+    requires { ⌜ s .count < 2 ^ 63 ⌝ }
+    ensures { λ r. ⌜ r ≡ runEnd s ⌝ }
+{
+    let words = words_after(s.words, s.count);
+    let rise = rise_after(s.rise, s.fell);
+    Runs {
+        count: 0,
+        last: 0,
+        fell: false,
+        words: words,
+        rise: rise,
+    }
+}
+
+// The runs after a row; or the row does not read, or has another number.
+pub enum RowStep {
+    On(Runs),
+    Bad,
+}
+
+// A row of the line table that should have this number.
+fn row_on(s: Runs, l: &[u8], i: u64) -> RowStep
+    requires { ⌜ s .count < 2 ^ 63 ⌝ }
+    ensures { λ r. ⌜ RowStepIs s (now (l .entry)) i r ⌝ }
+{
+    match parse_line_row(l) {
+        LineRow::Known(n, a) => {
+            if n != i {
+                return RowStep::Bad;
+            }
+            RowStep::On(run_on(s, a))
+        }
+        LineRow::Unknown(n) => {
+            if n != i {
+                return RowStep::Bad;
+            }
+            RowStep::On(run_end(s))
+        }
+        LineRow::Bad => RowStep::Bad,
+    }
+}
+
+// The number of a line table's rows; where it is 0, how many words their line blocks have, as 64 bits count, and whether the addresses in
+// each kept run never fall. A run that reaches the last row is not asked.
+pub struct LineRows {
+    pub number: u8,
+    pub words: usize,
+    pub rise: bool,
+}
+
+// The rows of the line table, checked, from the place after its header.
+fn parse_line_rows(t: &[u8], from: usize) -> LineRows
+    ensures { λ r. ⌜ LineRowsAre (lineView (now (t .entry)) from .0) r ⌝ }
+{
+    let mut at = from;
+    let mut i: u64 = 0;
+    let mut s = Runs {
+        count: 0,
+        last: 0,
+        fell: false,
+        words: 0,
+        rise: true,
+    };
+    loop {
+        let Line::At { start, end, next } = next_source_line(t, at) else {
+            return LineRows {
+                number: 0,
+                words: s.words,
+                rise: s.rise,
+            };
+        };
+        let RowStep::On(r) = row_on(s, &t[start..end], i) else {
+            return LineRows {
+                number: 28,
+                words: 0,
+                rise: false,
+            };
+        };
+        s = r;
+        i += 1;
+        at = next;
+    }
+}
+
+// What the rows of a line table make: how many bytes of source, and how many words of line blocks, as 64 bits count, and whether these
+// rise.
 pub struct Lines {
     pub len: usize,
+    pub words: usize,
+    pub rise: bool,
+}
+
+// What no rows make.
+pub fn no_lines() -> Lines
+    ensures { λ r. ⌜ r ≡ noLines ⌝ }
+{
+    Lines {
+        len: 0,
+        words: 0,
+        rise: true,
+    }
 }
 
 // A line table's number, and what its rows make, where it reads and has rows.
@@ -55,9 +217,10 @@ pub struct LineTable {
 fn without_lines(number: u8) -> LineTable
     ensures { λ r. ⌜ r ≡ withoutLines number ⌝ }
 {
+    let lines = no_lines();
     LineTable {
         number: number,
-        lines: Lines { len: 0 },
+        lines: lines,
     }
 }
 
@@ -72,8 +235,8 @@ pub fn parse_line_table(t: &[u8], from: usize, sourced: bool) -> LineTable
         return without_lines(28);
     }
     let n = parse_line_rows(t, next);
-    if n != 0 {
-        return without_lines(n);
+    if n.number != 0 {
+        return without_lines(n.number);
     }
     let Line::At {
         start: _,
@@ -96,7 +259,11 @@ pub fn parse_line_table(t: &[u8], from: usize, sourced: bool) -> LineTable
     );
     LineTable {
         number: u.number,
-        lines: Lines { len: u.len },
+        lines: Lines {
+            len: u.len,
+            words: n.words,
+            rise: n.rise,
+        },
     }
 }
 
@@ -155,12 +322,13 @@ fn first_line_row(t: &[u8], from: usize) -> Passed
 fn without_rows(number: u8, next: usize) -> DebugGroup
     ensures { λ r. ⌜ r ≡ withoutRows number next ⌝ }
 {
+    let lines = no_lines();
     DebugGroup {
         number: number,
         next: next,
         lined: false,
         rows: 0,
-        lines: Lines { len: 0 },
+        lines: lines,
     }
 }
 

@@ -3,9 +3,9 @@ use mathlib.Core.Path.{_≡_, refl, sym, ap, ap₂, _∙_, subst}
 use mathlib.Core.Bool.{Bool, true, false, _&&_, not}
 use mathlib.Core.List.{List, [], _++_, map, flatMap, append-assoc}
 use mathlib.Core.Option.{Option, none, some}
-use Prim.Native.Nat.{ℕ, _-_, _^_, _≤_, _<_}
+use Prim.Native.Nat.{ℕ, _-_, _^_, _%_, _≤_, _<_}
 use native.Mathlib.Omega.{arith}
-use lib.ListN.{length, take, length-take}
+use lib.ListN.{length, take, length-append, length-take}
 use borrow.Author.Tests.{lt-leb}
 use Rattle.format.specs.Calls.{fill, measured, readText}
 use Rattle.writing.specs.Written.{Put}
@@ -29,9 +29,12 @@ use Rattle.text_scan.specs.Scan.{Read, Scans}
 use Rattle.text_rows.proofs.FileLaws.{PartsOf, text-parts}
 use Rattle.text_labels.specs.Labels.{labelsOf}
 use Rattle.text_labels.proofs.FileLaws.{text-words}
+use Rattle.text_debug.specs.DebugGroup.{lineBlocksIn}
+use Rattle.text_read.specs.Runs.{blockWords}
+use Rattle.text_read.proofs.RunLaws.{runs-words}
 use Rattle.text_read.specs.SourceText.{sourceAt, Unescapes, Counted}
-use Rattle.text_read.specs.Parts.{joined, rowParts, lineParts, sourceParts, relocationParts, keepsRelocations, objectParts}
-use Rattle.text_read.proofs.PartLaws.{from4, joined-parts, joined1, joined2, joined3}
+use Rattle.text_read.specs.Parts.{joined, rowParts, labelParts, lineParts, sourceParts, relocationParts, keepsRelocations, objectParts}
+use Rattle.text_read.proofs.PartLaws.{lines-some, from3, from4, joined-parts, joined1, joined2, joined3}
 
 -- the words of records, one after the other
 records-joined : (rs : List Record) → flatMap recordWords rs ≡ joined (map recordWords rs)
@@ -161,23 +164,39 @@ module _ (s t : List ℕ) (r : Scanned) (q : Scans t (textObject s) r) (z : r .n
   pub read-unescapes : r .sourced ≡ true → Unescapes t (r .rows)
   read-unescapes y = let x = read-given s t r q z in file-unescapes s t r (x .0) (x .1) (x .2) y
 
+  all-few : length (joined (objectParts (trim s) t (r .sourced) (r .rows))) ≤ length s
+  all-few =
+      let x = read-given s t r q z in
+      omega (arith, text-words-few s (x .0) (x .1), ap length (file-words s t r (x .0) (x .1) (x .2)))
+
+  -- and so have the line blocks
+  few-lines : r .sourced ≡ true → length (joined (blockWords (lineBlocksIn (lineView t (r .rows) .0)))) ≤ length s
+  few-lines y =
+      let u = trim s in
+      omega (
+        arith,
+        all-few,
+        ap length (joined-parts u t (r .sourced) (r .rows) ∙ ap (λ (l : List ℕ). joined (rowParts 0 u) ++ l) (joined1 u t (r .sourced) (r .rows) ∙ ap (λ (l : List ℕ). joined (labelParts u) ++ l) (joined2 u t (r .sourced) (r .rows)))),
+        length-append (joined (rowParts 0 u)) (joined (labelParts u) ++ (joined (lineParts (r .sourced) t (r .rows)) ++ joined (from3 u t (r .sourced) (r .rows)))),
+        length-append (joined (labelParts u)) (joined (lineParts (r .sourced) t (r .rows)) ++ joined (from3 u t (r .sourced) (r .rows))),
+        length-append (joined (lineParts (r .sourced) t (r .rows))) (joined (from3 u t (r .sourced) (r .rows))),
+        ap (λ (ps : List (List ℕ)). length (joined ps)) (lines-some (r .sourced) t (r .rows) y),
+      )
+
   pub read-counted : length s < 2 ^ 63 → r .sourced ≡ true → Counted t (r .rows) (r .lines)
   read-counted l y =
       let x = read-given s t r q z in
       let few = file-source s t r (x .0) (x .1) (x .2) y in
-      let len = x .2 .lines .makes y in
-      (omega (arith, len, few), omega (arith, len, few))
+      let made = x .2 .lines .makes y in
+      let n : ℕ = length (joined (blockWords (lineBlocksIn (lineView t (r .rows) .0)))) in
+      let words : n ≤ length s = few-lines y in
+      (omega (arith, made .0, few), omega (arith, made .0, few), (let z : n % 2 ^ 64 ≡ n = omega arith in made .1 ∙ runs-words (lineView t (r .rows) .0) ∙ z))
 
   pub read-inside : r .end ≡ length t
   read-inside = let x = read-given s t r q z in x .2 .end
 
-  few : length (joined (objectParts (trim s) t (r .sourced) (r .rows))) ≤ length s
-  few =
-      let x = read-given s t r q z in
-      omega (arith, text-words-few s (x .0) (x .1), ap length (file-words s t r (x .0) (x .1) (x .2)))
-
   pub length-fits : (room : ℕ) → length s ≤ room → none ≡ roomAfter (objectParts (trim s) t (r .sourced) (r .rows)) room → ⊥
-  length-fits room l o = omega (arith, few, room-lacks (objectParts (trim s) t (r .sourced) (r .rows)) room o)
+  length-fits room l o = omega (arith, all-few, room-lacks (objectParts (trim s) t (r .sourced) (r .rows)) room o)
 
   module _ (room m : ℕ) (o : some m ≡ roomAfter (objectParts (trim s) t (r .sourced) (r .rows)) room) where
     pub length-left : m ≤ room

@@ -21,11 +21,11 @@ use Rattle.text_scan.specs.Walk.{lineBlocksOf, sourceOf}
 use Rattle.text_labels.specs.Labels.{labelsOf}
 use Rattle.text_words.specs.Written.{putEach, PutEach}
 use Rattle.text_words.specs.Room.{roomFor, roomAfter}
-use Rattle.text_words.proofs.RoomLaws.{room-one, rooms-none, rooms-short, rooms-on, room-is}
+use Rattle.text_words.proofs.RoomLaws.{room-short, room-left, room-one, rooms-none, rooms-short, rooms-on, room-is, room-lacks}
 use Rattle.text_words.proofs.PutLaws.{put-fits}
 use Rattle.text_read.specs.Runs.{blockWords}
 use Rattle.text_read.specs.SourceText.{sourceAt}
-use Rattle.text_read.specs.Parts.{joined, rowParts, labelParts, lineParts, sourceParts, sourceRoom, relocationParts}
+use Rattle.text_read.specs.Parts.{joined, rowParts, labelParts, lineParts, linesRoom, sourceParts, sourceRoom, relocationParts}
 use Rattle.text_read.specs.Parts.{keepsRelocations, objectParts}
 
 module _ (sourced : Bool) (t : List ℕ) (rows : ℕ) where
@@ -74,6 +74,33 @@ same-each ps qs room r after w e = w ∙ ap (λ (x : List (List ℕ)). putEach x
 
 pub same-room : (ps qs : List (List ℕ)) (room : ℕ) (o : Option ℕ) → o ≡ roomAfter ps room → ps ≡ qs → o ≡ roomAfter qs room
 same-room ps qs room o w e = w ∙ ap (λ (x : List (List ℕ)). roomAfter x room) e
+
+-- THE LINE BLOCKS' ROOM
+room-all : (ps : List (List ℕ)) (room : ℕ) → roomFor (length (joined ps)) room ≡ roomAfter ps room
+unfolding roomFor
+room-all ps room = go (roomAfter ps room) refl
+  where
+    go : (o : Option ℕ) → o ≡ roomAfter ps room → roomFor (length (joined ps)) room ≡ roomAfter ps room
+    go none e = sym (room-short (length (joined ps)) room (room-lacks ps room e)) ∙ e
+    go (some m) e =
+        sym (room-left (length (joined ps)) room m (omega (arith, room-is ps room m e)) (omega (arith, room-is ps room m e))) ∙ e
+
+pub lines-room-none : (sourced : Bool) (words room : ℕ) → sourced ≡ false → some room ≡ linesRoom sourced words room
+unfolding linesRoom
+lines-room-none sourced words room e = simp e
+
+pub lines-room-some : (sourced : Bool) (words room : ℕ) → sourced ≡ true → roomFor words room ≡ linesRoom sourced words room
+unfolding linesRoom
+lines-room-some sourced words room e = simp e
+
+pub lines-room-is : (sourced : Bool) (t : List ℕ) (rows words room : ℕ)
+    → (sourced ≡ true → words ≡ length (joined (blockWords (lineBlocksIn (lineView t rows .0)))))
+    → linesRoom sourced words room ≡ roomAfter (lineParts sourced t rows) room
+unfolding linesRoom
+lines-room-is true t rows words room q =
+    ap (λ (n : ℕ). roomFor n room) (q refl ∙ ap (λ (ps : List (List ℕ)). length (joined ps)) (lines-some true t rows refl))
+    ∙ room-all (lineParts true t rows) room
+lines-room-is false t rows words room q = rooms-none _ room (lines-none false t rows refl)
 
 -- THE SOURCE'S ROOM
 module _ (sourced : Bool) (t : List ℕ) (rows : ℕ) (e : sourced ≡ true) (room : ℕ) where

@@ -1,8 +1,8 @@
 -- Runs of rows. Assumes nothing.
 use mathlib.Core.Path.{_≡_, refl, sym, ap, ap₂, _∙_, subst}
-use mathlib.Core.List.{List, [], _∷_, _++_, map, append-nil, append-assoc}
+use mathlib.Core.List.{List, [], _∷_, _++_, map, flatMap, append-nil, append-assoc}
 use mathlib.Core.Option.{Option, none, some}
-use Prim.Native.Nat.{ℕ, suc, _+_, _-_, _≤_, _<_}
+use Prim.Native.Nat.{ℕ, suc, _+_, _-_, _^_, _%_, _≤_, _<_}
 use native.Mathlib.Omega.{arith}
 use lib.ListN.{length, take, set, length-append, length-map, length-drop}
 use lib.Seq.{take-at, length-take-le}
@@ -12,6 +12,8 @@ use borrow.Rule.Slice.PartMut.{midOf, putMid}
 use Rattle.format.specs.Basics.{andThen, isEmpty, if_then_else_}
 use Rattle.format.specs.Digits.{digitsOf}
 use Rattle.format.specs.TextReader.{runsFrom}
+use Rattle.format.specs.ObjectFile.{LineBlock}
+use Rattle.format.specs.Records.{lineBlock}
 use Rattle.format.specs.Words.{word, memoryWord, numberWords, recordWords}
 use Rattle.trim.specs.Span.{part}
 use Rattle.writing.specs.Written.{written, Put}
@@ -22,12 +24,12 @@ use Rattle.text_tables.specs.Debug.{Groups, lineView}
 use Rattle.text_tables.specs.declared.LineRow.{LineRow}
 use Rattle.text_tables.specs.declared.LineRow.the-variants as lr
 use Rattle.text_tables.specs.LineRows.{lineIn, lineOf}
-use Rattle.text_debug.specs.DebugGroup.{addressIn, lineBlocksIn}
+use Rattle.text_debug.specs.declared.Runs.{Runs}
+use Rattle.text_debug.specs.LineRuns.{addressIn, runOn, wordsAfter, runEnd, runsOver, noRuns, runsIn}
+use Rattle.text_debug.specs.DebugGroup.{lineBlocksIn}
 use Rattle.text_words.specs.Written.{putEach, PutEach}
-use Rattle.text_words.specs.Room.{roomFor, roomAfter}
-use Rattle.text_words.proofs.RoomLaws.{room-short, room-left, room-one as room-part, rooms-none, rooms-short, rooms-on}
 use Rattle.text_words.proofs.PutLaws.{Puts, puts-begin, puts-on, puts-end, put-one}
-use Rattle.text_read.specs.Runs.{addressesFrom, RunEnds, blockWords, runWords, runParts, runRoom}
+use Rattle.text_read.specs.Runs.{addressesFrom, RunEnds, blockWords, runWords, runParts}
 
 -- A ROW
 address-is : (l : List ℕ) (r : LineRow) (o : Option ℕ) → lineOf r ≡ lineIn l → (andThen (lineOf r) λ x. x .1) ≡ o → addressIn l ≡ o
@@ -258,51 +260,42 @@ module _ (t : List ℕ) (from first n : ℕ) (room : List ℕ) where
     pub run-short : length room < 4 + n → PutEach (runParts first (take n (addressesFrom t from))) room 0 room
     run-short l = run-put 0 room (too-short _ room (4 + n) run-words l)
 
--- THE ROOM
-pub room-none : (n room : ℕ) → n ≡ 0 → some room ≡ runRoom n room
-unfolding runRoom
-room-none n room e = simp (eq-eqb n 0 e)
+-- THE WORDS of the line blocks, as a walk over the rows counts them
+block-length : (first : ℕ) (run : List ℕ) → length (recordWords (lineBlock (record { first = first; addresses = run }))) ≡ 4 + length run
+unfolding recordWords runWords
+block-length first run =
+    ap (λ (l : List ℕ). length (word 3 0 ∷ numberWords first ++ l)) (sym (map-map run)) ∙ run-length first (map some run)
+    ∙ ap (λ (k : ℕ). 4 + k) (length-map run some)
 
-module _ (n room : ℕ) (z : n ≡ 0 → ⊥) where
-  pub run-lacks : room < 4 + n → none ≡ runRoom n room
-  unfolding runRoom
-  run-lacks h = simp (ne-eqb n 0 z) (room-short (4 + n) room h)
+abbrev sizeOf : List LineBlock → ℕ
+sizeOf ls = length (flatMap (λ (p : List ℕ). p) (blockWords ls))
 
-  pub run-leaves : (m : ℕ) → 4 + n ≤ room → m ≡ room - (4 + n) → some m ≡ runRoom n room
-  unfolding runRoom
-  run-leaves m h e = simp (ne-eqb n 0 z) (room-left (4 + n) room m h e)
+size-more : (l : LineBlock) (ls : List LineBlock) → sizeOf (l ∷ ls) ≡ length (recordWords (lineBlock l)) + sizeOf ls
+unfolding flatMap
+size-more l ls = length-append (recordWords (lineBlock l)) (flatMap (λ (p : List ℕ). p) (blockWords ls))
 
-run-room-is : (i n : ℕ) (xs : List (Option ℕ)) (room : ℕ) → length xs ≡ n → runRoom n room ≡ roomAfter (runParts i xs) room
-unfolding runRoom runParts isEmpty roomAfter
-run-room-is i n [] room e = simp (eq-eqb n 0 (sym e))
-run-room-is i n (x ∷ xs) room e =
-    let z : n ≡ 0 → ⊥ = λ q. omega (arith, e) in
-    (simp (ne-eqb n 0 z)) ∙ room-part (runWords i (x ∷ xs)) room (roomFor (4 + n) room) (ap (λ (k : ℕ). roomFor k room) (sym (run-length i (x ∷ xs) ∙ ap (λ (k : ℕ). 4 + k) e)))
+over-words : (i : ℕ) (run : List ℕ) (rows : List (Option ℕ)) (s : Runs) → s .count ≡ length run → s .words < 2 ^ 64
+    → runsOver s rows .words ≡ (s .words + sizeOf (runsFrom i run rows)) % 2 ^ 64
+unfolding runsOver runOn runEnd wordsAfter runsFrom flatMap
+over-words i run [] s e l = omega (arith, l)
+over-words i run (some a ∷ rows) s e l =
+    over-words (suc i) (run ++ a ∷ []) rows (runOn s a) (ap (λ (k : ℕ). k + 1) e ∙ sym (length-append run (a ∷ []))) l
+over-words i [] (none ∷ rows) s e l =
+    let w : runEnd s .words ≡ s .words = simp (eq-eqb (s .count) 0 e) in
+    over-words (suc i) [] rows (runEnd s) refl (omega (arith, w, l)) ∙ ap (λ (k : ℕ). (k + sizeOf (runsFrom (suc i) [] rows)) % 2 ^ 64) w
+over-words i (a ∷ run) (none ∷ rows) s e l =
+    let n : ℕ = sizeOf (runsFrom (suc i) [] rows) in
+    let w : runEnd s .words ≡ (s .words + (4 + s .count)) % 2 ^ 64 = simp (ne-eqb (s .count) 0 (λ z. omega (arith, z, e))) in
+    let m = size-more (record { first = i - length (a ∷ run); addresses = a ∷ run }) (runsFrom (suc i) [] rows) in
+    let b = block-length (i - length (a ∷ run)) (a ∷ run) in
+    over-words (suc i) [] rows (runEnd s) refl (omega (arith, w))
+    ∙ (let z : (runEnd s .words + n) % 2 ^ 64 ≡ (s .words + sizeOf (runsFrom i (a ∷ run) (none ∷ rows))) % 2 ^ 64 = omega (arith, w, m, b, e) in z)
 
--- the same answer from here, whichever line this is
-pub record Counting (t : List ℕ) (rows room row left : ℕ) : Type 0 where
-  pub line : ℕ
-  pub same : roomAfter (blockWords (runsFrom line [] (addressesFrom t row))) left ≡ roomAfter (blockWords (lineBlocksIn (lineView t rows .0))) room
-
-pub counting-begin : (t : List ℕ) (rows room : ℕ) → Counting t rows room rows room
+pub runs-words : (ls : List (List ℕ)) → runsIn ls .words ≡ length (flatMap (λ p. p) (blockWords (lineBlocksIn ls))) % 2 ^ 64
 unfolding lineBlocksIn
-counting-begin t rows room = record { line = 0; same = refl }
-
-module _ (t : List ℕ) (rows room row left : ℕ) (s : Counting t rows room row left) where
-  pub counting-end : (run : List ℕ) → addressesFrom t row ≡ map some run → some left ≡ roomAfter (blockWords (lineBlocksIn (lineView t rows .0))) room
-  counting-end run e = rooms-none _ left (line-last t row (s .line) run e) ∙ s .same
-
-  module _ (n next : ℕ) (r : RunEnds t row n next) where
-    first-room : runRoom n left ≡ roomAfter (runParts (s .line) (take n (addressesFrom t row))) left
-    first-room = run-room-is (s .line) n (take n (addressesFrom t row)) left (length-take-le n (addressesFrom t row) (run-there t row (s .line) n next r))
-
-    pub counting-short : none ≡ runRoom n left → none ≡ roomAfter (blockWords (lineBlocksIn (lineView t rows .0))) room
-    counting-short o =
-        rooms-short _ _ _ left (line-on t row (s .line) n next r) (o ∙ first-room) ∙ s .same
-
-    pub counting-on : (m : ℕ) → some m ≡ runRoom n left → Counting t rows room next m
-    counting-on m o =
-        record { line = s .line + (n + 1); same = rooms-on _ _ _ left (line-on t row (s .line) n next r) m (o ∙ first-room) ∙ s .same }
+runs-words ls =
+    over-words 0 [] (map addressIn ls) noRuns refl (omega arith)
+    ∙ (let n : ℕ = sizeOf (runsFrom 0 [] (map addressIn ls)) in let z : (0 + n) % 2 ^ 64 ≡ n % 2 ^ 64 = omega arith in z)
 
 -- THE LINE BLOCKS written, the next of them from line i
 pub record Lining (t : List ℕ) (rows : ℕ) (room out : List ℕ) (at row line : ℕ) : Type 0 where

@@ -30,7 +30,10 @@ lineParts sourced t rows = blockWords (lineBlocksOf sourced (lineView t rows .0)
 abbrev pub sourceParts : Bool → List ℕ → ℕ → List (List ℕ)  -- of the source
 sourceParts sourced t rows = map recordWords (sourceRecords (sourceOf sourced (lineView t rows .0)))
 
-unfoldable pub sourceRoom : Bool → ℕ → ℕ → Option ℕ  -- the room after it, where it has so many bytes
+unfoldable pub linesRoom : Bool → ℕ → ℕ → Option ℕ  -- the room after the line blocks, where they have so many words
+linesRoom sourced words room = if sourced then roomFor words room else some room
+
+unfoldable pub sourceRoom : Bool → ℕ → ℕ → Option ℕ  -- and after the source, of so many bytes
 sourceRoom sourced len room = if sourced then roomFor (1 + (len + 2) / 3) room else some room
 
 unfoldable pub relocationParts : Bool → List ℕ → List (List ℕ)  -- of each relocation, if they are kept

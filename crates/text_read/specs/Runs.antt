@@ -4,14 +4,12 @@ use mathlib.Core.List.{List, [], _∷_, _++_, map}
 use mathlib.Core.Option.{Option, none, some}
 use Prim.Native.Nat.{ℕ, _+_, _≤_, _<_}
 use lib.ListN.{length}
-use lib.Dec.{eqb}
 use Rattle.format.specs.Basics.{if_then_else_, isEmpty}
 use Rattle.format.specs.ObjectFile.{LineBlock}
 use Rattle.format.specs.Records.{lineBlock}
 use Rattle.format.specs.Words.{word, memoryWord, numberWords, recordWords}
 use Rattle.text_tables.specs.Debug.{lineView}
-use Rattle.text_debug.specs.DebugGroup.{addressIn}
-use Rattle.text_words.specs.Room.{roomFor}
+use Rattle.text_debug.specs.LineRuns.{addressIn}
 use Rattle.text_read.specs.declared.Run.{Run}
 use Rattle.text_read.specs.declared.Run.the-variants as run
 
@@ -43,7 +41,3 @@ runWords first xs = word 3 0 ∷ numberWords first ++ map memoryWord xs
 -- the part that a run makes: none of an empty one
 unfoldable pub runParts : ℕ → List (Option ℕ) → List (List ℕ)
 runParts first xs = if isEmpty xs then [] else runWords first xs ∷ []
-
--- the room after a run of n rows
-unfoldable pub runRoom : ℕ → ℕ → Option ℕ
-runRoom n room = if eqb n 0 then some room else roomFor (4 + n) room

@@ -1,6 +1,6 @@
 -- The source of a text file, unescaped. Assumes nothing.
 use mathlib.Core.Path.{_≡_}
-use mathlib.Core.List.{List, [], _∷_, _++_}
+use mathlib.Core.List.{List, [], _∷_, _++_, flatMap}
 use Prim.Native.Nat.{ℕ, _+_, _*_, _^_, _<_}
 use lib.ListN.{length}
 use Rattle.format.specs.Basics.{given}
@@ -12,6 +12,8 @@ use Rattle.text_tables.specs.Debug.{lineView}
 use Rattle.text_source.specs.Stream.{sourceFrom}
 use Rattle.text_debug.specs.declared.Lines.{Lines}
 use Rattle.text_debug.specs.LineTable.{sourceIn}
+use Rattle.text_debug.specs.DebugGroup.{lineBlocksIn}
+use Rattle.text_read.specs.Runs.{blockWords}
 use Rattle.text_read.specs.declared.Held.{Held}
 
 -- the source in the rows from a place on
@@ -22,9 +24,11 @@ sourceAt t rows = sourceIn (lineView t rows .0)
 abbrev pub Unescapes : List ℕ → ℕ → Type 0
 Unescapes t rows = unescape (sourceFrom t rows) ≡ given (sourceAt t rows)
 
--- what they make: the bytes of the source, which 64 bits can count
+-- what they make: the bytes of the source, which 64 bits can count, and the words of the line blocks
 abbrev pub Counted : List ℕ → ℕ → Lines → Type 0
-Counted t rows lines = (lines .len ≡ length (sourceAt t rows)) × (lines .len < 2 ^ 63)
+Counted t rows lines =
+    (lines .len ≡ length (sourceAt t rows)) × (lines .len < 2 ^ 63)
+    × (lines .words ≡ length (flatMap (λ p. p) (blockWords (lineBlocksIn (lineView t rows .0)))))
 
 -- the bytes held over, at most two, whose value is kept low byte first
 abbrev pub HeldIs : Held → List ℕ → Type 0

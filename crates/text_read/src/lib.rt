@@ -31,11 +31,12 @@ ghost use Rattle.format.specs.Utf8.{isScalar, encodeScalar};
 ghost use Rattle.format.specs.Words.{memoryWord, textWords};
 ghost use Rattle.writing.specs.Written.{Put};
 ghost use Rattle.text_tables.specs.Debug.{lineView};
-ghost use Rattle.text_debug.specs.DebugGroup.{addressIn, lineBlocksIn};
+ghost use Rattle.text_debug.specs.LineRuns.{addressIn};
+ghost use Rattle.text_debug.specs.DebugGroup.{lineBlocksIn};
 ghost use Rattle.text_words.specs.Written.{PutEach};
 ghost use Rattle.text_words.specs.Room.{roomOf, roomFor, roomAfter};
-ghost use Rattle.text_read.specs.Runs.{addressesFrom, NextRun, blockWords, runParts, runRoom};
-ghost use Rattle.text_read.specs.Parts.{joined, lineParts, sourceParts, sourceRoom, relocationParts, objectParts};
+ghost use Rattle.text_read.specs.Runs.{addressesFrom, NextRun, blockWords, runParts};
+ghost use Rattle.text_read.specs.Parts.{joined, lineParts, linesRoom, sourceParts, sourceRoom, relocationParts, objectParts};
 ghost use Rattle.text_read.specs.SourceText.{sourceAt, Unescapes, Counted, Ready, Pushes, Flushes};
 
 // A run of rows with an address: how many, and the place after the row without one that ends it; or one that reaches the last row.
@@ -125,40 +126,6 @@ fn put_line_blocks(out: &mut [u32], t: &[u8], rows: usize) -> usize
         };
         at += put_run(&mut out[at..], t, row, line, n);
         line += n as u64 + 1;
-        row = next;
-    }
-}
-
-// The room after the line block of a run of n rows.
-fn run_room(n: usize, room: usize) -> Room
-    ensures { λ r. ⌜ roomOf r ≡ runRoom n room ⌝ }
-{
-    if n == 0 {
-        return Room::Left(room);
-    }
-    if room < 4 {
-        return Room::Short;
-    }
-    if room - 4 < n {
-        return Room::Short;
-    }
-    Room::Left(room - 4 - n)
-}
-
-// The room after the line blocks of the rows from a place on.
-fn line_blocks_room(t: &[u8], rows: usize, room: usize) -> Room
-    ensures { λ r. ⌜ roomOf r ≡ roomAfter (blockWords (lineBlocksIn (lineView (now (t .entry)) rows .0))) room ⌝ }
-{
-    let mut left = room;
-    let mut row = rows;
-    loop {
-        let Run::Ends(n, next) = next_run(t, row) else {
-            return Room::Left(left);
-        };
-        let Room::Left(m) = run_room(n, left) else {
-            return Room::Short;
-        };
-        left = m;
         row = next;
     }
 }
@@ -325,14 +292,14 @@ fn source_room(sourced: bool, len: usize, room: usize) -> Room
     take_room(room, 1 + (len + 2) / 3)
 }
 
-// The room after the line blocks, if there are rows of lines.
-fn lines_room(t: &[u8], sourced: bool, rows: usize, room: usize) -> Room
-    ensures { λ r. ⌜ roomOf r ≡ roomAfter (lineParts sourced (now (t .entry)) rows) room ⌝ }
+// The room after the line blocks, if there are rows of lines, of so many words.
+fn lines_room(sourced: bool, words: usize, room: usize) -> Room
+    ensures { λ r. ⌜ roomOf r ≡ linesRoom sourced words room ⌝ }
 {
     if !sourced {
         return Room::Left(room);
     }
-    line_blocks_room(t, rows, room)
+    take_room(room, words)
 }
 
 // The room after the relocations, if they are kept.
@@ -400,7 +367,7 @@ fn object_room(u: &[u8], t: &[u8], sourced: bool, rows: usize, lines: Lines, roo
     let Room::Left(b) = labels_room(u, a) else {
         return Room::Short;
     };
-    let Room::Left(c) = lines_room(t, sourced, rows, b) else {
+    let Room::Left(c) = lines_room(sourced, lines.words, b) else {
         return Room::Short;
     };
     let Room::Left(d) = source_room(sourced, lines.len, c) else {

@@ -7,17 +7,16 @@ use Prim.Native.Nat.{ℕ, suc}
 use native.Mathlib.Omega.{arith}
 use lib.Dec.{leb, ltb}
 use borrow.Author.Tests.{lt-ltb, le-ltb, leb-true, leb-false}
-use Rattle.format.specs.Basics.{andThen, every, chain}
-use Rattle.format.specs.ObjectFile.{LineBlock, neverFall}
+use Rattle.format.specs.Basics.{every, chain}
+use Rattle.format.specs.ObjectFile.{LineBlock, ObjectFile, neverFall}
 use Rattle.format.specs.TextReader.{runsFrom}
-use Rattle.trim.specs.Span.{part}
-use Rattle.text_lines.specs.Views.{StepAt}
 use Rattle.text_lines.proofs.TestLaws.{by-test}
-use Rattle.text_tables.specs.declared.LineRow.the-variants as lr
-use Rattle.text_tables.specs.Debug.{Groups, lineView}
-use Rattle.text_tables.specs.LineRows.{lineIn, lineOf}
-use Rattle.text_debug.specs.DebugGroup.{addressIn, lineBlocksIn}
-use Rattle.text_scan.specs.Walk.{blocksRise, runsRise, lineBlocksOf}
+use Rattle.text_tables.specs.Debug.{lineView}
+use Rattle.text_debug.specs.declared.Lines.{Lines}
+use Rattle.text_debug.specs.declared.Runs.{Runs}
+use Rattle.text_debug.specs.LineRuns.{addressIn, runOn, runEnd, runsOver, noRuns, runsIn}
+use Rattle.text_debug.specs.DebugGroup.{lineBlocksIn}
+use Rattle.text_scan.specs.Walk.{blocksRise, runsRise, lineBlocksOf, Lined}
 
 -- a run's last address, 0 where it is empty
 unfoldable lastOf : List ℕ → ℕ
@@ -26,7 +25,7 @@ lastOf (a ∷ []) = a
 lastOf (a ∷ b ∷ run) = lastOf (b ∷ run)
 
 -- whether the kept runs rise, after a run that fell or not and ends in this address
-unfoldable pub risesFrom : Bool → ℕ → List (Option ℕ) → Bool
+unfoldable risesFrom : Bool → ℕ → List (Option ℕ) → Bool
 risesFrom fell last [] = true
 risesFrom fell last (some a ∷ rows) = risesFrom (fell || ltb a last) a rows
 risesFrom fell last (none ∷ rows) = not fell && risesFrom false 0 rows
@@ -72,77 +71,30 @@ rises i (a ∷ run) (none ∷ rows) =
     (sym (not-not (neverFall (a ∷ run))))
     ∙ ap (λ (b : Bool). not (not (neverFall (a ∷ run))) && b) (rises (suc i) [] rows)
 
-pub rises-begin : (ls : List (List ℕ)) → risesFrom false 0 (map addressIn ls) ≡ runsRise ls
+rises-begin : (ls : List (List ℕ)) → risesFrom false 0 (map addressIn ls) ≡ runsRise ls
 unfolding blocksRise lineBlocksIn chain lastOf
 rises-begin ls = sym (rises 0 [] (map addressIn ls))
 
-address-none : (l : List ℕ) → lineOf lr.Bad ≡ lineIn l → addressIn l ≡ none
-unfolding addressIn
-address-none l e = ap (λ (o : Option (ℕ × Option ℕ)). andThen o λ r. r .1) (sym e)
+and-true : (b : Bool) → b ≡ (b && true)
+and-true true = refl
+and-true false = refl
 
-address-unknown : (l : List ℕ) (n : ℕ) → lineOf (lr.Unknown n) ≡ lineIn l → addressIn l ≡ none
-unfolding addressIn
-address-unknown l n e = ap (λ (o : Option (ℕ × Option ℕ)). andThen o λ r. r .1) (sym e)
+and-assoc : (a b c : Bool) → ((a && b) && c) ≡ (a && (b && c))
+and-assoc true b c = refl
+and-assoc false b c = refl
 
-address-known : (l : List ℕ) (n a : ℕ) → lineOf (lr.Known n a) ≡ lineIn l → addressIn l ≡ some a
-unfolding addressIn
-address-known l n a e = ap (λ (o : Option (ℕ × Option ℕ)). andThen o λ r. r .1) (sym e)
+over-rise : (s : Runs) (rows : List (Option ℕ)) → runsOver s rows .rise ≡ (s .rise && risesFrom (s .fell) (s .last) rows)
+unfolding runsOver runOn runEnd risesFrom
+over-rise s [] = and-true (s .rise)
+over-rise s (some a ∷ rows) = over-rise (runOn s a) rows
+over-rise s (none ∷ rows) = over-rise (runEnd s) rows ∙ and-assoc (s .rise) (not (s .fell)) (risesFrom false 0 rows)
 
-module _ (t : List ℕ) (at a e n : ℕ) (l : StepAt (lineView t) t at a e n) (fell : Bool) (last : ℕ) where
-  abbrev rest : List (Option ℕ)
-  rest = map addressIn (lineView t n .0)
+-- what a walk over the rows comes to
+runs-rise : (ls : List (List ℕ)) → runsIn ls .rise ≡ runsRise ls
+runs-rise ls = over-rise noRuns (map addressIn ls) ∙ rises-begin ls
 
-  step : (o : Option ℕ) → addressIn (part a e t) ≡ o
-      → risesFrom fell last (o ∷ rest) ≡ risesFrom fell last (map addressIn (lineView t at .0))
-  step o q =
-      sym
-      (ap (λ (p : List (List ℕ) × Groups). risesFrom fell last (map addressIn (p .0))) (l .same)
-      ∙ ap (λ (x : Option ℕ). risesFrom fell last (x ∷ rest)) q)
-
-  pub rises-known : (k x : ℕ) → lineOf (lr.Known k x) ≡ lineIn (part a e t)
-      → risesFrom (fell || ltb x last) x rest ≡ risesFrom fell last (map addressIn (lineView t at .0))
-  unfolding risesFrom
-  rises-known k x q = step (some x) (address-known (part a e t) k x q)
-
-  ended : fell ≡ false → risesFrom fell 0 rest ≡ risesFrom fell last (none ∷ rest)
-  unfolding risesFrom
-  ended q = simp q
-
-  fallen : fell ≡ true → false ≡ risesFrom fell last (none ∷ rest)
-  unfolding risesFrom
-  fallen q = simp q
-
-  module _ (q : addressIn (part a e t) ≡ none) where
-    rises-end : fell ≡ false → risesFrom fell 0 rest ≡ risesFrom fell last (map addressIn (lineView t at .0))
-    rises-end f = ended f ∙ step none q
-
-    rises-no : fell ≡ true → false ≡ risesFrom fell last (map addressIn (lineView t at .0))
-    rises-no f = fallen f ∙ step none q
-
-  module _ (k : ℕ) (q : lineOf (lr.Unknown k) ≡ lineIn (part a e t)) where
-    pub unknown-end : fell ≡ false → risesFrom fell 0 rest ≡ risesFrom fell last (map addressIn (lineView t at .0))
-    unknown-end = rises-end (address-unknown (part a e t) k q)
-
-    pub unknown-no : fell ≡ true → false ≡ risesFrom fell last (map addressIn (lineView t at .0))
-    unknown-no = rises-no (address-unknown (part a e t) k q)
-
-  module _ (q : lineOf lr.Bad ≡ lineIn (part a e t)) where
-    pub bad-end : fell ≡ false → risesFrom fell 0 rest ≡ risesFrom fell last (map addressIn (lineView t at .0))
-    bad-end = rises-end (address-none (part a e t) q)
-
-    pub bad-no : fell ≡ true → false ≡ risesFrom fell last (map addressIn (lineView t at .0))
-    bad-no = rises-no (address-none (part a e t) q)
-
-pub rises-done : (t : List ℕ) (at : ℕ) (fell : Bool) (last : ℕ) → lineView t at .0 ≡ []
-    → true ≡ risesFrom fell last (map addressIn (lineView t at .0))
-unfolding risesFrom
-rises-done t at fell last q = sym (ap (λ (ls : List (List ℕ)). risesFrom fell last (map addressIn ls)) q)
-
--- the same of an object that has a source, or that has none
-pub lines-true : (sourced : Bool) (ls : List (List ℕ)) → sourced ≡ true → runsRise ls ≡ blocksRise (lineBlocksOf sourced ls)
-unfolding lineBlocksOf
-lines-true sourced ls e = simp e
-
-pub lines-false : (sourced : Bool) (ls : List (List ℕ)) → sourced ≡ false → true ≡ blocksRise (lineBlocksOf sourced ls)
+pub lined-rise : (t : List ℕ) (sourced : Bool) (rows : ℕ) (lines : Lines) (h : ObjectFile) → Lined t sourced rows lines h
+    → (not sourced || lines .rise) ≡ blocksRise (h .lineBlocks)
 unfolding lineBlocksOf blocksRise every
-lines-false sourced ls e = simp e
+lined-rise t true rows lines h l = l .makes refl .2 ∙ runs-rise (lineView t rows .0) ∙ ap blocksRise (sym (l .blocks))
+lined-rise t false rows lines h l = ap blocksRise (sym (l .blocks))

@@ -1,6 +1,6 @@
 -- A file's first line, its groups, and the last question. Assumes nothing.
 use mathlib.Core.Path.{_≡_, refl, sym, ap, _∙_, subst}
-use mathlib.Core.Bool.{Bool, true, false}
+use mathlib.Core.Bool.{Bool, true, false, _||_, not}
 use mathlib.Core.List.{List, [], _∷_}
 use Prim.Native.Nat.{ℕ, zero, suc, _-_, _≤_, _<_}
 use native.Mathlib.Omega.{arith}
@@ -19,11 +19,11 @@ use Rattle.trim.specs.Span.{part, Spans}
 use Rattle.text_lines.specs.Lines.{kept, LineAt}
 use Rattle.text_lines.proofs.LineLaws.{kept-trimmed, to-end}
 use Rattle.text_lines.specs.Groups.{partsFrom}
-use Rattle.text_tables.specs.Debug.{lineView}
 use Rattle.text_blocks.specs.Blocks.{Seen}
 use Rattle.text_scan.specs.declared.Walked.{Walked}
 use Rattle.text_scan.specs.declared.Scanned.{Scanned}
-use Rattle.text_scan.specs.Walk.{blocksRise, lineBlocksOf, Lined, Comes, groupsFrom, GroupsWalked}
+use Rattle.text_scan.specs.Walk.{blocksRise, Lined, Comes, groupsFrom, GroupsWalked}
+use Rattle.text_scan.proofs.RunLaws.{lined-rise}
 use Rattle.text_scan.proofs.WalkLaws.{groups-read}
 use Rattle.text_scan.specs.Scan.{trimmedObject, refusedScan, Read, Scans}
 
@@ -115,17 +115,17 @@ module _ (t : List ℕ) (start a e n : ℕ) (l : LineAt kept t start a e n) wher
             go true y q = ap (λ (v : Bool). ask 31 v >>= λ _. given (dropStrayRelocations h)) q
             go false y q = ap (λ (v : Bool). ask 31 v >>= λ _. given (dropStrayRelocations h)) q
 
-        concludes : (b : Bool) → blocksRise (lineBlocksOf (w .sourced) (lineView t (w .rows) .0)) ≡ b
+        concludes : (b : Bool) → (not (w .sourced) || w .lines .rise) ≡ b
             → trimmedObject t start ≡ (ask 31 b >>= λ _. given (dropStrayRelocations (groups-given .0)))
         concludes b q =
             from-groups (given (groups-given .0)) (groups-given .1)
-            ∙ concluded-by (groups-given .0) b (ap blocksRise (groups-given .2 .blocks) ∙ q)
+            ∙ concluded-by (groups-given .0) b (sym (lined-rise t (w .sourced) (w .rows) (w .lines) (groups-given .0) (groups-given .2)) ∙ q)
 
         -- 31
-        pub scan-fallen : blocksRise (lineBlocksOf (w .sourced) (lineView t (w .rows) .0)) ≡ false → trimmedObject t start ≡ refused 31
+        pub scan-fallen : (not (w .sourced) || w .lines .rise) ≡ false → trimmedObject t start ≡ refused 31
         scan-fallen q = concludes false q
 
-        pub scan-read : blocksRise (lineBlocksOf (w .sourced) (lineView t (w .rows) .0)) ≡ true
+        pub scan-read : (not (w .sourced) || w .lines .rise) ≡ true
             → Scans t (trimmedObject t start) (record { number = 0; first = n; end = length t; sourced = w .sourced; rows = w .rows; lines = w .lines })
         scan-read q =
             let r : Scanned = record { number = 0; first = n; end = length t; sourced = w .sourced; rows = w .rows; lines = w .lines } in

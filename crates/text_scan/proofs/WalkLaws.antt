@@ -294,10 +294,10 @@ pub record Walking (t : List ℕ) (first : ℕ) (seen₀ : List ℕ) (at : ℕ) 
   pub same : groupsFrom t at object ≡ groupsFrom t first emptyObject
   pub agrees : Agrees t seen sourced rows lines object
 
-pub walking-begin : (t : List ℕ) (first : ℕ) (seen : List ℕ) → Seen emptyObject seen → Walking t first seen first seen false 0 (record { len = 0 })
+pub walking-begin : (t : List ℕ) (first : ℕ) (seen : List ℕ) (lines : Lines) → Seen emptyObject seen → Walking t first seen first seen false 0 lines
 unfolding lineBlocksOf sourceOf emptyObject
-walking-begin t first seen s =
-    let b : Lined t false 0 (record { len = 0 }) emptyObject = record { blocks = refl; source = refl; reads = λ z. absurd (true≢false (sym z)); makes = λ z. absurd (true≢false (sym z)) } in
+walking-begin t first seen lines s =
+    let b : Lined t false 0 lines emptyObject = record { blocks = refl; source = refl; reads = λ z. absurd (true≢false (sym z)); makes = λ z. absurd (true≢false (sym z)) } in
     record { size = refl; object = emptyObject; same = refl; agrees = record { marks = s; lines = b } }
 
 module _ (t : List ℕ) (first : ℕ) (seen₀ : List ℕ) (at : ℕ) (seen : List ℕ) (sourced : Bool) (rows : ℕ) (lines : Lines)
@@ -331,8 +331,8 @@ module _ (t : List ℕ) (first : ℕ) (seen₀ : List ℕ) (at : ℕ) (seen : Li
         go (given h′) e s = absurd (ne (s .0))
 
   pub walking-loose : isEmpty (partsFrom t at .before) ≡ false
-      → GroupsWalked t first (record { number = 22; next = at; sourced = false; rows = 0; lines = record { len = 0 } })
-  walking-loose e = settled (Lined t false 0 (record { len = 0 })) 22 (refused 22) (groups-loose t at (w .object) e) (refl, omega arith)
+      → GroupsWalked t first (record { number = 22; next = at; sourced = sourced; rows = rows; lines = lines })
+  walking-loose e = settled (Lined t sourced rows lines) 22 (refused 22) (groups-loose t at (w .object) e) (refl, omega arith)
 
   pub walking-done : partsFrom t at ≡ record { before = []; groups = [] }
       → GroupsWalked t first (record { number = 0; next = at; sourced = sourced; rows = rows; lines = lines })

@@ -11,6 +11,7 @@ use Rattle.format.specs.Records.{emptyObject, textQuestions, concluded, dropStr
 use Rattle.format.specs.TextReader.{afterMagic, parseGroup}
 use Rattle.text_lines.specs.Lines.{kept}
 use Rattle.text_lines.specs.Groups.{partsFrom}
+use Rattle.text_debug.specs.LineTable.{noLines}
 use Rattle.text_scan.specs.Walk.{Lined}
 use Rattle.text_scan.specs.declared.Scanned.{Scanned}
 
@@ -25,7 +26,7 @@ trimmedObject t start = do
 
 -- a refusal: every other value is 0
 abbrev pub refusedScan : ℕ → Scanned
-refusedScan number = record { number = number; first = 0; end = 0; sourced = false; rows = 0; lines = record { len = 0 } }
+refusedScan number = record { number = number; first = 0; end = 0; sourced = false; rows = 0; lines = noLines }
 
 -- A file that reads, where t is the file up to the end of what trimming leaves: the object that the groups from the place after the first
 -- kept line come to, where no line stands before the first of them, and the place of the rows that its line blocks and source are from.

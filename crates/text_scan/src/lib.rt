@@ -1,6 +1,7 @@
 // The text reader's questions, 20 to 31, on a file's bytes in place; what it reads is not stored.
 use text_blocks::parse_text;
 use text_debug::Lines;
+use text_debug::no_lines;
 use text_debug::parse_debug;
 use text_lines::Group;
 use text_lines::Head;
@@ -9,68 +10,19 @@ use text_lines::equals;
 use text_lines::next_head;
 use text_lines::next_kept;
 use text_linker::parse_linker_table;
-use text_tables::LineRow;
-use text_tables::next_source_line;
-use text_tables::parse_line_row;
 use text_tables::parse_symbol_table;
 use trim::trim;
 use utf8::is_utf8;
 ghost use mathlib.Core.Path.{_≡_};
-ghost use mathlib.Core.Bool.{_||_};
+ghost use mathlib.Core.Bool.{_||_, not};
 ghost use Prim.Native.Nat.{_≤_};
 ghost use lib.ListN.{length, take};
-ghost use lib.Dec.{ltb};
 ghost use Rattle.format.specs.Calls.{refusalOf};
 ghost use Rattle.format.specs.Records.{emptyObject};
 ghost use Rattle.format.specs.TextReader.{textObject};
 ghost use Rattle.text_blocks.specs.Blocks.{Seen};
-ghost use Rattle.text_tables.specs.Debug.{lineView};
-ghost use Rattle.text_scan.specs.Walk.{blocksRise, runsRise, lineBlocksOf, DebugWalked, LinesChecked, GroupChecked, GroupsWalked};
+ghost use Rattle.text_scan.specs.Walk.{DebugWalked, LinesChecked, GroupChecked, GroupsWalked};
 ghost use Rattle.text_scan.specs.Scan.{trimmedObject, refusedScan, Scans};
-
-// Whether a run falls that fell already or not, when an address comes after its last.
-fn falls(fell: bool, last: u16, address: u16) -> bool
-    ensures { λ r. ⌜ r ≡ (fell || ltb address last) ⌝ }
-{
-    if fell {
-        return true;
-    }
-    address < last
-}
-
-// Whether the addresses in each kept run of a line table's rows never fall. A run that reaches the last row is not asked.
-pub fn runs_rise(t: &[u8], from: usize) -> bool
-    ensures { λ r. ⌜ r ≡ runsRise (lineView (now (t .entry)) from .0) ⌝ }
-{
-    let mut at = from;
-    let mut fell = false;
-    let mut last: u16 = 0;
-    loop {
-        let Line::At { start, end, next } = next_source_line(t, at) else {
-            return true;
-        };
-        let row = parse_line_row(&t[start..end]);
-        at = next;
-        match row {
-            LineRow::Known(_, address) => {
-                fell = falls(fell, last, address);
-                last = address;
-            }
-            LineRow::Unknown(_) => {
-                if fell {
-                    return false;
-                }
-                last = 0;
-            }
-            LineRow::Bad => {
-                if fell {
-                    return false;
-                }
-                last = 0;
-            }
-        }
-    }
-}
 
 // What the groups up to a place come to: their number, the place after them, whether there is a source, where its rows are, and what
 // they make.
@@ -160,7 +112,7 @@ fn parse_groups(t: &[u8], first: usize, seen: &mut [u8]) -> Walked
     let mut at = first;
     let mut sourced = false;
     let mut rows = 0;
-    let mut lines = Lines { len: 0 };
+    let mut lines = no_lines();
     loop {
         let head = next_head(t, at);
         match head {
@@ -178,9 +130,9 @@ fn parse_groups(t: &[u8], first: usize, seen: &mut [u8]) -> Walked
                 return Walked {
                     number: 22,
                     next: at,
-                    sourced: false,
-                    rows: 0,
-                    lines: Lines { len: 0 },
+                    sourced: sourced,
+                    rows: rows,
+                    lines: lines,
                 };
             }
             Head::Done => {
@@ -226,22 +178,23 @@ const MAGIC: [u8; 13] = [
 fn refuse(number: u8) -> Scanned
     ensures { λ r. ⌜ r ≡ refusedScan number ⌝ }
 {
+    let lines = no_lines();
     Scanned {
         number: number,
         first: 0,
         end: 0,
         sourced: false,
         rows: 0,
-        lines: Lines { len: 0 },
+        lines: lines,
     }
 }
 
-// Whether the object whose source is from these rows, or that has none, answers 31.
-fn lines_rise(t: &[u8], sourced: bool, rows: usize) -> bool
-    ensures { λ r. ⌜ r ≡ blocksRise (lineBlocksOf sourced (lineView (now (t .entry)) rows .0)) ⌝ }
+// Whether an object answers 31 whose source is from rows that rise or not, or that has none.
+fn lines_rise(sourced: bool, rise: bool) -> bool
+    ensures { λ r. ⌜ r ≡ (not sourced || rise) ⌝ }
 {
     if sourced {
-        return runs_rise(t, rows);
+        return rise;
     }
     true
 }
@@ -267,10 +220,10 @@ fn scan_trimmed(t: &[u8], start: usize) -> Scanned
     if w.number != 0 {
         return refuse(w.number);
     }
-    if !lines_rise(t, w.sourced, w.rows) {
+    let lines = w.lines;
+    if !lines_rise(w.sourced, lines.rise) {
         return refuse(31);
     }
-    let lines = w.lines;
     Scanned {
         number: 0,
         first: first,

@@ -5,7 +5,6 @@ use text_lines::Line;
 use text_tables::next_source_line;
 use trim::Span;
 ghost use mathlib.Core.Path.{_≡_};
-ghost use mathlib.Core.Bool.{true};
 ghost use Prim.Native.Nat.{_+_, _-_, _^_, _%_, _≤_, _<_};
 ghost use mathlib.Core.List.{[]};
 ghost use lib.ListN.{length, getD};
@@ -248,7 +247,7 @@ fn scalar_length(v: u32) -> usize
 }
 
 // So many more, as 64 bits count.
-fn more(n: usize, k: usize) -> usize
+pub fn more(n: usize, k: usize) -> usize
     ensures { λ r. ⌜ r ≡ (n + k) % 2 ^ 64 ⌝ }
 {
     let left = 0xFFFF_FFFF_FFFF_FFFF - n;

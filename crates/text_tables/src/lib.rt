@@ -18,10 +18,10 @@ ghost use Prim.Native.Nat.{_+_, _-_};
 ghost use Rattle.format.specs.Basics.{isSome};
 ghost use Rattle.format.specs.Records.{emptyObject};
 ghost use Rattle.format.specs.Utf8.{trim};
-ghost use Rattle.format.specs.TextReader.{lines, splitn, sameCells, upToBar, parseLineRows, parseLabelTable};
+ghost use Rattle.format.specs.TextReader.{lines, splitn, sameCells, upToBar, parseLabelTable};
 ghost use Rattle.text_tables.specs.Debug.{FirstBar, NextIn, labelView, lineView};
 ghost use Rattle.text_tables.specs.Labels.{LabelIs, NextLabel, labelColumns};
-ghost use Rattle.text_tables.specs.LineRows.{lineIn, lineOf, isLine};
+ghost use Rattle.text_tables.specs.LineRows.{lineIn, lineOf};
 ghost use Rattle.text_lines.specs.Groups.{partsFrom};
 ghost use Rattle.text_tables.specs.Symbols.{SymIs, NextSymbol, SymbolsChecked, symbolColumns};
 ghost use Rattle.format.specs.Calls.{refusalOf};
@@ -361,34 +361,5 @@ pub fn parse_line_row(l: &[u8]) -> LineRow
         Entry::Value(a) => LineRow::Known(n, a),
         Entry::Unknown => LineRow::Unknown(n),
         Entry::Nothing => LineRow::Bad,
-    }
-}
-
-// Whether a row of the line table reads and has this number.
-fn is_line(l: &[u8], i: u64) -> bool
-    ensures { λ r. ⌜ r ≡ isLine i (lineIn (now (l .entry))) ⌝ }
-{
-    match parse_line_row(l) {
-        LineRow::Known(n, _) => n == i,
-        LineRow::Unknown(n) => n == i,
-        LineRow::Bad => false,
-    }
-}
-
-// The rows of the line table, checked, from the place after its header.
-pub fn parse_line_rows(t: &[u8], from: usize) -> u8
-    ensures { λ r. ⌜ r ≡ refusalOf (parseLineRows 0 (lineView (now (t .entry)) from .0)) ⌝ }
-{
-    let mut at = from;
-    let mut i: u64 = 0;
-    loop {
-        let Line::At { start, end, next } = next_source_line(t, at) else {
-            return 0;
-        };
-        if !is_line(&t[start..end], i) {
-            return 28;
-        }
-        i += 1;
-        at = next;
     }
 }

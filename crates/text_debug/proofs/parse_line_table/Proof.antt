@@ -65,20 +65,20 @@ header e = sym (e .before .parse-line-header .ensures) ∙ not-false _ (e .if1 .
 
 returns-3 : tie.Need-returns-3
 returns-3 c =
-    let r = c .before .before in
+    let r = c .before .before .before in
     let e = r .before in
     subst (Is (start (from e))) (sym (c .without-lines3 .ensures))
-    (rows-bad _ _ _ _ _ (line (from e)) (header e) _ _ (r .parse-line-rows .ensures) (c .before .if2 .taken))
+    (rows-bad _ _ _ _ _ (line (from e)) (header e) _ _ (r .parse-line-rows .ensures .0) (c .before .if2 .taken))
 
 -- and the rows
-read : (d : tie.Else2) → let s = from (d .before .before) in 0 ≡ refusalOf (parseLineRows 0 (lineView (text (start s)) (s .start .given .0 .1 .1 .0) .0))
-read d = sym (d .if2 .left) ∙ d .before .parse-line-rows .ensures
+read : (d : tie.Else2) → let s = from (d .before .before .before) in 0 ≡ refusalOf (parseLineRows 0 (lineView (text (start s)) (s .start .given .0 .1 .1 .0) .0))
+read d = sym (d .if2 .left) ∙ d .before .before .parse-line-rows .ensures .0
 
 returns-4 : tie.Need-returns-4
 returns-4 c =
     let n = c .before in
     let d = n .before .before .before in
-    let e = d .before .before in
+    let e = d .before .before .before in
     subst (Is (start (from e))) (sym (c .without-lines4 .ensures))
     (rows-none _ _ _ _ _ (line (from e)) (header e) (start (from e) .args .sourced) (read d)
     (subst (NextFrom (start (from e)) (from e .start .given .0 .1 .1 .0)) (n .enum-told3 .given .1) (n .before .before .next-source-line2 .ensures)))
@@ -87,7 +87,7 @@ returns-5 : tie.Need-returns-5
 returns-5 c =
     let n = c .before .before in
     let d = n .before .before .before in
-    let e = d .before .before in
+    let e = d .before .before .before in
     subst (Is (start (from e))) (sym (c .without-lines5 .ensures))
     (rows-again _ _ _ _ _ (line (from e)) (header e) (start (from e) .args .sourced) (read d)
     (not-empty _ _ _ _ _ (subst (NextFrom (start (from e)) (from e .start .given .0 .1 .1 .0)) (n .enum-told2 .given .1) (n .before .before .next-source-line2 .ensures)))
@@ -98,10 +98,11 @@ unfolding sourceFrom
 returns-6 c =
     let n = c .before .before in
     let d = n .before .before .before in
-    let e = d .before .before in
+    let e = d .before .before .before in
     rows-source _ _ _ _ _ (line (from e)) (header e) (start (from e) .args .sourced) (read d)
     (not-empty _ _ _ _ _ (subst (NextFrom (start (from e)) (from e .start .given .0 .1 .1 .0)) (n .enum-told2 .given .1) (n .before .before .next-source-line2 .ensures)))
-    (c .before .if3 .left) (c .unescape .result) (c .unescape .ensures)
+    (c .before .if3 .left) (c .unescape .result) (c .unescape .ensures) (d .before .before .parse-line-rows .result)
+    (d .before .before .parse-line-rows .ensures) (d .if2 .left)
 
 pub parse-line-table-spec : {M : Type 1} → statement M
 parse-line-table-spec =

@@ -4,8 +4,8 @@ use mathlib.Core.Path.{_≡_, sym, ap, _∙_}
 use mathlib.Core.Option.{some}
 use denote.Ref.{now}
 use Rattle.text_words.specs.Room.{roomOf, roomAfter}
-use Rattle.text_read.specs.Parts.{rowParts, labelParts, lineParts, sourceParts, sourceRoom}
-use Rattle.text_read.proofs.PartLaws.{source-room-is, short0, short1, short2, short3, below1, on3}
+use Rattle.text_read.specs.Parts.{rowParts, labelParts, lineParts, linesRoom, sourceParts, sourceRoom}
+use Rattle.text_read.proofs.PartLaws.{lines-room-is, source-room-is, short0, short1, short2, short3, below1, on3}
 use Rattle.text_read.proofs.object_room.Statement.{statement}
 use Rattle.text_read.proofs.object_room.Tie as tie
 
@@ -24,10 +24,16 @@ left1 c = sym (ap roomOf (c .b .given .1)) ∙ c .before .before .labels-room .e
 abbrev to-b : tie.After-c → tie.After-b
 to-b c = c .before .before .before .before
 
+after-lines : (c : tie.After-b) →
+    let k = start (to-a c) in
+    linesRoom (k .args .sourced) (k .args .lines .words) (c .b .given .0 .0)
+    ≡ roomAfter (lineParts (k .args .sourced) (now (k .args .t)) (k .args .rows)) (c .b .given .0 .0)
+after-lines c = let k = start (to-a c) in lines-room-is (k .args .sourced) (now (k .args .t)) (k .args .rows) _ _ λ y. k .pre y .2
+
 left2 : (c : tie.After-c) →
     let k = start (to-a (to-b c)) in
     some (c .c .given .0 .0) ≡ roomAfter (lineParts (k .args .sourced) (now (k .args .t)) (k .args .rows)) (to-b c .b .given .0 .0)
-left2 c = sym (ap roomOf (c .c .given .1)) ∙ c .before .before .lines-room .ensures
+left2 c = sym (ap roomOf (c .c .given .1)) ∙ c .before .before .lines-room .ensures ∙ after-lines (to-b c)
 
 abbrev to-c : tie.After-d → tie.After-c
 to-c c = c .before .before .before .before
@@ -56,7 +62,7 @@ returns-3 : tie.Need-returns-3
 returns-3 c =
     let l = c .before .before in
     let b = l .before .before in
-    short2 _ _ _ _ _ _ (left0 (to-a b)) _ (left1 b) (sym (ap roomOf (c .enum-told3 .given .1)) ∙ l .lines-room .ensures)
+    short2 _ _ _ _ _ _ (left0 (to-a b)) _ (left1 b) (sym (ap roomOf (c .enum-told3 .given .1)) ∙ l .lines-room .ensures ∙ after-lines b)
 
 source-room-requires : tie.Need-source-room-requires
 source-room-requires c κs y = start (to-a (to-b (c .before))) .pre y .1

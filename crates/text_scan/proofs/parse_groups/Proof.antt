@@ -16,14 +16,14 @@ Inv-loop t first seen₀ at₀ sourced₀ rows₀ lines₀ seen at sourced rows 
 abbrev μ-loop : tie.MeasureT-loop
 μ-loop t first seen₀ at₀ sourced₀ rows₀ lines₀ seen at sourced rows lines = length t - at
 
-head : (c : tie.After-head Inv-loop μ-loop) → HeadAt (now (c .before .before .before .before .before .before .args .t)) (c .before .before .before .loop .at) (c .head .given .0 .0) (c .head .given .0 .1 .0)
-head c = subst (NextHead (now (c .before .before .before .before .before .before .args .t)) (c .before .before .before .loop .at)) (c .head .given .1) (c .before .before .next-head .ensures)
+head : (c : tie.After-head Inv-loop μ-loop) → HeadAt (now (c .before .before .before .before .before .before .before .args .t)) (c .before .before .before .loop .at) (c .head .given .0 .0) (c .head .given .0 .1 .0)
+head c = subst (NextHead (now (c .before .before .before .before .before .before .before .args .t)) (c .before .before .before .loop .at)) (c .head .given .1) (c .before .before .next-head .ensures)
 
 loop-holds : tie.Need-loop-holds Inv-loop μ-loop
-loop-holds c = walking-begin _ _ _ (c .before .before .pre .1)
+loop-holds c = walking-begin _ _ _ _ (c .before .before .before .pre .1)
 
 parse-group-requires : tie.Need-parse-group-requires Inv-loop μ-loop
-parse-group-requires c κs = omega (arith, c .before .before .before .before .before .loop .inv .size, c .before .before .before .before .before .before .before .before .pre .0)
+parse-group-requires c κs = omega (arith, c .before .before .before .before .before .loop .inv .size, c .before .before .before .before .before .before .before .before .before .pre .0)
 
 same-length : tie.Need-same-length Inv-loop μ-loop
 same-length c = c .before .before .before .before .parse-group .kept .1 .1 .1 .1 .1 .1 .0 ∙ c .before .before .before .before .before .before .before .before .before .before .loop .inv .size
@@ -41,13 +41,13 @@ same-length-2 : tie.Need-same-length-2 Inv-loop μ-loop
 same-length-2 c = c .before .before .before .loop .inv .size
 
 returns-2 : tie.Need-returns-2 Inv-loop μ-loop
-returns-2 c = walking-loose _ _ _ _ _ _ _ _ (c .before .before .before .loop .inv) (subst (NextHead (now (c .before .before .before .before .before .before .args .t)) (c .before .before .before .loop .at)) (c .enum-told .given .1) (c .before .before .next-head .ensures))
+returns-2 c = walking-loose _ _ _ _ _ _ _ _ (c .before .before .before .loop .inv) (subst (NextHead (now (c .before .before .before .before .before .before .before .args .t)) (c .before .before .before .loop .at)) (c .enum-told .given .1) (c .before .before .next-head .ensures))
 
 same-length-3 : tie.Need-same-length-3 Inv-loop μ-loop
 same-length-3 c = c .before .before .before .loop .inv .size
 
 returns-3 : tie.Need-returns-3 Inv-loop μ-loop
-returns-3 c = walking-done _ _ _ _ _ _ _ _ (c .before .before .before .loop .inv) (subst (NextHead (now (c .before .before .before .before .before .before .args .t)) (c .before .before .before .loop .at)) (c .enum-told2 .given .1) (c .before .before .next-head .ensures))
+returns-3 c = walking-done _ _ _ _ _ _ _ _ (c .before .before .before .loop .inv) (subst (NextHead (now (c .before .before .before .before .before .before .before .args .t)) (c .before .before .before .loop .at)) (c .enum-told2 .given .1) (c .before .before .next-head .ensures))
 
 pub parse-groups-spec : {M : Type 1} → statement M
-parse-groups-spec = tie.close (tie.spec Inv-loop μ-loop loop-holds (λ c κs. search needs) (λ c. search needs) parse-group-requires same-length returns loop-less loop-again (λ c. search needs) same-length-2 returns-2 (λ c. search needs) same-length-3 returns-3)
+parse-groups-spec = tie.close (tie.spec Inv-loop μ-loop (λ c κs. search needs) loop-holds (λ c κs. search needs) (λ c. search needs) parse-group-requires same-length returns loop-less loop-again (λ c. search needs) same-length-2 returns-2 (λ c. search needs) same-length-3 returns-3)

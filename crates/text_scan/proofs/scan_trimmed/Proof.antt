@@ -38,11 +38,11 @@ returns-3 c = scans-no _ _ _ _ (scan-groups _ _ _ _ _ (line (c .before .before .
 
 returns-4 : tie.Need-returns-4
 unfolding ascii
-returns-4 c = scans-no _ _ 31 _ (scan-fallen _ _ _ _ _ (line (c .before .before .before .before .before .before .before .before .before .before .before .before .before)) (sym (c .before .before .before .before .before .before .before .before .before .equals .ensures) ∙ not-false _ (c .before .before .before .before .before .before .before .before .if1 .left)) (c .before .before .before .before .before .before .parse-groups .result) (c .before .before .before .before .before .before .parse-groups .ensures) (c .before .before .before .if2 .left) (sym (c .before .before .lines-rise .ensures) ∙ not-true _ (c .before .if3 .taken))) (omega arith) (c .refuse4 .ensures)
+returns-4 c = scans-no _ _ 31 _ (scan-fallen _ _ _ _ _ (line (c .before .before .before .before .before .before .before .before .before .before .before .before .before .before)) (sym (c .before .before .before .before .before .before .before .before .before .before .equals .ensures) ∙ not-false _ (c .before .before .before .before .before .before .before .before .before .if1 .left)) (c .before .before .before .before .before .before .before .parse-groups .result) (c .before .before .before .before .before .before .before .parse-groups .ensures) (c .before .before .before .before .if2 .left) (sym (c .before .before .lines-rise .ensures) ∙ not-true _ (c .before .if3 .taken))) (omega arith) (c .refuse4 .ensures)
 
 returns-5 : tie.Need-returns-5
 unfolding ascii
-returns-5 c = scan-read _ _ _ _ _ (line (c .before .before .before .before .before .before .before .before .before .before .before .before .before)) (sym (c .before .before .before .before .before .before .before .before .before .equals .ensures) ∙ not-false _ (c .before .before .before .before .before .before .before .before .if1 .left)) (c .before .before .before .before .before .before .parse-groups .result) (c .before .before .before .before .before .before .parse-groups .ensures) (c .before .before .before .if2 .left) (sym (c .before .before .lines-rise .ensures) ∙ not-false _ (c .before .if3 .left))
+returns-5 c = scan-read _ _ _ _ _ (line (c .before .before .before .before .before .before .before .before .before .before .before .before .before)) (sym (c .before .before .before .before .before .before .before .before .before .equals .ensures) ∙ not-false _ (c .before .before .before .before .before .before .before .before .if1 .left)) (c .before .before .before .before .before .before .parse-groups .result) (c .before .before .before .before .before .before .parse-groups .ensures) (c .before .before .before .if2 .left) (sym (c .before .lines-rise .ensures) ∙ not-false _ (c .if3 .left))
 
 pub scan-trimmed-spec : {M : Type 1} → statement M
 scan-trimmed-spec = tie.close (tie.spec (λ c κs. search needs) (λ c. search needs) (λ c. search needs) (λ c κs. search needs) returns sub-equals part-equals-start part-equals-end (λ c. search needs) (λ c κs. search needs) (λ c κs. search needs) returns-2 (λ c. search needs) parse-groups-requires (λ c κs. search needs) returns-3 (λ c κs. search needs) (λ c κs. search needs) returns-4 returns-5)

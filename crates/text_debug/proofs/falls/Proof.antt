@@ -1,7 +1,7 @@
 -- Both ways of the test. Assumes nothing.
 use mathlib.Core.Path.{sym}
-use Rattle.text_scan.proofs.falls.Statement.{statement}
-use Rattle.text_scan.proofs.falls.Tie as tie
+use Rattle.text_debug.proofs.falls.Statement.{statement}
+use Rattle.text_debug.proofs.falls.Tie as tie
 
 returns : tie.Need-returns
 returns c = sym (simp (c .if1 .taken))
