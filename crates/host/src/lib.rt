@@ -5,6 +5,7 @@ ghost use Rattle.format.specs.Calls.{measured, readBinary, readText};
 ghost use Rattle.format.specs.Source.{getPosPair};
 ghost use Rattle.host.specs.Answers.{measuredOf, positionOf};
 use binary_format::BinaryFormat;
+use byte_positions::position_of;
 use text_read::text_length;
 
 // The number of the question that was answered no, or 0; and how many words the file's object has, 0 where it is refused.
@@ -50,25 +51,9 @@ pub extern "C" fn lc3_text_length(bytes: &[u8]) -> Measured
 pub extern "C" fn lc3_get_pos_pair(source: &[u8], index: u64) -> Position
     ensures { λ r. ⌜ positionOf r ≡ getPosPair (now (source .entry)) index ⌝ }
 {
-    let to = index as usize;
-    let mut line = 0;
-    let mut start = 0;
-    let mut i = 0;
-    while i < to {
-        if source.len() <= i {
-            return Position {
-                line: line + 1,
-                column: index,
-            };
-        }
-        if source[i] == 10 {
-            line += 1;
-            start = i + 1;
-        }
-        i += 1;
-    }
+    let p = position_of(source, index);
     Position {
-        line,
-        column: (to - start) as u64,
+        line: p.line,
+        column: p.column,
     }
 }

@@ -9,8 +9,8 @@ use denote.Ref.{now}
 use Rattle.format.specs.Source.{Position, getPosPair}
 use Rattle.source_info.specs.Passing.{posFrom}
 use Rattle.source_info.proofs.LineLaws.{pos-start, pos-other, pos-next, pos-stop, pos-past}
-use Rattle.host.proofs.lc3_get_pos_pair.Statement.{statement}
-use Rattle.host.proofs.lc3_get_pos_pair.Tie as tie
+use Rattle.byte_positions.proofs.position_of.Statement.{statement}
+use Rattle.byte_positions.proofs.position_of.Tie as tie
 
 abbrev Inv-loop : tie.InvT-loop
 Inv-loop source index to line₀ start₀ i₀ line start i =
@@ -63,8 +63,8 @@ returns-2 c =
     let a = c .before .before .args in
     pos-stop (a .index) (l .line) (l .start) (l .i) (drop (l .i) (now (a .source))) (c .loop-test .left) ∙ l .inv .4
 
-pub lc3-get-pos-pair-spec : {M : Type 1} → statement M
-lc3-get-pos-pair-spec =
+pub position-of-spec : {M : Type 1} → statement M
+position-of-spec =
     tie.close
     (tie.spec
     Inv-loop
