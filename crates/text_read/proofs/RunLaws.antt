@@ -2,7 +2,7 @@
 use mathlib.Core.Path.{_≡_, refl, sym, ap, ap₂, _∙_, subst}
 use mathlib.Core.List.{List, [], _∷_, _++_, map, flatMap, append-nil, append-assoc}
 use mathlib.Core.Option.{Option, none, some}
-use Prim.Native.Nat.{ℕ, suc, _+_, _-_, _^_, _%_, _≤_, _<_}
+use Prim.Native.Nat.{ℕ, zero, suc, _+_, _-_, _^_, _%_, _≤_, _<_}
 use native.Mathlib.Omega.{arith}
 use lib.ListN.{length, take, set, length-append, length-map, length-drop}
 use lib.Seq.{take-at, length-take-le}
@@ -104,6 +104,48 @@ module _ (t : List ℕ) (from at n : ℕ) (r : Running t from at n) where
               r .same ∙ ap (λ (xs : List (Option ℕ)). map some (r .run) ++ xs) (step t at a e m l ∙ ap (λ (x : Option ℕ). x ∷ addressesFrom t m) (o .1))
               ∙ sym (map-snoc (r .run) (o .0) (addressesFrom t m));
         }
+
+-- and the words that are kept of it
+take-set : (xs : List ℕ) (n w : ℕ) → n < length xs → take (n + 1) (set xs n w) ≡ take n xs ++ w ∷ []
+take-set [] n w h = absurd (omega (arith, h))
+take-set (x ∷ xs) zero w h = refl
+take-set (x ∷ xs) (suc n) w h =
+    let e : suc n + 1 ≡ suc (n + 1) = omega arith in
+    ap (λ (k : ℕ). take k (x ∷ set xs n w)) e ∙ ap (λ (l : List ℕ). x ∷ l) (take-set xs n w (omega (arith, h)))
+
+words-snoc : (xs : List ℕ) (a : ℕ) → map memoryWord (map some xs) ++ memoryWord (some a) ∷ [] ≡ map memoryWord (map some (xs ++ a ∷ []))
+words-snoc [] a = refl
+words-snoc (x ∷ xs) a = ap (λ (l : List ℕ). memoryWord (some x) ∷ l) (words-snoc xs a)
+
+pub record Keeping (t : List ℕ) (from at n : ℕ) (room kept : List ℕ) : Type 0 where
+  pub running : Running t from at n
+  pub long : length kept ≡ length room
+  pub words : n ≤ length kept → take n kept ≡ map memoryWord (map some (running .run))
+
+pub keeping-begin : (t : List ℕ) (from : ℕ) (kept : List ℕ) → Keeping t from from 0 kept kept
+unfolding running-begin
+keeping-begin t from kept = record { running = running-begin t from; long = refl; words = λ h. refl }
+
+module _ (t : List ℕ) (from at n : ℕ) (room kept : List ℕ) (s : Keeping t from at n room kept) (a e m : ℕ) (l : StepAt (lineView t) t at a e m)
+    (w : ℕ) (q : w ≡ memoryWord (addressIn (part a e t))) where
+  pub keeping-ends : w ≡ 0x2000_0000 → RunEnds t from n m × (n ≤ length kept → take n kept ≡ map memoryWord (take n (addressesFrom t from)))
+  keeping-ends z =
+      let r = s .running in (
+        running-ends t from at n r a e m l w q z,
+        λ h. s .words h
+            ∙ ap (map memoryWord) (sym (ap (take n) (r .same) ∙ take-at (map some (r .run)) (addressesFrom t at) n (length-map (r .run) some ∙ r .count))),
+      )
+
+  pub keeping-on : (w ≡ 0x2000_0000 → ⊥) → (k : ℕ) → k ≡ n + 1 → (after : List ℕ) → length after ≡ length kept → (n < length kept → after ≡ set kept n w)
+      → Keeping t from m k room after
+  unfolding running-on
+  keeping-on z k g after f y =
+      let r = s .running in
+      let o = some-is (addressIn (part a e t)) (λ x. z (q ∙ x)) in
+      let ws : n + 1 ≤ length after → take (n + 1) after ≡ map memoryWord (map some (r .run ++ o .0 ∷ [])) = λ h.
+      ap (take (n + 1)) (y (omega (arith, h, f))) ∙ take-set kept n w (omega (arith, h, f))
+      ∙ ap₂ (λ (xs : List ℕ) (x : ℕ). xs ++ x ∷ []) (s .words (omega (arith, h, f))) (q ∙ ap memoryWord (o .1)) ∙ words-snoc (r .run) (o .0) in
+      subst (λ (j : ℕ). Keeping t from m j room after) (sym g) (record { running = running-on t from at n r a e m l w q z; long = f ∙ s .long; words = ws })
 
 -- RUNS of a line table
 runs-last : (i : ℕ) (run xs : List ℕ) → runsFrom i run (map some xs) ≡ []

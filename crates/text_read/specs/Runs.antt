@@ -3,7 +3,7 @@ use mathlib.Core.Path.{_≡_}
 use mathlib.Core.List.{List, [], _∷_, _++_, map}
 use mathlib.Core.Option.{Option, none, some}
 use Prim.Native.Nat.{ℕ, _+_, _≤_, _<_}
-use lib.ListN.{length}
+use lib.ListN.{length, take, set}
 use Rattle.format.specs.Basics.{if_then_else_, isEmpty}
 use Rattle.format.specs.ObjectFile.{LineBlock}
 use Rattle.format.specs.Records.{lineBlock}
@@ -25,10 +25,18 @@ pub record RunEnds (t : List ℕ) (at n next : ℕ) : Type 0 where
   pub inside : next ≤ length t
   pub same : addressesFrom t at ≡ map some run ++ none ∷ addressesFrom t next
 
+-- words that are kept are those of the next n rows, if there is room for them all
+abbrev pub Kept : List ℕ → ℕ → ℕ → List ℕ → Type 0
+Kept t at n kept = n ≤ length kept → take n kept ≡ map memoryWord (take n (addressesFrom t at))
+
 -- "a run reaching the last row is dropped"
-abbrev pub NextRun : List ℕ → ℕ → Run → Type 0
-NextRun t at (run.Ends n next) = RunEnds t at n next
-NextRun t at run.Last = (run : List ℕ) × (addressesFrom t at ≡ map some run)
+abbrev pub NextRun : List ℕ → ℕ → List ℕ → Run → Type 0
+NextRun t at kept (run.Ends n next) = RunEnds t at n next × Kept t at n kept
+NextRun t at kept run.Last = (run : List ℕ) × (addressesFrom t at ≡ map some run)
+
+-- a word is kept after n others, if there is room
+abbrev pub KeepsWord : ℕ → ℕ → List ℕ → List ℕ → Type 0
+KeepsWord n w kept after = n < length kept → after ≡ set kept n w
 
 -- the words of line blocks, each a part
 abbrev pub blockWords : List LineBlock → List (List ℕ)

@@ -22,7 +22,7 @@ use writing::put_word;
 ghost use mathlib.Core.Path.{_≡_};
 ghost use mathlib.Core.Bool.{true, _||_, not};
 ghost use mathlib.Core.List.{[], _∷_, map};
-ghost use Prim.Native.Nat.{_^_, _≤_, _<_};
+ghost use Prim.Native.Nat.{_+_, _^_, _≤_, _<_};
 ghost use lib.ListN.{length, take};
 ghost use lib.Dec.{eqb};
 ghost use Rattle.format.specs.Calls.{readText, fill, measured};
@@ -35,7 +35,7 @@ ghost use Rattle.text_debug.specs.LineRuns.{addressIn};
 ghost use Rattle.text_debug.specs.DebugGroup.{lineBlocksIn};
 ghost use Rattle.text_words.specs.Written.{PutEach};
 ghost use Rattle.text_words.specs.Room.{roomOf, roomFor, roomAfter};
-ghost use Rattle.text_read.specs.Runs.{addressesFrom, NextRun, blockWords, runParts};
+ghost use Rattle.text_read.specs.Runs.{addressesFrom, KeepsWord, Kept, NextRun, blockWords, runParts};
 ghost use Rattle.text_read.specs.Parts.{joined, lineParts, linesRoom, sourceParts, sourceRoom, relocationParts, objectParts};
 ghost use Rattle.text_read.specs.SourceText.{sourceAt, Unescapes, Counted, Ready, Pushes, Flushes};
 
@@ -56,9 +56,21 @@ fn address_word(l: &[u8]) -> u32
     }
 }
 
-// The run of rows that begins at a place.
-fn next_run(t: &[u8], from: usize) -> Run
-    ensures { λ r. ⌜ NextRun (now (t .entry)) from r ⌝ }
+// One more of the words that are kept, as many as there is room for: how many there would be.
+fn keep_word(kept: &mut [u32], n: usize, w: u32) -> usize
+    requires { ⌜ n < 2 ^ 63 ⌝ }
+    ensures { λ r. ⌜ (r ≡ n + 1) × KeepsWord n w (now (kept .entry)) (now (kept .exit)) ⌝ }
+{
+    if kept.len() <= n {
+        return n + 1;
+    }
+    kept[n] = w;
+    n + 1
+}
+
+// The run of rows that begins at a place. The memory words of its addresses are kept, if there is room for them all.
+fn next_run(t: &[u8], from: usize, kept: &mut [u32]) -> Run
+    ensures { λ r. ⌜ NextRun (now (t .entry)) from (now (kept .exit)) r ⌝ }
 {
     let mut at = from;
     let mut n = 0;
@@ -66,12 +78,28 @@ fn next_run(t: &[u8], from: usize) -> Run
         let Line::At { start, end, next } = next_source_line(t, at) else {
             return Run::Last;
         };
-        if address_word(&t[start..end]) == 0x2000_0000 {
+        let w = address_word(&t[start..end]);
+        if w == 0x2000_0000 {
             return Run::Ends(n, next);
         }
-        n += 1;
+        n = keep_word(kept, n, w);
         at = next;
     }
+}
+
+// The words of others.
+fn put_words(out: &mut [u32], s: &[u32]) -> usize
+    ensures { λ r. ⌜ Put (now (s .entry)) (now (out .entry)) r (now (out .exit)) ⌝ }
+{
+    if out.len() < s.len() {
+        return 0;
+    }
+    let mut i = 0;
+    while i < s.len() {
+        out[i] = s[i];
+        i += 1;
+    }
+    i
 }
 
 // The memory words of the addresses of the next n rows.
@@ -92,9 +120,20 @@ fn put_addresses(out: &mut [u32], t: &[u8], from: usize, n: usize) -> usize
     i
 }
 
+// The same, from the words that are kept if these are all.
+fn put_run_words(out: &mut [u32], t: &[u8], from: usize, n: usize, kept: &[u32]) -> usize
+    requires { ⌜ (n ≤ length (now out)) × (n ≤ length (addressesFrom (now t) from)) × Kept (now t) from n (now kept) ⌝ }
+    ensures { λ r. ⌜ Put (map memoryWord (take n (addressesFrom (now (t .entry)) from))) (now (out .entry)) r (now (out .exit)) ⌝ }
+{
+    if n <= kept.len() {
+        return put_words(out, &kept[0..n]);
+    }
+    put_addresses(out, t, from, n)
+}
+
 // The line block of the next n rows, the first of which is line `first`; none of no rows.
-fn put_run(out: &mut [u32], t: &[u8], from: usize, first: u64, n: usize) -> usize
-    requires { ⌜ n ≤ length (addressesFrom (now t) from) ⌝ }
+fn put_run(out: &mut [u32], t: &[u8], from: usize, first: u64, n: usize, kept: &[u32]) -> usize
+    requires { ⌜ (n ≤ length (addressesFrom (now t) from)) × Kept (now t) from n (now kept) ⌝ }
     ensures { λ r. ⌜ PutEach (runParts first (take n (addressesFrom (now (t .entry)) from))) (now (out .entry)) r (now (out .exit)) ⌝ }
 {
     if n == 0 {
@@ -109,22 +148,22 @@ fn put_run(out: &mut [u32], t: &[u8], from: usize, first: u64, n: usize) -> usiz
     let mut at = 0;
     at += put_word(&mut out[at..], 0x6000_0000);
     at += put_number_words(&mut out[at..], first);
-    at += put_addresses(&mut out[at..], t, from, n);
+    at += put_run_words(&mut out[at..], t, from, n, kept);
     at
 }
 
 // The line blocks of the rows from a place on.
-fn put_line_blocks(out: &mut [u32], t: &[u8], rows: usize) -> usize
+fn put_line_blocks(out: &mut [u32], t: &[u8], rows: usize, kept: &mut [u32]) -> usize
     ensures { λ r. ⌜ PutEach (blockWords (lineBlocksIn (lineView (now (t .entry)) rows .0))) (now (out .entry)) r (now (out .exit)) ⌝ }
 {
     let mut at = 0;
     let mut row = rows;
     let mut line: u64 = 0;
     loop {
-        let Run::Ends(n, next) = next_run(t, row) else {
+        let Run::Ends(n, next) = next_run(t, row, kept) else {
             return at;
         };
-        at += put_run(&mut out[at..], t, row, line, n);
+        at += put_run(&mut out[at..], t, row, line, n, kept);
         line += n as u64 + 1;
         row = next;
     }
@@ -319,7 +358,8 @@ fn put_lines(out: &mut [u32], t: &[u8], sourced: bool, rows: usize) -> usize
     if !sourced {
         return 0;
     }
-    put_line_blocks(out, t, rows)
+    let mut kept = [0u32; 256];
+    put_line_blocks(out, t, rows, &mut kept)
 }
 
 // The source, if there is one.

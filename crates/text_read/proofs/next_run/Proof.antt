@@ -1,72 +1,64 @@
 -- Row by row. Assumes nothing.
 use borrow.Author.Needs.{needs}
 use native.Mathlib.Omega.{arith}
-use mathlib.Core.Path.{_≡_, subst}
-use Prim.Native.Nat.{_-_}
+use mathlib.Core.Path.{subst}
+use mathlib.Core.List.{List}
+use Prim.Native.Nat.{ℕ, _-_}
 use denote.Ref.{now}
 use lib.ListN.{length}
 use Rattle.text_lines.specs.Views.{StepAt}
 use Rattle.text_tables.specs.Debug.{NextIn, lineView}
-use Rattle.text_read.proofs.RunLaws.{Running, running-begin, running-last, running-ends, running-on}
+use Rattle.text_read.proofs.RunLaws.{running-last, Keeping, keeping-begin, keeping-ends, keeping-on}
 use Rattle.text_read.proofs.next_run.Statement.{statement}
 use Rattle.text_read.proofs.next_run.Tie as tie
 
 abbrev Inv-loop : tie.InvT-loop
-Inv-loop t from at₀ n₀ at n = Running t from at n
+Inv-loop t from kept₀ at₀ n₀ kept at n = Keeping t from at n kept₀ kept
 
 abbrev μ-loop : tie.MeasureT-loop
-μ-loop t from at₀ n₀ at n = length t - at
+μ-loop t from kept₀ at₀ n₀ kept at n = length t - at
 
-line : (c : tie.After-start Inv-loop μ-loop) →
-    let l = c .before .before .before in
-    let t = now (l .before .before .args .t) in
-    StepAt (lineView t) t (l .loop .at) (c .start .given .0 .0) (c .start .given .0 .1 .0) (c .start .given .0 .1 .1 .0)
-line c =
-    let l = c .before .before .before in
-    let t = now (l .before .before .args .t) in
-    subst (NextIn (lineView t) t (l .loop .at)) (c .start .given .1) (c .before .before .next-source-line .ensures)
+abbrev text : tie.At-loop Inv-loop μ-loop → List ℕ
+text l = now (l .before .before .before .args .t)
 
-loop-holds : tie.Need-loop-holds Inv-loop μ-loop
-loop-holds c = running-begin _ _
+abbrev loop : tie.After-start Inv-loop μ-loop → tie.At-loop Inv-loop μ-loop
+loop c = c .before .before .before
+
+line : (c : tie.After-start Inv-loop μ-loop) → StepAt (lineView (text (loop c))) (text (loop c)) (loop c .loop .at) (c .start .given .0 .0) (c .start .given .0 .1 .0) (c .start .given .0 .1 .1 .0)
+line c = subst (NextIn (lineView (text (loop c))) (text (loop c)) (loop c .loop .at)) (c .start .given .1) (c .before .before .next-source-line .ensures)
 
 returns : tie.Need-returns Inv-loop μ-loop
 returns c =
     let l = c .before .before .before in
-    let t = now (l .before .before .args .t) in
-    running-last _ _ _ _ (l .loop .inv) (subst (NextIn (lineView t) t (l .loop .at)) (c .enum-told .given .1) (c .before .before .next-source-line .ensures))
-
-sub-address-word : tie.Need-sub-address-word Inv-loop μ-loop
-sub-address-word c = omega (arith, line (c .before) .ordered)
-
-part-address-word-start : tie.Need-part-address-word-start Inv-loop μ-loop
-part-address-word-start c = omega (arith, line (c .before) .ordered)
-
-part-address-word-end : tie.Need-part-address-word-end Inv-loop μ-loop
-part-address-word-end c = omega (arith, line (c .before) .inside)
+    running-last _ _ _ _ (l .loop .inv .running) (subst (NextIn (lineView (text l)) (text l) (l .loop .at)) (c .enum-told .given .1) (c .before .before .next-source-line .ensures))
 
 returns-2 : tie.Need-returns-2 Inv-loop μ-loop
 returns-2 c =
     let d = c .before .before .before .before in
-    running-ends _ _ _ _ (d .before .before .before .loop .inv) _ _ _ (line d) _ (c .before .address-word .ensures) (c .if1 .taken)
+    keeping-ends _ _ _ _ _ _ (loop d .loop .inv) _ _ _ (line d) _ (c .before .address-word .ensures) (c .if1 .taken)
 
-add-n : tie.Need-add-n Inv-loop μ-loop
-add-n c =
-    let d = c .before .before .before .before in
-    let k = d .before .before .before .loop .inv .on in
-    let h = line d .on in
-    let i = line d .next in
-    search needs
+keep-word-requires : tie.Need-keep-word-requires Inv-loop μ-loop
+keep-word-requires c κs =
+    let d = c .before .before .before .before .before in
+    let l = loop d in
+    let h = l .before .before .shared-slice-known .given in
+    omega (arith, l .loop .inv .running .on, line d .on, line d .next)
 
 loop-less : tie.Need-loop-less Inv-loop μ-loop
-loop-less c = let d = c .before .before .before .before in omega (arith, line d .on, line d .next)
+loop-less c = let d = c .before .before .before .before .before .before .before .before in omega (arith, line d .on, line d .next)
 
 loop-again : tie.Need-loop-again Inv-loop μ-loop
 loop-again c =
-    let d = c .before .before .before .before in
-    running-on _ _ _ _ (d .before .before .before .loop .inv) _ _ _ (line d) _ (c .before .address-word .ensures) (c .if1 .left)
+    let k = c .before .before in
+    let e = k .before .before in
+    let d = e .before .before .before .before in
+    keeping-on _ _ _ _ _ _ (loop d .loop .inv) _ _ _ (line d) _ (e .before .address-word .ensures) (e .if1 .left) _ (k .keep-word .ensures .0) _ (k .keep-word .kept .0)
+    (k .keep-word .ensures .1)
 
 pub next-run-spec : {M : Type 1} → statement M
 next-run-spec =
     tie.close
-    (tie.spec Inv-loop μ-loop loop-holds (λ c κs. search needs) (λ c. search needs) (λ c. search needs) returns sub-address-word part-address-word-start
-    part-address-word-end (λ c κs. search needs) returns-2 add-n loop-less loop-again)
+    (tie.spec Inv-loop μ-loop (λ c. keeping-begin _ _ _) (λ c κs. search needs) (λ c. search needs) (λ c. search needs)
+    (λ c. c .before .before .before .loop .inv .long) returns
+    (λ c. omega (arith, line (c .before) .ordered)) (λ c. omega (arith, line (c .before) .ordered)) (λ c. omega (arith, line (c .before) .inside))
+    (λ c κs. search needs) (λ c. loop (c .before .before .before .before) .loop .inv .long) returns-2 keep-word-requires loop-less loop-again)
