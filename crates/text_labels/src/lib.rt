@@ -1,7 +1,4 @@
 // The words of a text file's labels, of the rows of their two tables.
-use label_cache::cached_room;
-use label_cache::gather_labels;
-use label_cache::put_cached;
 use text_gather::Sorting;
 use text_gather::address_at;
 use text_gather::name_at;
@@ -197,63 +194,13 @@ fn put_joined(out: &mut [u32], t: &[u8], symbols: &mut [usize], starts: &mut [us
     }
 }
 
-// The same, by windows of both tables.
-fn put_windowed(out: &mut [u32], t: &[u8]) -> usize
+// The labels of a text file, in the order of names.
+pub fn put_labels(out: &mut [u32], t: &[u8]) -> usize
     ensures { λ r. ⌜ PutEach (map recordWords (map label (labelsOf (now (t .entry))))) (now (out .entry)) r (now (out .exit)) ⌝ }
 {
     let mut symbols = [0usize; 4096];
     let mut starts = [0usize; 4096];
     put_joined(out, t, &mut symbols, &mut starts)
-}
-
-// The same, from arrays where they have room for all.
-fn put_gathered(
-    out: &mut [u32],
-    t: &[u8],
-    starts: &mut [usize],
-    ends: &mut [usize],
-    heads: &mut [u32],
-    indices: &mut [u64],
-) -> usize
-    ensures { λ r. ⌜ PutEach (map recordWords (map label (labelsOf (now (t .entry))))) (now (out .entry)) r (now (out .exit)) ⌝ }
-{
-    let c = gather_labels(t, starts, ends, heads, indices);
-    if c.whole {
-        return put_cached(out, t, starts, ends, heads, indices, c.count);
-    }
-    put_windowed(out, t)
-}
-
-// The same, of a short text.
-fn put_few(out: &mut [u32], t: &[u8]) -> usize
-    ensures { λ r. ⌜ PutEach (map recordWords (map label (labelsOf (now (t .entry))))) (now (out .entry)) r (now (out .exit)) ⌝ }
-{
-    let mut starts = [0usize; 1024];
-    let mut ends = [0usize; 1024];
-    let mut heads = [0u32; 1024];
-    let mut indices = [0u64; 1024];
-    put_gathered(out, t, &mut starts, &mut ends, &mut heads, &mut indices)
-}
-
-// The same, of any text.
-fn put_many(out: &mut [u32], t: &[u8]) -> usize
-    ensures { λ r. ⌜ PutEach (map recordWords (map label (labelsOf (now (t .entry))))) (now (out .entry)) r (now (out .exit)) ⌝ }
-{
-    let mut starts = [0usize; 4096];
-    let mut ends = [0usize; 4096];
-    let mut heads = [0u32; 4096];
-    let mut indices = [0u64; 4096];
-    put_gathered(out, t, &mut starts, &mut ends, &mut heads, &mut indices)
-}
-
-// The labels of a text file, in the order of names.
-pub fn put_labels(out: &mut [u32], t: &[u8]) -> usize
-    ensures { λ r. ⌜ PutEach (map recordWords (map label (labelsOf (now (t .entry))))) (now (out .entry)) r (now (out .exit)) ⌝ }
-{
-    if t.len() < 16384 {
-        return put_few(out, t);
-    }
-    put_many(out, t)
 }
 
 // The room after n words.
@@ -310,61 +257,11 @@ fn joined_room(t: &[u8], symbols: &mut [usize], starts: &mut [usize], room: usiz
     }
 }
 
-// The same, by windows of both tables.
-fn windowed_room(t: &[u8], room: usize) -> Room
+// The room after the labels of a text file.
+pub fn labels_room(t: &[u8], room: usize) -> Room
     ensures { λ r. ⌜ roomOf r ≡ roomAfter (map recordWords (map label (labelsOf (now (t .entry))))) room ⌝ }
 {
     let mut symbols = [0usize; 4096];
     let mut starts = [0usize; 4096];
     joined_room(t, &mut symbols, &mut starts, room)
-}
-
-// The same, from arrays where they have room for all.
-fn gathered_room(
-    t: &[u8],
-    starts: &mut [usize],
-    ends: &mut [usize],
-    heads: &mut [u32],
-    indices: &mut [u64],
-    room: usize,
-) -> Room
-    ensures { λ r. ⌜ roomOf r ≡ roomAfter (map recordWords (map label (labelsOf (now (t .entry))))) room ⌝ }
-{
-    let c = gather_labels(t, starts, ends, heads, indices);
-    if c.whole {
-        return cached_room(t, starts, ends, heads, indices, c.count, room);
-    }
-    windowed_room(t, room)
-}
-
-// The same, of a short text.
-fn few_room(t: &[u8], room: usize) -> Room
-    ensures { λ r. ⌜ roomOf r ≡ roomAfter (map recordWords (map label (labelsOf (now (t .entry))))) room ⌝ }
-{
-    let mut starts = [0usize; 1024];
-    let mut ends = [0usize; 1024];
-    let mut heads = [0u32; 1024];
-    let mut indices = [0u64; 1024];
-    gathered_room(t, &mut starts, &mut ends, &mut heads, &mut indices, room)
-}
-
-// The same, of any text.
-fn many_room(t: &[u8], room: usize) -> Room
-    ensures { λ r. ⌜ roomOf r ≡ roomAfter (map recordWords (map label (labelsOf (now (t .entry))))) room ⌝ }
-{
-    let mut starts = [0usize; 4096];
-    let mut ends = [0usize; 4096];
-    let mut heads = [0u32; 4096];
-    let mut indices = [0u64; 4096];
-    gathered_room(t, &mut starts, &mut ends, &mut heads, &mut indices, room)
-}
-
-// The room after the labels of a text file.
-pub fn labels_room(t: &[u8], room: usize) -> Room
-    ensures { λ r. ⌜ roomOf r ≡ roomAfter (map recordWords (map label (labelsOf (now (t .entry))))) room ⌝ }
-{
-    if t.len() < 16384 {
-        return few_room(t, room);
-    }
-    many_room(t, room)
 }

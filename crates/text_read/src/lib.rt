@@ -1,5 +1,9 @@
 // The text reader: how many words a text file makes, and the words.
 use encode::encode_scalar;
+use label_cache::Cached;
+use label_cache::cached_room;
+use label_cache::gather_labels;
+use label_cache::put_cached;
 use text_debug::Lines;
 use text_labels::labels_room;
 use text_labels::put_labels;
@@ -33,10 +37,11 @@ ghost use Rattle.writing.specs.Written.{Put};
 ghost use Rattle.text_tables.specs.Debug.{lineView};
 ghost use Rattle.text_debug.specs.LineRuns.{addressIn};
 ghost use Rattle.text_debug.specs.DebugGroup.{lineBlocksIn};
+ghost use Rattle.label_cache.specs.Caches.{HoldsLabels};
 ghost use Rattle.text_words.specs.Written.{PutEach};
 ghost use Rattle.text_words.specs.Room.{roomOf, roomFor, roomAfter};
 ghost use Rattle.text_read.specs.Runs.{addressesFrom, KeepsWord, Kept, NextRun, blockWords, runParts};
-ghost use Rattle.text_read.specs.Parts.{joined, lineParts, linesRoom, sourceParts, sourceRoom, relocationParts, objectParts};
+ghost use Rattle.text_read.specs.Parts.{joined, labelParts, lineParts, linesRoom, sourceParts, sourceRoom, relocationParts, objectParts};
 ghost use Rattle.text_read.specs.SourceText.{sourceAt, Unescapes, Counted, Ready, Pushes, Flushes};
 
 // A run of rows with an address: how many, and the place after the row without one that ends it; or one that reaches the last row.
@@ -396,15 +401,65 @@ fn keeps_relocations(sourced: bool, labels: usize) -> bool
     labels != 0
 }
 
+// The room after the labels, from arrays if they hold all.
+fn known_room(
+    u: &[u8],
+    starts: &[usize],
+    ends: &[usize],
+    heads: &[u32],
+    indices: &[u64],
+    cached: Cached,
+    room: usize,
+) -> Room
+    requires { ⌜ HoldsLabels (now u) (now starts) (now ends) (now heads) (now indices) cached ⌝ }
+    ensures { λ r. ⌜ roomOf r ≡ roomAfter (labelParts (now (u .entry))) room ⌝ }
+{
+    if cached.whole {
+        return cached_room(u, starts, ends, heads, indices, cached.count, room);
+    }
+    labels_room(u, room)
+}
+
+// The labels, from arrays if they hold all.
+fn put_known(
+    out: &mut [u32],
+    u: &[u8],
+    starts: &[usize],
+    ends: &[usize],
+    heads: &[u32],
+    indices: &[u64],
+    cached: Cached,
+) -> usize
+    requires { ⌜ HoldsLabels (now u) (now starts) (now ends) (now heads) (now indices) cached ⌝ }
+    ensures { λ r. ⌜ PutEach (labelParts (now (u .entry))) (now (out .entry)) r (now (out .exit)) ⌝ }
+{
+    if cached.whole {
+        return put_cached(out, u, starts, ends, heads, indices, cached.count);
+    }
+    put_labels(out, u)
+}
+
 // The room after the five parts.
-fn object_room(u: &[u8], t: &[u8], sourced: bool, rows: usize, lines: Lines, room: usize) -> Room
-    requires { ⌜ (sourced ≡ true → Counted (now t) rows lines) ⌝ }
+fn object_room(
+    u: &[u8],
+    t: &[u8],
+    sourced: bool,
+    rows: usize,
+    lines: Lines,
+    starts: &[usize],
+    ends: &[usize],
+    heads: &[u32],
+    indices: &[u64],
+    cached: Cached,
+    room: usize,
+) -> Room
+    requires { ⌜ (sourced ≡ true → Counted (now t) rows lines) × HoldsLabels (now u) (now starts) (now ends) (now heads) (now indices) cached ⌝ }
     ensures { λ r. ⌜ roomOf r ≡ roomAfter (objectParts (now (u .entry)) (now (t .entry)) sourced rows) room ⌝ }
 {
     let Room::Left(a) = rows_room(u, 0, room) else {
         return Room::Short;
     };
-    let Room::Left(b) = labels_room(u, a) else {
+    let Room::Left(b) = known_room(u, starts, ends, heads, indices, cached, a) else {
         return Room::Short;
     };
     let Room::Left(c) = lines_room(sourced, lines.words, b) else {
@@ -417,14 +472,26 @@ fn object_room(u: &[u8], t: &[u8], sourced: bool, rows: usize, lines: Lines, roo
 }
 
 // The five parts, one after the other.
-fn put_object(out: &mut [u32], u: &[u8], t: &[u8], sourced: bool, rows: usize) -> usize
+fn put_object(
+    out: &mut [u32],
+    u: &[u8],
+    t: &[u8],
+    sourced: bool,
+    rows: usize,
+    starts: &[usize],
+    ends: &[usize],
+    heads: &[u32],
+    indices: &[u64],
+    cached: Cached,
+) -> usize
     requires { ⌜ (sourced ≡ true → Unescapes (now t) rows)
-        × (length (joined (objectParts (now u) (now t) sourced rows)) ≤ length (now out)) ⌝ }
+        × (length (joined (objectParts (now u) (now t) sourced rows)) ≤ length (now out))
+        × HoldsLabels (now u) (now starts) (now ends) (now heads) (now indices) cached ⌝ }
     ensures { λ r. ⌜ Put (joined (objectParts (now (u .entry)) (now (t .entry)) sourced rows)) (now (out .entry)) r (now (out .exit)) ⌝ }
 {
     let mut at = 0;
     at += put_rows(&mut out[at..], u, 0);
-    let n = put_labels(&mut out[at..], u);
+    let n = put_known(&mut out[at..], u, starts, ends, heads, indices, cached);
     at += n;
     at += put_lines(&mut out[at..], t, sourced, rows);
     at += put_source(&mut out[at..], t, sourced, rows);
@@ -433,9 +500,14 @@ fn put_object(out: &mut [u32], u: &[u8], t: &[u8], sourced: bool, rows: usize) -
     at
 }
 
-// How many words a text file makes, or the number of the first question that is answered no, 20 to 31. The room is never too short: a file
-// has at least as many bytes as its object has words.
-pub fn text_length(s: &[u8]) -> Measured
+// How many words a text file makes, by way of arrays for its labels.
+fn length_in(
+    s: &[u8],
+    starts: &mut [usize],
+    ends: &mut [usize],
+    heads: &mut [u32],
+    indices: &mut [u64],
+) -> Measured
     ensures { λ r. ⌜ measuredOf r ≡ measured (readText (now (s .entry))) ⌝ }
 {
     let scanned = scan_text(s);
@@ -449,12 +521,18 @@ pub fn text_length(s: &[u8]) -> Measured
     let end = scanned.end;
     let lines = scanned.lines;
     let most = 0xFFFF_FFFF_FFFF_FFFF;
+    let cached = gather_labels(&s[from..to], starts, ends, heads, indices);
     let Room::Left(left) = object_room(
         &s[from..to],
         &s[0..end],
         scanned.sourced,
         scanned.rows,
         lines,
+        starts,
+        ends,
+        heads,
+        indices,
+        cached,
         most,
     ) else {
         return Measured { number: 3, len: 0 };
@@ -463,8 +541,48 @@ pub fn text_length(s: &[u8]) -> Measured
     Measured { number: 0, len: n }
 }
 
-// The words of a text file, or the number of the first question that is answered no, 20 to 31; 3 where the buffer is too short.
-pub fn read_text(s: &[u8], out: &mut [u32]) -> Filled
+// The same, of a short text: small arrays are cleared sooner.
+fn length_few(s: &[u8]) -> Measured
+    ensures { λ r. ⌜ measuredOf r ≡ measured (readText (now (s .entry))) ⌝ }
+{
+    let mut starts = [0usize; 1024];
+    let mut ends = [0usize; 1024];
+    let mut heads = [0u32; 1024];
+    let mut indices = [0u64; 1024];
+    length_in(s, &mut starts, &mut ends, &mut heads, &mut indices)
+}
+
+// The same, of any text.
+fn length_many(s: &[u8]) -> Measured
+    ensures { λ r. ⌜ measuredOf r ≡ measured (readText (now (s .entry))) ⌝ }
+{
+    let mut starts = [0usize; 4096];
+    let mut ends = [0usize; 4096];
+    let mut heads = [0u32; 4096];
+    let mut indices = [0u64; 4096];
+    length_in(s, &mut starts, &mut ends, &mut heads, &mut indices)
+}
+
+// How many words a text file makes, or the number of the first question that is answered no, 20 to 31. The room is never too short: a file
+// has at least as many bytes as its object has words.
+pub fn text_length(s: &[u8]) -> Measured
+    ensures { λ r. ⌜ measuredOf r ≡ measured (readText (now (s .entry))) ⌝ }
+{
+    if s.len() < 32768 {
+        return length_few(s);
+    }
+    length_many(s)
+}
+
+// The words of a text file, by way of arrays for its labels.
+fn read_in(
+    s: &[u8],
+    out: &mut [u32],
+    starts: &mut [usize],
+    ends: &mut [usize],
+    heads: &mut [u32],
+    indices: &mut [u64],
+) -> Filled
     ensures { λ r. ⌜ filledOf r (now (out .exit)) ≡ fill (readText (now (s .entry))) (now (out .entry)) ⌝ }
 {
     let scanned = scan_text(s);
@@ -476,16 +594,65 @@ pub fn read_text(s: &[u8], out: &mut [u32]) -> Filled
     let to = w.end;
     let end = scanned.end;
     let lines = scanned.lines;
+    let cached = gather_labels(&s[from..to], starts, ends, heads, indices);
     let Room::Left(_) = object_room(
         &s[from..to],
         &s[0..end],
         scanned.sourced,
         scanned.rows,
         lines,
+        starts,
+        ends,
+        heads,
+        indices,
+        cached,
         out.len(),
     ) else {
         return Filled::refused(3);
     };
-    let n = put_object(out, &s[from..to], &s[0..end], scanned.sourced, scanned.rows);
+    let n = put_object(
+        out,
+        &s[from..to],
+        &s[0..end],
+        scanned.sourced,
+        scanned.rows,
+        starts,
+        ends,
+        heads,
+        indices,
+        cached,
+    );
     Filled::given(n)
+}
+
+// The same, of a short text.
+fn read_few(s: &[u8], out: &mut [u32]) -> Filled
+    ensures { λ r. ⌜ filledOf r (now (out .exit)) ≡ fill (readText (now (s .entry))) (now (out .entry)) ⌝ }
+{
+    let mut starts = [0usize; 1024];
+    let mut ends = [0usize; 1024];
+    let mut heads = [0u32; 1024];
+    let mut indices = [0u64; 1024];
+    read_in(s, out, &mut starts, &mut ends, &mut heads, &mut indices)
+}
+
+// The same, of any text.
+fn read_many(s: &[u8], out: &mut [u32]) -> Filled
+    ensures { λ r. ⌜ filledOf r (now (out .exit)) ≡ fill (readText (now (s .entry))) (now (out .entry)) ⌝ }
+{
+    let mut starts = [0usize; 4096];
+    let mut ends = [0usize; 4096];
+    let mut heads = [0u32; 4096];
+    let mut indices = [0u64; 4096];
+    read_in(s, out, &mut starts, &mut ends, &mut heads, &mut indices)
+}
+
+// The words of a text file, or the number of the first question that is answered no, 20 to 31; 3 where the buffer is too short.
+pub fn read_text(s: &[u8], out: &mut [u32]) -> Filled
+    ensures { λ r. ⌜ filledOf r (now (out .exit)) ≡ fill (readText (now (s .entry))) (now (out .entry)) ⌝ }
+{
+    if s.len() < 32768 {
+        return read_few(s, out);
+    }
+    read_many(s, out)
 }

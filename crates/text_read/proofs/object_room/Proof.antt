@@ -10,7 +10,7 @@ use Rattle.text_read.proofs.object_room.Statement.{statement}
 use Rattle.text_read.proofs.object_room.Tie as tie
 
 abbrev start : tie.After-a → tie.Start
-start c = c .before .before .before .before .before
+start c = c .before .before .before .before .before .before .before .before .before
 
 left0 : (c : tie.After-a) → some (c .a .given .0 .0) ≡ roomAfter (rowParts 0 (now (start c .args .u))) (start c .args .room)
 left0 c = sym (ap roomOf (c .a .given .1)) ∙ c .before .before .rows-room .ensures
@@ -19,7 +19,7 @@ abbrev to-a : tie.After-b → tie.After-a
 to-a c = c .before .before .before .before
 
 left1 : (c : tie.After-b) → some (c .b .given .0 .0) ≡ roomAfter (labelParts (now (start (to-a c) .args .u))) (to-a c .a .given .0 .0)
-left1 c = sym (ap roomOf (c .b .given .1)) ∙ c .before .before .labels-room .ensures
+left1 c = sym (ap roomOf (c .b .given .1)) ∙ c .before .before .known-room .ensures
 
 abbrev to-b : tie.After-c → tie.After-b
 to-b c = c .before .before .before .before
@@ -28,7 +28,7 @@ after-lines : (c : tie.After-b) →
     let k = start (to-a c) in
     linesRoom (k .args .sourced) (k .args .lines .words) (c .b .given .0 .0)
     ≡ roomAfter (lineParts (k .args .sourced) (now (k .args .t)) (k .args .rows)) (c .b .given .0 .0)
-after-lines c = let k = start (to-a c) in lines-room-is (k .args .sourced) (now (k .args .t)) (k .args .rows) _ _ λ y. k .pre y .2
+after-lines c = let k = start (to-a c) in lines-room-is (k .args .sourced) (now (k .args .t)) (k .args .rows) _ _ λ y. k .pre .0 y .2
 
 left2 : (c : tie.After-c) →
     let k = start (to-a (to-b c)) in
@@ -42,7 +42,7 @@ after-source : (c : tie.After-c) →
     let k = start (to-a (to-b c)) in
     sourceRoom (k .args .sourced) (k .args .lines .len) (c .c .given .0 .0)
     ≡ roomAfter (sourceParts (k .args .sourced) (now (k .args .t)) (k .args .rows)) (c .c .given .0 .0)
-after-source c = let k = start (to-a (to-b c)) in source-room-is (k .args .sourced) (now (k .args .t)) (k .args .rows) _ _ λ y. k .pre y .0
+after-source c = let k = start (to-a (to-b c)) in source-room-is (k .args .sourced) (now (k .args .t)) (k .args .rows) _ _ λ y. k .pre .0 y .0
 
 left3 : (c : tie.After-d) →
     let k = start (to-a (to-b (to-c c))) in
@@ -56,7 +56,7 @@ returns-2 : tie.Need-returns-2
 returns-2 c =
     let l = c .before .before in
     let a = l .before .before in
-    short1 _ _ _ _ _ _ (left0 a) (sym (ap roomOf (c .enum-told2 .given .1)) ∙ l .labels-room .ensures)
+    short1 _ _ _ _ _ _ (left0 a) (sym (ap roomOf (c .enum-told2 .given .1)) ∙ l .known-room .ensures)
 
 returns-3 : tie.Need-returns-3
 returns-3 c =
@@ -64,8 +64,11 @@ returns-3 c =
     let b = l .before .before in
     short2 _ _ _ _ _ _ (left0 (to-a b)) _ (left1 b) (sym (ap roomOf (c .enum-told3 .given .1)) ∙ l .lines-room .ensures ∙ after-lines b)
 
+known-room-requires : tie.Need-known-room-requires
+known-room-requires c κs = start (c .before) .pre .1
+
 source-room-requires : tie.Need-source-room-requires
-source-room-requires c κs y = start (to-a (to-b (c .before))) .pre y .1
+source-room-requires c κs y = start (to-a (to-b (c .before))) .pre .0 y .1
 
 returns-4 : tie.Need-returns-4
 returns-4 c =
@@ -91,7 +94,7 @@ returns-5 c =
 pub object-room-spec : {M : Type 1} → statement M
 object-room-spec =
     tie.close
-    (tie.spec (λ c κs. search needs) (λ c. search needs) (λ c. search needs) returns (λ c κs. search needs) (λ c. search needs)
+    (tie.spec (λ c κs. search needs) (λ c. search needs) (λ c. search needs) returns known-room-requires (λ c. search needs)
     (λ c. search needs) returns-2 (λ c κs. search needs) (λ c. search needs) (λ c. search needs) returns-3 source-room-requires
     (λ c. search needs) (λ c. search needs) returns-4
     sub-keeps-relocations (λ c κs. search needs) (λ c κs. search needs) returns-5)

@@ -39,7 +39,7 @@ abbrev Leaves : tie.Start → List ℕ → State ℕ → Type 0
 Leaves k left s = Emits (joined (objectParts (file k) (text k) (k .args .sourced) (k .args .rows))) (now (k .args .out)) left s
 
 abbrev start1 : tie.After-put-rows → tie.Start
-start1 c = c .before .before .before .before .before
+start1 c = c .before .before .before .before .before .before .before .before .before
 
 abbrev state1 : tie.After-put-rows → State ℕ
 state1 c = after (record { at = 0; out = now (start1 c .args .out) }) (c .put-rows .result) (c .put-rows .last .0)
@@ -49,23 +49,23 @@ emits1 c =
     let k = start1 c in
     emit-each (begin _ _ (k .pre .1)) (rowParts 0 (file k)) _ (joined-parts (file k) (text k) (k .args .sourced) (k .args .rows)) (c .put-rows .ensures)
 
-abbrev to1 : tie.After-put-labels → tie.After-put-rows
+abbrev to1 : tie.After-put-known → tie.After-put-rows
 to1 c = c .before .before .before .before
 
-abbrev state2 : tie.After-put-labels → State ℕ
-state2 c = after (state1 (to1 c)) (c .put-labels .result) (c .put-labels .last .0)
+abbrev state2 : tie.After-put-known → State ℕ
+state2 c = after (state1 (to1 c)) (c .put-known .result) (c .put-known .last .0)
 
-emits2 : (c : tie.After-put-labels) → let k = start1 (to1 c) in Leaves k (joined (from2 (file k) (text k) (k .args .sourced) (k .args .rows))) (state2 c)
+emits2 : (c : tie.After-put-known) → let k = start1 (to1 c) in Leaves k (joined (from2 (file k) (text k) (k .args .sourced) (k .args .rows))) (state2 c)
 emits2 c =
     let k = start1 (to1 c) in
-    emit-each (emits1 (to1 c)) (labelParts (file k)) _ (joined1 (file k) (text k) (k .args .sourced) (k .args .rows)) (c .put-labels .ensures)
+    emit-each (emits1 (to1 c)) (labelParts (file k)) _ (joined1 (file k) (text k) (k .args .sourced) (k .args .rows)) (c .put-known .ensures)
 
-labels : (c : tie.After-put-labels) → c .put-labels .result ≡ length (joined (labelParts (file (start1 (to1 c)))))
+labels : (c : tie.After-put-known) → c .put-known .result ≡ length (joined (labelParts (file (start1 (to1 c)))))
 labels c =
     let k = start1 (to1 c) in
-    filled-each (emits1 (to1 c)) (labelParts (file k)) _ (joined1 (file k) (text k) (k .args .sourced) (k .args .rows)) (c .put-labels .ensures)
+    filled-each (emits1 (to1 c)) (labelParts (file k)) _ (joined1 (file k) (text k) (k .args .sourced) (k .args .rows)) (c .put-known .ensures)
 
-abbrev to2 : tie.After-put-lines → tie.After-put-labels
+abbrev to2 : tie.After-put-lines → tie.After-put-known
 to2 c = c .before .before .before .before
 
 abbrev state3 : tie.After-put-lines → State ℕ
@@ -86,6 +86,9 @@ emits4 : (c : tie.After-put-source) → let k = start1 (to1 (to2 (to3 c))) in Le
 emits4 c =
     let k = start1 (to1 (to2 (to3 c))) in
     emit (emits3 (to3 c)) (joined (sourceParts (k .args .sourced) (text k) (k .args .rows))) _ (joined3 (file k) (text k) (k .args .sourced) (k .args .rows)) (c .put-source .ensures)
+
+put-known-requires : tie.Need-put-known-requires
+put-known-requires c κs = start1 (c .before .before .before) .pre .2
 
 put-source-requires : tie.Need-put-source-requires
 put-source-requires c κs =
@@ -111,8 +114,8 @@ emits5 c =
     emit-each (emits4 (to4 c)) (relocationParts (p .keeps-relocations .result) (file k)) []
     (ap (λ (b : Bool). joined (relocationParts b (file k))) (sym e) ∙ sym (append-nil _)) (c .put-relocations .ensures)
 
-mul-put-labels : tie.Need-mul-put-labels
-mul-put-labels c = let h = within (emits1 (c .before .before)) in search needs
+mul-put-known : tie.Need-mul-put-known
+mul-put-known c = let h = within (emits1 (c .before .before)) in search needs
 
 mul-put-lines : tie.Need-mul-put-lines
 mul-put-lines c = let h = within (emits2 (c .before .before)) in let k = same (emits2 (c .before .before)) in search needs
@@ -127,10 +130,10 @@ pub put-object-spec : {M : Type 1} → statement M
 put-object-spec =
     tie.close
     (tie.spec (λ c. search needs) (λ c. search needs) (λ c. search needs) (λ c. search needs) (λ c κs. search needs) (λ c. search needs)
-    mul-put-labels (λ c. within (emits1 (c .before .before))) (λ c. within (emits1 (c .before .before))) (λ c. search needs) (λ c κs. search needs)
+    mul-put-known (λ c. within (emits1 (c .before .before))) (λ c. within (emits1 (c .before .before))) (λ c. search needs) put-known-requires
     (λ c. small (emits2 (c .before .before)) (omega arith)) mul-put-lines (λ c. within (emits2 (c .before .before))) (λ c. within (emits2 (c .before .before)))
     (λ c. search needs) (λ c κs. search needs) (λ c. small (emits3 (c .before .before)) (omega arith)) mul-put-source
     (λ c. within (emits3 (c .before .before))) (λ c. within (emits3 (c .before .before))) (λ c. search needs) put-source-requires
     (λ c. small (emits4 (c .before .before)) (omega arith)) (λ c κs. search needs) mul-put-relocations (λ c. within (emits4 (c .before .before .before)))
-    (λ c. within (emits4 (c .before .before .before))) (λ c. search needs) (λ c κs. search needs) (λ c. small (emits5 (c .before .before)) (omega arith))
-    (λ c. search needs) (λ c. emitted (emits5 (c .before .before)) refl))
+    (λ c. within (emits4 (c .before .before .before))) (λ c. search needs) (λ c κs. search needs) (λ c. small (emits5 (c .before .before)) (omega (arith, start1 (to1 (to2 (to3 (to4 (c .before .before))))) .good .0 .0)))
+    (λ c. same (emits5 (c .before .before))) (λ c. emitted (emits5 (c .before .before)) refl))
