@@ -6,7 +6,7 @@ use mathlib.Core.Option.{Option, none}
 use Prim.Native.Nat.{ℕ, _-_, _/_, _%_, _^_, _≤_, _<_}
 use native.Mathlib.Omega.{arith}
 use lib.Dec.{ltb, eqb}
-use borrow.Author.Tests.{lt-ltb, le-leb, lt-leb, eq-eqb, ne-eqb, ltb-true, ltb-false, eqb-true, eqb-false}
+use borrow.Author.Tests.{lt-ltb, le-ltb, le-leb, lt-leb, eq-eqb, ne-eqb, ltb-true, ltb-false, eqb-true, eqb-false}
 use Rattle.format.specs.Basics.{Outcome, refused, given, _>>=_, chain}
 use Rattle.format.specs.Basics.{isGiven}
 use Rattle.format.specs.Utf8.{isBetween}
@@ -44,6 +44,11 @@ head-kind w h n0 n2 n3 n4 =
     by-test (eqb (w / 2 ^ 29) 1)
     (λ t. clash h (sym (head-one w (eqb-true (w / 2 ^ 29) 1 t))))
     (λ t. let n1 = eqb-false (w / 2 ^ 29) 1 t in let l = ltb-true (w / 2 ^ 29) 6 (head-other w n1 ∙ h) in omega arith)
+
+-- words of numbers and texts go on
+pub head-high : (w : ℕ) → 0xC000_0000 ≤ w → isHead w ≡ false
+head-high w h =
+    let k : 6 ≤ w / 2 ^ 29 = omega arith in sym (head-other w (λ e. absurd (omega (arith, k)))) ∙ le-ltb (w / 2 ^ 29) 6 k
 
 module _ (kind limit w : ℕ) where
   pub bits-given : w / 2 ^ 29 ≡ kind → w % 2 ^ 29 < limit → bitsOf kind limit w ≡ given (w % 2 ^ 29)

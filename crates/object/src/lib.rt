@@ -104,14 +104,31 @@ fn past_blocks(ws: &[u32], at: usize) -> usize
     i
 }
 
+// Past words of numbers and texts, eight at most: one test finds them, and most records have no others.
+fn past_high(ws: &[u32], at: usize) -> usize
+    ensures { λ r. ⌜ (at ≤ r) × SameEnd (now (ws .entry)) at r ⌝ }
+{
+    let mut i = at;
+    while i < ws.len() {
+        if ws[i] < 0xC000_0000 {
+            return i;
+        }
+        i += 1;
+        if i - at == 8 {
+            return i;
+        }
+    }
+    i
+}
+
 // Where the record ends whose words go on at a place: most end within a few words, a source is long.
 pub fn body_end(ws: &[u32], at: usize) -> usize
     ensures { λ r. ⌜ r ≡ at + length (bodyAt (now (ws .entry)) at) ⌝ }
 {
-    let mut i = at;
+    let mut i = past_high(ws, at);
     while goes_on(ws, i) {
         i += 1;
-        if i - at == 8 {
+        if 8 <= i - at {
             return near_end(ws, past_blocks(ws, i));
         }
     }
