@@ -35,11 +35,11 @@ use word_chars::clear_end;
 use writing::put_bytes;
 ghost use mathlib.Core.Path.{_≡_};
 ghost use mathlib.Core.List.{[], _∷_};
-ghost use Prim.Native.Nat.{_+_, _*_, _^_, _≤_, _<_};
+ghost use Prim.Native.Nat.{_+_, _*_, _^_, _≤_, _<_, max};
 ghost use lib.ListN.{length};
 ghost use Rattle.format.specs.Source.{lineCount};
 ghost use Rattle.format.specs.Calls.{checked};
-ghost use Rattle.format.specs.TextWriter.{lineTable, lineWidth, addBlocks, plainRows};
+ghost use Rattle.format.specs.TextWriter.{lineTable, decimal, lineWidth, addBlocks, plainRows};
 ghost use Rattle.format.specs.Utf8.{isUtf8};
 ghost use mathlib.Core.Bool.{true};
 ghost use Rattle.writing.specs.Written.{Put};
@@ -51,6 +51,7 @@ ghost use Rattle.text_lines_out.specs.Merge.{smaller, wrapped};
 ghost use Rattle.text_lines_out.specs.Runs.{row, Measured, Planned, sourceOf, rowsOf};
 ghost use Rattle.text_lines_out.specs.Walk.{recordRows, recordText, recordDone, Follows, Passes, walkRows};
 ghost use Rattle.text_lines_out.specs.Walk.{lineBlocksIn, wrappedAt, Wraps, topAt, sourceTable};
+ghost use Rattle.text_write.specs.Layouts.{WrapsOn};
 
 // Where the line after the one that starts at byte `start` of a source of `n` bytes starts; past the last line, one byte past the
 // source.
@@ -346,20 +347,15 @@ fn wrapped_at(ws: &[u32], at: usize) -> Wrapped
     }
 }
 
-// Those of an object: only the last line block can have any.
-fn find_wrapped(ws: &[u32]) -> Wrapped
-    requires { ⌜ checked (now ws) ≡ 0 ⌝ }
-    ensures { λ r. ⌜ Wraps (now (ws .entry)) (wrapped (lineBlocksIn (now (ws .entry)))) r ⌝ }
+// Those found before; else those of the record at a place.
+fn wrapped_on(ws: &[u32], at: usize, before: Wrapped) -> Wrapped
+    requires { ⌜ at < length (now ws) ⌝ }
+    ensures { λ r. ⌜ WrapsOn (now (ws .entry)) at before r ⌝ }
 {
-    let mut at = 0;
-    while at < ws.len() {
-        let found = wrapped_at(ws, at);
-        if found.count > 0 {
-            return found;
-        }
-        at = body_end(ws, at + 1);
+    if before.count > 0 {
+        return before;
     }
-    Wrapped { place: 0, count: 0 }
+    wrapped_at(ws, at)
 }
 
 // The larger of a line number and those of the record at a place.
@@ -380,22 +376,39 @@ fn top_at(ws: &[u32], at: usize, top: u64) -> u64
     larger(top, last_line(first, count))
 }
 
-// The width of the column of line numbers, for a source of so many lines.
-fn line_width(ws: &[u32], lines: u64) -> usize
-    requires { ⌜ (checked (now ws) ≡ 0) × (1 ≤ lines) ⌝ }
-    ensures { λ r. ⌜ r ≡ lineWidth (addBlocks (lineBlocksIn (now (ws .entry))) (plainRows 0 lines)) ⌝ }
+// The width of the column of line numbers up to this one.
+fn column_width(top: u64) -> usize
+    ensures { λ r. ⌜ r ≡ max (length (decimal top)) 4 ⌝ }
 {
-    let mut top = lines - 1;
-    let mut at = 0;
-    while at < ws.len() {
-        top = top_at(ws, at, top);
-        at = body_end(ws, at + 1);
-    }
     let digits = count_digits(top);
     if digits < 4 {
         return 4;
     }
     digits
+}
+
+// What all rows of an object's line table stand by: the width of the column of line numbers, and the words whose lines wrap.
+pub struct Layout {
+    pub width: usize,
+    pub wrapped: Wrapped,
+}
+
+// That for a source of so many lines, in one walk. Only the last line block can have lines that wrap.
+fn lay_out(ws: &[u32], lines: u64) -> Layout
+    requires { ⌜ (checked (now ws) ≡ 0) × (1 ≤ lines) ⌝ }
+    ensures { λ r. ⌜ (r .width ≡ lineWidth (addBlocks (lineBlocksIn (now (ws .entry))) (plainRows 0 lines)))
+        × Wraps (now (ws .entry)) (wrapped (lineBlocksIn (now (ws .entry)))) (r .wrapped) ⌝ }
+{
+    let mut top = lines - 1;
+    let mut wrapped = Wrapped { place: 0, count: 0 };
+    let mut at = 0;
+    while at < ws.len() {
+        top = top_at(ws, at, top);
+        wrapped = wrapped_on(ws, at, wrapped);
+        at = body_end(ws, at + 1);
+    }
+    let width = column_width(top);
+    Layout { width, wrapped }
 }
 
 // The room that the line table leaves, for the source of `n` bytes and so many lines in the words from a place on.
@@ -405,8 +418,9 @@ fn measure_line_table(room: usize, ws: &[u32], text: usize, n: usize, lines: u64
     ensures { λ r. ⌜ roomOf r
         ≡ lessPart room (lineTable (textBytes (now (ws .entry)) text n) (lineBlocksIn (now (ws .entry)))) ⌝ }
 {
-    let width = line_width(ws, lines);
-    let wrapped = find_wrapped(ws);
+    let layout = lay_out(ws, lines);
+    let width = layout.width;
+    let wrapped = layout.wrapped;
     let t = Table {
         text,
         n,
@@ -437,8 +451,9 @@ fn put_line_table(out: &mut [u8], ws: &[u32], text: usize, n: usize, lines: u64)
     ensures { λ r. ⌜ Put (lineTable (textBytes (now (ws .entry)) text n) (lineBlocksIn (now (ws .entry)))) (now (out .entry)) r
         (now (out .exit)) ⌝ }
 {
-    let width = line_width(ws, lines);
-    let wrapped = find_wrapped(ws);
+    let layout = lay_out(ws, lines);
+    let width = layout.width;
+    let wrapped = layout.wrapped;
     let t = Table {
         text,
         n,

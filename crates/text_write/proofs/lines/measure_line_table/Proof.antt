@@ -21,9 +21,9 @@ use Rattle.text_write.proofs.lines.measure_line_table.Statement.{statem
 use Rattle.text_write.proofs.lines.measure_line_table.Tie as tie
 
 -- the parts
-module _ (c : tie.After-find-wrapped) where
+module _ (c : tie.After-lay-out) where
   abbrev s : tie.Start
-  s = c .before .before .before
+  s = c .before .before
 
   abbrev ws : List ℕ
   ws = now (s .args .ws)
@@ -32,10 +32,10 @@ module _ (c : tie.After-find-wrapped) where
   text = textBytes ws (s .args .text) (s .args .n)
 
   abbrev r : Wrapped
-  r = c .find-wrapped .result
+  r = c .lay-out .result .wrapped
 
   abbrev width : ℕ
-  width = c .before .line-width .result
+  width = c .lay-out .result .width
 
   abbrev header : List ℕ
   header = textLine (lineHeader width)
@@ -54,28 +54,25 @@ module _ (c : tie.After-find-wrapped) where
 
   parts : lineTable text (lineBlocksIn ws) ≡ header ++ (early ++ late)
   parts =
-      table-parts ws text (s .args .lines) width r (s .pre .0) (s .pre .3) few short (c .find-wrapped .ensures)
-      (c .before .line-width .ensures)
+      table-parts ws text (s .args .lines) width r (s .pre .0) (s .pre .3) few short (c .lay-out .ensures .1)
+      (c .lay-out .ensures .0)
 
-line-width-requires : tie.Need-line-width-requires
-line-width-requires c κs =
+lay-out-requires : tie.Need-lay-out-requires
+lay-out-requires c κs =
     let p = c .before .pre in
     let a = c .before .args in (p .0, some-lines (textBytes (now (a .ws)) (a .text) (a .n)) (a .lines) (p .3))
-
-find-wrapped-requires : tie.Need-find-wrapped-requires
-find-wrapped-requires c κs = c .before .before .pre .0
 
 returns : tie.Need-returns
 returns c =
     let m = c .before .before in
-    let f = m .before in
+    let f = m .before .before in
     part-short (s f .args .room) (header f) (early f ++ late f) (parts f)
     (sym (ap roomOf (c .enum-told .given .1)) ∙ m .measure-line-header .ensures)
 
 -- the header has room
 module _ (c : tie.After-known-told) where
-  abbrev f : tie.After-find-wrapped
-  f = c .before .before .before .before
+  abbrev f : tie.After-lay-out
+  f = c .before .before .before .before .before
 
   abbrev left : ℕ
   left = c .before .left .given .0 .0
@@ -124,7 +121,7 @@ measure-line-records-requires c κs = let g = f (k c) in
       s g .pre .2,
       s g .pre .3,
       wrapped-passed (ws g) (text g) (a .lines) (width g) (r g) (s g .pre .0) (s g .pre .3) (few g) (short g)
-          (g .find-wrapped .ensures) (g .before .line-width .ensures) (c .before .rest .given .0 .1 .0) (told c .1),
+          (g .lay-out .ensures .1) (g .lay-out .ensures .0) (c .before .rest .given .0 .1 .0) (told c .1),
     )
 
 returns-3 : tie.Need-returns-3
@@ -137,8 +134,7 @@ pub measure-line-table-spec : {M : Type 1} → statement M
 measure-line-table-spec =
     tie.close
     (tie.spec
-    line-width-requires
-    find-wrapped-requires
+    lay-out-requires
     (λ c κs. search needs)
     (λ c. search needs)
     (λ c. search needs)

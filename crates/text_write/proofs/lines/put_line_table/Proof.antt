@@ -21,9 +21,9 @@ use Rattle.text_write.proofs.lines.put_line_table.Statement.{statement}
 use Rattle.text_write.proofs.lines.put_line_table.Tie as tie
 
 -- the parts
-module _ (c : tie.After-find-wrapped) where
+module _ (c : tie.After-lay-out) where
   abbrev s : tie.Start
-  s = c .before .before .before .before
+  s = c .before .before .before
 
   abbrev ws : List ℕ
   ws = now (s .args .ws)
@@ -32,10 +32,10 @@ module _ (c : tie.After-find-wrapped) where
   text = textBytes ws (s .args .text) (s .args .n)
 
   abbrev r : Wrapped
-  r = c .find-wrapped .result
+  r = c .lay-out .result .wrapped
 
   abbrev width : ℕ
-  width = c .before .line-width .result
+  width = c .lay-out .result .width
 
   abbrev header : List ℕ
   header = textLine (lineHeader width)
@@ -60,8 +60,8 @@ module _ (c : tie.After-find-wrapped) where
 
   parts : all ≡ header ++ (early ++ late)
   parts =
-      table-parts ws text (s .args .lines) width r (s .pre .0) (s .pre .3) few short (c .find-wrapped .ensures)
-      (c .before .line-width .ensures)
+      table-parts ws text (s .args .lines) width r (s .pre .0) (s .pre .3) few short (c .lay-out .ensures .1)
+      (c .lay-out .ensures .0)
 
   abbrev state0 : State ℕ
   state0 = record { at = 0; out = now (s .args .out) }
@@ -70,8 +70,8 @@ module _ (c : tie.After-find-wrapped) where
   emits0 = begin _ _ (s .pre .5)
 
 module _ (c : tie.After-put-line-header) where
-  abbrev f : tie.After-find-wrapped
-  f = c .before .before
+  abbrev f : tie.After-lay-out
+  f = c .before .before .before
 
   abbrev state1 : State ℕ
   state1 = after (state0 f) (c .put-line-header .result) (c .put-line-header .last .0)
@@ -99,13 +99,10 @@ module _ (c : tie.After-put-line-records) where
   emits3 : Emits (all (f (h q))) (now (s (f (h q)) .args .out)) [] state3
   emits3 = emit (emits2 q) (late (f (h q))) [] (sym (append-nil (late (f (h q))))) (c .put-line-records .ensures)
 
-line-width-requires : tie.Need-line-width-requires
-line-width-requires c κs =
+lay-out-requires : tie.Need-lay-out-requires
+lay-out-requires c κs =
     let p = c .before .before .pre in
     let a = c .before .before .args in (p .0, some-lines (textBytes (now (a .ws)) (a .text) (a .n)) (a .lines) (p .3))
-
-find-wrapped-requires : tie.Need-find-wrapped-requires
-find-wrapped-requires c κs = c .before .before .before .pre .0
 
 add-len : tie.Need-add-len
 add-len c = let e = c .before .before in small (emits1 e) (long (f e))
@@ -143,7 +140,7 @@ put-line-records-requires c κs = let e = c .before .before .before .before in
       s g .pre .2,
       s g .pre .3,
       wrapped-passed (ws g) (text g) (a .lines) (width g) (r g) (s g .pre .0) (s g .pre .3) (few g) (short g)
-          (g .find-wrapped .ensures) (g .before .line-width .ensures) (e .put-run .result .start) (e .put-run .ensures .1),
+          (g .lay-out .ensures .1) (g .lay-out .ensures .0) (e .put-run .result .start) (e .put-run .ensures .1),
       part-room (emits2 e) (late g) [] (sym (append-nil (late g))),
     )
 
@@ -160,8 +157,7 @@ pub put-line-table-spec : {M : Type 1} → statement M
 put-line-table-spec =
     tie.close
     (tie.spec
-    line-width-requires
-    find-wrapped-requires
+    lay-out-requires
     (λ c. search needs)
     (λ c. search needs)
     (λ c. search needs)
