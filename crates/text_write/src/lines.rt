@@ -40,8 +40,6 @@ ghost use lib.ListN.{length};
 ghost use Rattle.format.specs.Source.{lineCount};
 ghost use Rattle.format.specs.Calls.{checked};
 ghost use Rattle.format.specs.TextWriter.{lineTable, decimal, lineWidth, addBlocks, plainRows};
-ghost use Rattle.format.specs.Utf8.{isUtf8};
-ghost use mathlib.Core.Bool.{true};
 ghost use Rattle.writing.specs.Written.{Put};
 ghost use Rattle.object.specs.Texts.{textBytes};
 ghost use Rattle.text_numerals.specs.Memory.{knownWord};
@@ -51,7 +49,7 @@ ghost use Rattle.text_lines_out.specs.Merge.{smaller, wrapped};
 ghost use Rattle.text_lines_out.specs.Runs.{row, Measured, Planned, sourceOf, rowsOf};
 ghost use Rattle.text_lines_out.specs.Walk.{recordRows, recordText, recordDone, Follows, Passes, walkRows};
 ghost use Rattle.text_lines_out.specs.Walk.{lineBlocksIn, wrappedAt, Wraps, topAt, sourceTable};
-ghost use Rattle.text_write.specs.Layouts.{WrapsOn};
+ghost use Rattle.text_write.specs.Layouts.{WrapsOn, plannedText, Tabled, PlanOf};
 
 // Where the line after the one that starts at byte `start` of a source of `n` bytes starts; past the last line, one byte past the
 // source.
@@ -411,30 +409,70 @@ fn lay_out(ws: &[u32], lines: u64) -> Layout
     Layout { width, wrapped }
 }
 
-// The room that the line table leaves, for the source of `n` bytes and so many lines in the words from a place on.
-fn measure_line_table(room: usize, ws: &[u32], text: usize, n: usize, lines: u64) -> Room
-    requires { ⌜ (checked (now ws) ≡ 0) × (n ≤ 3 * length (now ws)) × (lines ≤ 3 * length (now ws) + 1)
-        × (lines ≡ lineCount (textBytes (now ws) text n)) × (isUtf8 (textBytes (now ws) text n) ≡ true) ⌝ }
-    ensures { λ r. ⌜ roomOf r
-        ≡ lessPart room (lineTable (textBytes (now (ws .entry)) text n) (lineBlocksIn (now (ws .entry)))) ⌝ }
+// The line table of an object, as found once for measuring and writing: whether there is none, for want of a source; the source of `n`
+// bytes and so many lines in the words from `text` on; the width of the column of line numbers; and the words whose lines wrap.
+pub struct SourcePlan {
+    pub bare: bool,
+    pub text: usize,
+    pub n: usize,
+    pub lines: u64,
+    pub width: usize,
+    pub place: usize,
+    pub count: usize,
+}
+
+// That of a well formed object.
+pub(crate) fn plan_source(ws: &[u32]) -> SourcePlan
+    requires { ⌜ checked (now ws) ≡ 0 ⌝ }
+    ensures { λ r. ⌜ PlanOf (now (ws .entry)) r ⌝ }
 {
+    let Place::At(at) = source_at(ws) else {
+        return SourcePlan {
+            bare: true,
+            text: 0,
+            n: 0,
+            lines: 0,
+            width: 0,
+            place: 0,
+            count: 0,
+        };
+    };
+    let end = body_end(ws, at);
+    let n = text_len(ws, at, end);
+    let lines = count_newlines(ws, at, n) + 1;
     let layout = lay_out(ws, lines);
-    let width = layout.width;
     let wrapped = layout.wrapped;
-    let t = Table {
-        text,
+    SourcePlan {
+        bare: false,
+        text: at,
         n,
-        width,
         lines,
-        wraps: wrapped.count as u64,
+        width: layout.width,
+        place: wrapped.place,
+        count: wrapped.count,
+    }
+}
+
+// The room that the line table leaves.
+fn measure_line_table(room: usize, ws: &[u32], p: SourcePlan) -> Room
+    requires { ⌜ (checked (now ws) ≡ 0) × Tabled (now ws) p ⌝ }
+    ensures { λ r. ⌜ roomOf r
+        ≡ lessPart room (lineTable (plannedText (now (ws .entry)) p) (lineBlocksIn (now (ws .entry)))) ⌝ }
+{
+    let t = Table {
+        text: p.text,
+        n: p.n,
+        width: p.width,
+        lines: p.lines,
+        wraps: p.count as u64,
     };
     let early = Run {
         first: 0,
-        count: wrapped.count,
+        count: p.count,
         known: true,
-        place: wrapped.place,
+        place: p.place,
     };
-    let Room::Left(left) = measure_line_header(room, width) else {
+    let Room::Left(left) = measure_line_header(room, p.width) else {
         return Room::Short;
     };
     let Rows::Left(rest, next) = measure_run(left, ws, t, early, 0) else {
@@ -444,31 +482,27 @@ fn measure_line_table(room: usize, ws: &[u32], text: usize, n: usize, lines: u64
 }
 
 // It, written into a room that suffices.
-fn put_line_table(out: &mut [u8], ws: &[u32], text: usize, n: usize, lines: u64) -> usize
-    requires { ⌜ (checked (now ws) ≡ 0) × (n ≤ 3 * length (now ws)) × (lines ≤ 3 * length (now ws) + 1)
-        × (lines ≡ lineCount (textBytes (now ws) text n)) × (isUtf8 (textBytes (now ws) text n) ≡ true)
-        × (length (lineTable (textBytes (now ws) text n) (lineBlocksIn (now ws))) ≤ length (now out)) ⌝ }
-    ensures { λ r. ⌜ Put (lineTable (textBytes (now (ws .entry)) text n) (lineBlocksIn (now (ws .entry)))) (now (out .entry)) r
+fn put_line_table(out: &mut [u8], ws: &[u32], p: SourcePlan) -> usize
+    requires { ⌜ (checked (now ws) ≡ 0) × Tabled (now ws) p
+        × (length (lineTable (plannedText (now ws) p) (lineBlocksIn (now ws))) ≤ length (now out)) ⌝ }
+    ensures { λ r. ⌜ Put (lineTable (plannedText (now (ws .entry)) p) (lineBlocksIn (now (ws .entry)))) (now (out .entry)) r
         (now (out .exit)) ⌝ }
 {
-    let layout = lay_out(ws, lines);
-    let width = layout.width;
-    let wrapped = layout.wrapped;
     let t = Table {
-        text,
-        n,
-        width,
-        lines,
-        wraps: wrapped.count as u64,
+        text: p.text,
+        n: p.n,
+        width: p.width,
+        lines: p.lines,
+        wraps: p.count as u64,
     };
     let early = Run {
         first: 0,
-        count: wrapped.count,
+        count: p.count,
         known: true,
-        place: wrapped.place,
+        place: p.place,
     };
     let mut len = 0;
-    len += put_line_header(&mut out[len..], width);
+    len += put_line_header(&mut out[len..], p.width);
     let rows = put_run(&mut out[len..], ws, t, early, 0);
     len += rows.len;
     len += put_line_records(&mut out[len..], ws, t, rows.start);
@@ -476,17 +510,14 @@ fn put_line_table(out: &mut [u8], ws: &[u32], text: usize, n: usize, lines: u64)
 }
 
 // The room that the line table and the divider line after it leave; all of it without a source.
-pub(crate) fn measure_source(room: usize, ws: &[u32]) -> Room
-    requires { ⌜ checked (now ws) ≡ 0 ⌝ }
+pub(crate) fn measure_source(room: usize, ws: &[u32], p: SourcePlan) -> Room
+    requires { ⌜ (checked (now ws) ≡ 0) × PlanOf (now ws) p ⌝ }
     ensures { λ r. ⌜ roomOf r ≡ lessPart room (sourceTable (now (ws .entry))) ⌝ }
 {
-    let Place::At(at) = source_at(ws) else {
+    if p.bare {
         return Room::Left(room);
-    };
-    let end = body_end(ws, at);
-    let n = text_len(ws, at, end);
-    let lines = count_newlines(ws, at, n) + 1;
-    let Room::Left(left) = measure_line_table(room, ws, at, n, lines) else {
+    }
+    let Room::Left(left) = measure_line_table(room, ws, p) else {
         return Room::Short;
     };
     if left < 21 {
@@ -496,18 +527,15 @@ pub(crate) fn measure_source(room: usize, ws: &[u32]) -> Room
 }
 
 // They, written into a room that suffices.
-pub(crate) fn put_source(out: &mut [u8], ws: &[u32]) -> usize
-    requires { ⌜ (checked (now ws) ≡ 0) × (length (sourceTable (now ws)) ≤ length (now out)) ⌝ }
+pub(crate) fn put_source(out: &mut [u8], ws: &[u32], p: SourcePlan) -> usize
+    requires { ⌜ (checked (now ws) ≡ 0) × (length (sourceTable (now ws)) ≤ length (now out)) × PlanOf (now ws) p ⌝ }
     ensures { λ r. ⌜ Put (sourceTable (now (ws .entry))) (now (out .entry)) r (now (out .exit)) ⌝ }
 {
-    let Place::At(at) = source_at(ws) else {
+    if p.bare {
         return 0;
-    };
-    let end = body_end(ws, at);
-    let n = text_len(ws, at, end);
-    let lines = count_newlines(ws, at, n) + 1;
+    }
     let mut len = 0;
-    len += put_line_table(&mut out[len..], ws, at, n, lines);
+    len += put_line_table(&mut out[len..], ws, p);
     len += put_bytes(&mut out[len..], b"====================\n");
     len
 }

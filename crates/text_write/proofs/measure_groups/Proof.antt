@@ -74,7 +74,7 @@ module _ (c : tie.After-measure-symbols) where
       (sym (ap roomOf (c .before .before .a .given .1)) ∙ taken k1) ∙ whole k1
 
   symbols-left : roomOf (c .measure-symbols .result) ≡ lessPart left1 (symbols k1)
-  symbols-left = symbols-room (ws k1) (s k1 .pre) left1 (c .measure-symbols .result) (c .measure-symbols .ensures)
+  symbols-left = symbols-room (ws k1) (s k1 .pre .0) left1 (c .measure-symbols .result) (c .measure-symbols .ensures)
 
 returns-3 : tie.Need-returns-3
 returns-3 c =
@@ -123,7 +123,7 @@ module _ (c : tie.After-measure-labels) where
       (sym (ap roomOf (c .before .before .c .given .1)) ∙ m2 .measure-linker .ensures) ∙ fits2 m2
 
   labels-left : roomOf (c .measure-labels .result) ≡ lessPart left3 (labels k3)
-  labels-left = labels-room (ws k3) (s k3 .pre) left3 (c .measure-labels .result) (c .measure-labels .ensures)
+  labels-left = labels-room (ws k3) (s k3 .pre .0) left3 (c .measure-labels .result) (c .measure-labels .ensures)
 
 returns-5 : tie.Need-returns-5
 returns-5 c =
@@ -161,5 +161,5 @@ measure-groups-spec =
     (λ c. search needs)
     (λ c. search needs)
     returns-5
-    (λ c κs. search needs)
+    (λ c κs. s (k3 (c .before .before .before)) .pre)
     returns-6)

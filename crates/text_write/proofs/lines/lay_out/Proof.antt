@@ -2,12 +2,12 @@
 use borrow.Author.Needs.{needs}
 use native.Mathlib.Omega.{arith}
 use mathlib.Core.Path.{_≡_, refl, sym, ap, subst, _∙_}
-use mathlib.Core.List.{List, []}
+use mathlib.Core.List.{List}
 use Prim.Native.Nat.{ℕ, _-_, max}
 use lib.ListN.{length}
 use denote.Ref.{now}
 use Rattle.format.specs.ObjectFile.{LineBlock}
-use Rattle.format.specs.TextWriter.{decimal, addBlocks, plainRows, lineWidth}
+use Rattle.format.specs.TextWriter.{decimal}
 use Rattle.source_info.proofs.RecordLaws.{Left}
 use Rattle.text_lines_out.specs.Walk.{lineBlocksIn, blocksTop}
 use Rattle.text_lines_out.proofs.MergeLaws.{Apart}
