@@ -5,12 +5,13 @@ use mathlib.Core.List.{List, [], _++_}
 use Prim.Native.Nat.{ℕ, _+_, _*_, _≤_, _<_}
 use lib.ListN.{length}
 use Rattle.format.specs.Source.{lineCount}
-use Rattle.format.specs.TextWriter.{lineTable, lineWidth, addBlocks, plainRows, barLine}
+use Rattle.format.specs.TextWriter.{lineTable, lineWidth, addBlocks, plainRows, barLine, blocksOnly}
 use Rattle.format.specs.Utf8.{isUtf8}
 use Rattle.object.specs.Texts.{textBytes}
 use Rattle.text_lines_out.specs.Merge.{wrapped}
 use Rattle.text_lines_out.specs.Walk.{lineBlocksIn, wrappedAt, Wraps, sourceTable}
 use Rattle.text_lines_out.specs.declared.Wrapped.{Wrapped}
+use Rattle.text_write.specs.Tables.{objectIn}
 use Rattle.text_write.specs.declared.lines.SourcePlan.{SourcePlan}
 
 -- words found before stay; else they are those of the record at a place
@@ -37,5 +38,6 @@ pub record Tabled (ws : List ℕ) (p : SourcePlan) : Type 0 where
 
 -- a plan of an object
 pub record PlanOf (ws : List ℕ) (p : SourcePlan) : Type 0 where
+  pub only : p .only ≡ blocksOnly (objectIn ws)
   pub nothing : p .bare ≡ true → sourceTable ws ≡ []
   pub tabled : p .bare ≡ false → Tabled ws p

@@ -261,7 +261,7 @@ fn measure_groups(room: usize, ws: &[u32], p: SourcePlan) -> Room
     requires { ⌜ (checked (now ws) ≡ 0) × PlanOf (now ws) p ⌝ }
     ensures { λ r. ⌜ roomOf r ≡ lessPart room (groupsText (now (ws .entry))) ⌝ }
 {
-    if blocks_only(ws) {
+    if p.only {
         return Room::Left(room);
     }
     let Room::Left(a) = take(room, 81) else {
@@ -324,7 +324,7 @@ fn put_groups(out: &mut [u8], ws: &[u32], p: SourcePlan) -> usize
     requires { ⌜ (checked (now ws) ≡ 0) × (length (groupsText (now ws)) ≤ length (now out)) × PlanOf (now ws) p ⌝ }
     ensures { λ r. ⌜ Put (groupsText (now (ws .entry))) (now (out .entry)) r (now (out .exit)) ⌝ }
 {
-    if blocks_only(ws) {
+    if p.only {
         return 0;
     }
     let mut n = 0;
@@ -354,7 +354,8 @@ pub fn write_text(object: &[u32], out: &mut [u8]) -> Filled
     if n != 0 {
         return Filled::refused(n);
     }
-    let plan = plan_source(object);
+    let only = blocks_only(object);
+    let plan = plan_source(object, only);
     let Room::Left(_) = measure_file(out.len(), object, plan) else {
         return Filled::refused(3);
     };

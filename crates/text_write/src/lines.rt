@@ -35,11 +35,12 @@ use word_chars::clear_end;
 use writing::put_bytes;
 ghost use mathlib.Core.Path.{_≡_};
 ghost use mathlib.Core.List.{[], _∷_};
+ghost use mathlib.Core.Bool.{true};
 ghost use Prim.Native.Nat.{_+_, _*_, _^_, _≤_, _<_, max};
 ghost use lib.ListN.{length};
 ghost use Rattle.format.specs.Source.{lineCount};
 ghost use Rattle.format.specs.Calls.{checked};
-ghost use Rattle.format.specs.TextWriter.{lineTable, decimal, lineWidth, addBlocks, plainRows};
+ghost use Rattle.format.specs.TextWriter.{lineTable, decimal, lineWidth, addBlocks, plainRows, blocksOnly};
 ghost use Rattle.writing.specs.Written.{Put};
 ghost use Rattle.object.specs.Texts.{textBytes};
 ghost use Rattle.text_numerals.specs.Memory.{knownWord};
@@ -49,6 +50,7 @@ ghost use Rattle.text_lines_out.specs.Merge.{smaller, wrapped};
 ghost use Rattle.text_lines_out.specs.Runs.{row, Measured, Planned, sourceOf, rowsOf};
 ghost use Rattle.text_lines_out.specs.Walk.{recordRows, recordText, recordDone, Follows, Passes, walkRows};
 ghost use Rattle.text_lines_out.specs.Walk.{lineBlocksIn, wrappedAt, Wraps, topAt, sourceTable};
+ghost use Rattle.text_write.specs.Tables.{objectIn};
 ghost use Rattle.text_write.specs.Layouts.{WrapsOn, plannedText, Tabled, PlanOf};
 
 // Where the line after the one that starts at byte `start` of a source of `n` bytes starts; past the last line, one byte past the
@@ -409,9 +411,10 @@ fn lay_out(ws: &[u32], lines: u64) -> Layout
     Layout { width, wrapped }
 }
 
-// The line table of an object, as found once for measuring and writing: whether there is none, for want of a source; the source of `n`
-// bytes and so many lines in the words from `text` on; the width of the column of line numbers; and the words whose lines wrap.
+// What is found once of an object for measuring and writing: whether it has blocks only, and whether it has no source. Else the source of
+// `n` bytes and so many lines in the words from `text` on, the width of the column of line numbers, and the words whose lines wrap.
 pub struct SourcePlan {
+    pub only: bool,
     pub bare: bool,
     pub text: usize,
     pub n: usize,
@@ -421,21 +424,32 @@ pub struct SourcePlan {
     pub count: usize,
 }
 
-// That of a well formed object.
-pub(crate) fn plan_source(ws: &[u32]) -> SourcePlan
-    requires { ⌜ checked (now ws) ≡ 0 ⌝ }
+// That without a source.
+fn plan_bare(only: bool) -> SourcePlan
+    ensures { λ r. ⌜ (r .only ≡ only) × (r .bare ≡ true) ⌝ }
+{
+    SourcePlan {
+        only,
+        bare: true,
+        text: 0,
+        n: 0,
+        lines: 0,
+        width: 0,
+        place: 0,
+        count: 0,
+    }
+}
+
+// That of a well formed object, of which it is known whether it has blocks only.
+pub(crate) fn plan_source(ws: &[u32], only: bool) -> SourcePlan
+    requires { ⌜ (checked (now ws) ≡ 0) × (only ≡ blocksOnly (objectIn (now ws))) ⌝ }
     ensures { λ r. ⌜ PlanOf (now (ws .entry)) r ⌝ }
 {
+    if only {
+        return plan_bare(only);
+    }
     let Place::At(at) = source_at(ws) else {
-        return SourcePlan {
-            bare: true,
-            text: 0,
-            n: 0,
-            lines: 0,
-            width: 0,
-            place: 0,
-            count: 0,
-        };
+        return plan_bare(only);
     };
     let end = body_end(ws, at);
     let n = text_len(ws, at, end);
@@ -443,6 +457,7 @@ pub(crate) fn plan_source(ws: &[u32]) -> SourcePlan
     let layout = lay_out(ws, lines);
     let wrapped = layout.wrapped;
     SourcePlan {
+        only,
         bare: false,
         text: at,
         n,

@@ -26,7 +26,7 @@ formed-plan c = sym (c .before .check .ensures) ∙ c .if1 .left
 -- words that are well formed
 module _ (c : tie.After-measure-file) where
   abbrev s : tie.Start
-  s = c .before .before .before .before .before .before
+  s = c .before .before .before .before .before .before .before
 
   abbrev object : List ℕ
   object = now (s .args .object)
@@ -35,7 +35,7 @@ module _ (c : tie.After-measure-file) where
   room = now (s .args .out)
 
   formed : checked object ≡ 0
-  formed = sym (c .before .before .before .check .ensures) ∙ c .before .before .if1 .left
+  formed = sym (c .before .before .before .before .check .ensures) ∙ c .before .before .before .if1 .left
 
 returns-2 : tie.Need-returns-2
 returns-2 c =
@@ -70,7 +70,8 @@ write-text-spec =
     (λ c κs. search needs)
     returns
     (λ c κs. formed-plan c)
-    (λ c κs. (formed-plan (c .before), c .plan-source .ensures))
+    (λ c κs. (formed-plan (c .before), c .blocks-only .ensures))
+    (λ c κs. (formed-plan (c .before .before), c .plan-source .ensures))
     (λ c. search needs)
     (λ c. search needs)
     (λ c κs. search needs)

@@ -17,13 +17,14 @@ use Rattle.source_info.specs.declared.Place.the-variants as place
 use Rattle.text_lines_out.specs.Walk.{lineBlocksIn, sourceTable}
 use Rattle.text_lines_out.proofs.SourceLaws.{source-nothing, source-small, source-sound, source-table, source-lines}
 use Rattle.text_lines_out.proofs.TableLaws.{some-lines}
+use Rattle.text_write.proofs.OnlyLaws.{only-bare}
 use Rattle.text_write.proofs.lines.plan_source.Statement.{statement}
 use Rattle.text_write.proofs.lines.plan_source.Tie as tie
 
 -- the source
 module _ (c : tie.After-count-newlines) where
   abbrev s : tie.Start
-  s = c .before .before .before .before .before .before .before .before
+  s = c .before .before .before .before .before .before .before .before .before
 
   abbrev ws : List ℕ
   ws = now (s .args .ws)
@@ -49,10 +50,10 @@ module _ (c : tie.After-count-newlines) where
   table = lineTable text (lineBlocksIn ws)
 
   small-source : n ≤ 3 * length ws
-  small-source = source-small ws (s .pre) at n good size
+  small-source = source-small ws (s .pre .0) at n good size
 
   whole : sourceTable ws ≡ table ++ barLine
-  whole = source-table ws (s .pre) at n good size
+  whole = source-table ws (s .pre .0) at n good size
 
   abbrev lines : ℕ
   lines = c .count-newlines .result + 1
@@ -61,32 +62,45 @@ module _ (c : tie.After-count-newlines) where
   few = let h = small-source in let k = c .count-newlines .ensures .1 in omega (arith, h, k)
 
   counted : lines ≡ lineCount text
-  counted = source-lines ws (s .pre) at n good size (c .count-newlines .result) (c .count-newlines .ensures .0)
+  counted = source-lines ws (s .pre .0) at n good size (c .count-newlines .result) (c .count-newlines .ensures .0)
 
   sound : isUtf8 text ≡ true
-  sound = source-sound ws (s .pre) at n good size
+  sound = source-sound ws (s .pre .0) at n good size
 
 add-lines : tie.Need-add-lines
 add-lines c = let h = few c in search needs
 
 lay-out-requires : tie.Need-lay-out-requires
-lay-out-requires c κs = (s c .pre, some-lines (text c) (lines c) (counted c))
+lay-out-requires c κs = (s c .pre .0, some-lines (text c) (lines c) (counted c))
 
 returns : tie.Need-returns
 returns c =
-    let k = c .before .before in
-    let s = k .before .before in
-    let ws = now (s .args .ws) in
+    let s = c .before .before .before in
+    let q = c .plan-bare .ensures in
     record {
-      nothing = λ z. source-nothing ws (s .pre) (subst (Sourced ws) (c .enum-told .given .1) (k .source-at .ensures));
-      tabled = λ z. absurd (true≢false z);
+      only = q .0 ∙ s .pre .1;
+      nothing = λ z. only-bare (now (s .args .ws)) (sym (s .pre .1) ∙ c .before .if1 .taken);
+      tabled = λ z. absurd (true≢false (sym (q .1) ∙ z));
     }
 
 returns-2 : tie.Need-returns-2
 returns-2 c =
+    let k = c .before .before .before in
+    let s = k .before .before .before in
+    let ws = now (s .args .ws) in
+    let q = c .plan-bare2 .ensures in
+    record {
+      only = q .0 ∙ s .pre .1;
+      nothing = λ z. source-nothing ws (s .pre .0) (subst (Sourced ws) (c .before .enum-told .given .1) (k .source-at .ensures));
+      tabled = λ z. absurd (true≢false (sym (q .1) ∙ z));
+    }
+
+returns-3 : tie.Need-returns-3
+returns-3 c =
     let l = c .before in
     let k = l .before in
     record {
+      only = s k .pre .1;
       nothing = λ z. absurd (true≢false (sym z));
       tabled = λ z. record {
         short = small-source k;
@@ -104,12 +118,15 @@ plan-source-spec =
     tie.close
     (tie.spec
     (λ c κs. search needs)
-    (λ c. search needs)
-    (λ c. search needs)
     returns
+    (λ c κs. search needs)
+    (λ c. search needs)
+    (λ c. search needs)
+    (λ c κs. search needs)
+    returns-2
     (λ c κs. search needs)
     (λ c κs. search needs)
     (λ c κs. search needs)
     add-lines
     lay-out-requires
-    returns-2)
+    returns-3)
