@@ -1,3 +1,4 @@
+pub mod LayoutLaws
 pub mod WalkLaws
 pub mod PartLaws
 pub mod OnlyLaws

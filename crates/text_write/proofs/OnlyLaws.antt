@@ -1,23 +1,25 @@
 -- Whether an object has blocks only, record by record. Assumes nothing.
 use mathlib.Core.Path.{_≡_, refl, sym, ap, subst, _∙_}
-use mathlib.Core.Bool.{Bool, true, false, _&&_, _||_, not}
-use mathlib.Core.List.{List, _∷_}
+use mathlib.Core.Bool.{Bool, true, false, _&&_, _||_, not, true≢false}
+use mathlib.Core.List.{List, [], _∷_, _++_}
+use mathlib.Core.Option.{Option, none, some, Option·getD}
 use Prim.Native.Nat.{ℕ, _+_, _≤_, _<_}
 use native.Mathlib.Omega.{arith}
 use lib.ListN.{length}
 use lib.Dec.{eqb}
 use borrow.Author.Tests.{eq-eqb, ne-eqb, eqb-true}
-use Rattle.format.specs.Basics.{givenOr, isEmpty, isSome}
+use Rattle.format.specs.Basics.{givenOr, andThen, isEmpty, isSome}
 use Rattle.format.specs.ObjectFile.{ObjectFile}
 use Rattle.format.specs.Records.{Record, placed, emptyObject}
 use Rattle.format.specs.Calls.{checked}
-use Rattle.format.specs.TextWriter.{blocksOnly}
+use Rattle.format.specs.TextWriter.{lineTable, barLine, blocksOnly}
 use Rattle.format.proofs.ListLaws.{by-test}
 use Rattle.object.specs.Bodies.{bodyAt}
 use Rattle.object.specs.Access.{kindAt, recordAt}
 use Rattle.object.proofs.Formed.{formed}
 use Rattle.object.proofs.BodyLaws.{body-fits}
 use Rattle.source_info.proofs.RecordLaws.{Left, start, finish, here, on}
+use Rattle.text_lines_out.specs.Walk.{lineBlocksIn, sourceTable}
 use Rattle.text_write.specs.Tables.{objectIn}
 
 and-false : (a b : Bool) → (a && false && b) ≡ false
@@ -95,3 +97,16 @@ module _ (k : ℕ) where
 
   pub kind-symbolic : (k ≡ 0 → ⊥) → (k ≡ 3 → ⊥) → true ≡ not (eqb k 0 || eqb k 3)
   kind-symbolic n m = rw (ne-eqb k 0 n) (rw (ne-eqb k 3 m) refl)
+
+-- an object of blocks only has no source
+source-none : (a b : Bool) (o : Option (List ℕ)) (f : List ℕ → Option (List ℕ)) → (a && not (isSome o) && b) ≡ true
+    → Option·getD (andThen o f) [] ≡ []
+unfolding isSome
+source-none a b none f e = refl
+source-none a b (some x) f e = absurd (true≢false (sym e ∙ and-false a b))
+
+pub only-bare : (ws : List ℕ) → blocksOnly (objectIn ws) ≡ true → sourceTable ws ≡ []
+unfolding blocksOnly sourceTable
+only-bare ws e =
+    let h : ObjectFile = objectIn ws in
+    source-none (isEmpty (h .labels)) (isEmpty (h .relocations)) (h .source) (λ s. some (lineTable s (lineBlocksIn ws) ++ barLine)) e

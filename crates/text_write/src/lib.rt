@@ -6,7 +6,9 @@ use label_tables::measure_labels;
 use label_tables::measure_symbols;
 use label_tables::put_label_table;
 use label_tables::put_symbol_table;
+use lines::SourcePlan;
 use lines::measure_source;
+use lines::plan_source;
 use lines::put_source;
 use measuring::Room;
 use measuring::take;
@@ -38,6 +40,7 @@ ghost use Rattle.object.specs.Bodies.{bodyAt, Text};
 ghost use Rattle.object.specs.Access.{kindAt};
 ghost use Rattle.measuring.specs.Room.{roomOf, lessPart};
 ghost use Rattle.text_write.specs.Groups.{linkerText, namesText, debugText, groupsText, fileText};
+ghost use Rattle.text_write.specs.Layouts.{PlanOf};
 ghost use Rattle.text_write.specs.Tables.{objectIn, memoryLines, blockPart, blocksText, relocationPart, relocationsText};
 
 // The memory words that go on at a place, a line each.
@@ -254,11 +257,11 @@ fn blocks_only(ws: &[u32]) -> bool
 }
 
 // The room that the groups past .TEXT leave: their 81 bytes of fixed lines first, then the tables.
-fn measure_groups(room: usize, ws: &[u32]) -> Room
-    requires { ⌜ checked (now ws) ≡ 0 ⌝ }
+fn measure_groups(room: usize, ws: &[u32], p: SourcePlan) -> Room
+    requires { ⌜ (checked (now ws) ≡ 0) × PlanOf (now ws) p ⌝ }
     ensures { λ r. ⌜ roomOf r ≡ lessPart room (groupsText (now (ws .entry))) ⌝ }
 {
-    if blocks_only(ws) {
+    if p.only {
         return Room::Left(room);
     }
     let Room::Left(a) = take(room, 81) else {
@@ -273,12 +276,12 @@ fn measure_groups(room: usize, ws: &[u32]) -> Room
     let Room::Left(d) = measure_labels(ws, c) else {
         return Room::Short;
     };
-    measure_source(d, ws)
+    measure_source(d, ws, p)
 }
 
 // The room that the text file leaves: 22 bytes of fixed lines, the blocks, and the groups.
-fn measure_file(room: usize, ws: &[u32]) -> Room
-    requires { ⌜ checked (now ws) ≡ 0 ⌝ }
+fn measure_file(room: usize, ws: &[u32], p: SourcePlan) -> Room
+    requires { ⌜ (checked (now ws) ≡ 0) × PlanOf (now ws) p ⌝ }
     ensures { λ r. ⌜ roomOf r ≡ lessPart room (fileText (now (ws .entry))) ⌝ }
 {
     let Room::Left(a) = take(room, 22) else {
@@ -287,7 +290,7 @@ fn measure_file(room: usize, ws: &[u32]) -> Room
     let Room::Left(b) = measure_blocks(a, ws) else {
         return Room::Short;
     };
-    measure_groups(b, ws)
+    measure_groups(b, ws, p)
 }
 
 // .SYMBOL and .LINKER_INFO.
@@ -304,42 +307,42 @@ fn put_names(out: &mut [u8], ws: &[u32]) -> usize
 }
 
 // .DEBUG, after an empty line.
-fn put_debug(out: &mut [u8], ws: &[u32]) -> usize
-    requires { ⌜ (checked (now ws) ≡ 0) × (length (debugText (now ws)) ≤ length (now out)) ⌝ }
+fn put_debug(out: &mut [u8], ws: &[u32], p: SourcePlan) -> usize
+    requires { ⌜ (checked (now ws) ≡ 0) × (length (debugText (now ws)) ≤ length (now out)) × PlanOf (now ws) p ⌝ }
     ensures { λ r. ⌜ Put (debugText (now (ws .entry))) (now (out .entry)) r (now (out .exit)) ⌝ }
 {
     let mut n = 0;
     n += put_bytes(&mut out[n..], b"\n.DEBUG\n# DEBUG SYMBOLS FOR LC3TOOLS\n\n");
     n += put_label_table(&mut out[n..], ws);
     n += put_bytes(&mut out[n..], b"====================\n");
-    n += put_source(&mut out[n..], ws);
+    n += put_source(&mut out[n..], ws, p);
     n
 }
 
 // The groups past .TEXT; none where the object has blocks only.
-fn put_groups(out: &mut [u8], ws: &[u32]) -> usize
-    requires { ⌜ (checked (now ws) ≡ 0) × (length (groupsText (now ws)) ≤ length (now out)) ⌝ }
+fn put_groups(out: &mut [u8], ws: &[u32], p: SourcePlan) -> usize
+    requires { ⌜ (checked (now ws) ≡ 0) × (length (groupsText (now ws)) ≤ length (now out)) × PlanOf (now ws) p ⌝ }
     ensures { λ r. ⌜ Put (groupsText (now (ws .entry))) (now (out .entry)) r (now (out .exit)) ⌝ }
 {
-    if blocks_only(ws) {
+    if p.only {
         return 0;
     }
     let mut n = 0;
     n += put_names(&mut out[n..], ws);
-    n += put_debug(&mut out[n..], ws);
+    n += put_debug(&mut out[n..], ws, p);
     n
 }
 
 // The text file of a well formed object.
-fn put_file(out: &mut [u8], ws: &[u32]) -> usize
-    requires { ⌜ (checked (now ws) ≡ 0) × (length (fileText (now ws)) ≤ length (now out)) ⌝ }
+fn put_file(out: &mut [u8], ws: &[u32], p: SourcePlan) -> usize
+    requires { ⌜ (checked (now ws) ≡ 0) × (length (fileText (now ws)) ≤ length (now out)) × PlanOf (now ws) p ⌝ }
     ensures { λ r. ⌜ Put (fileText (now (ws .entry))) (now (out .entry)) r (now (out .exit)) ⌝ }
 {
     let mut n = 0;
     n += put_bytes(&mut out[n..], b"LC-3 OBJ FILE\n\n.TEXT\n");
     n += put_blocks(&mut out[n..], ws);
     n += put_u8(&mut out[n..], 0x0A);
-    n += put_groups(&mut out[n..], ws);
+    n += put_groups(&mut out[n..], ws, p);
     n
 }
 
@@ -351,8 +354,10 @@ pub fn write_text(object: &[u32], out: &mut [u8]) -> Filled
     if n != 0 {
         return Filled::refused(n);
     }
-    let Room::Left(_) = measure_file(out.len(), object) else {
+    let only = blocks_only(object);
+    let plan = plan_source(object, only);
+    let Room::Left(_) = measure_file(out.len(), object, plan) else {
         return Filled::refused(3);
     };
-    Filled::given(put_file(out, object))
+    Filled::given(put_file(out, object, plan))
 }

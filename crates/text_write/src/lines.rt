@@ -35,13 +35,12 @@ use word_chars::clear_end;
 use writing::put_bytes;
 ghost use mathlib.Core.Path.{_≡_};
 ghost use mathlib.Core.List.{[], _∷_};
-ghost use Prim.Native.Nat.{_+_, _*_, _^_, _≤_, _<_};
+ghost use mathlib.Core.Bool.{true};
+ghost use Prim.Native.Nat.{_+_, _*_, _^_, _≤_, _<_, max};
 ghost use lib.ListN.{length};
 ghost use Rattle.format.specs.Source.{lineCount};
 ghost use Rattle.format.specs.Calls.{checked};
-ghost use Rattle.format.specs.TextWriter.{lineTable, lineWidth, addBlocks, plainRows};
-ghost use Rattle.format.specs.Utf8.{isUtf8};
-ghost use mathlib.Core.Bool.{true};
+ghost use Rattle.format.specs.TextWriter.{lineTable, decimal, lineWidth, addBlocks, plainRows, blocksOnly};
 ghost use Rattle.writing.specs.Written.{Put};
 ghost use Rattle.object.specs.Texts.{textBytes};
 ghost use Rattle.text_numerals.specs.Memory.{knownWord};
@@ -51,6 +50,8 @@ ghost use Rattle.text_lines_out.specs.Merge.{smaller, wrapped};
 ghost use Rattle.text_lines_out.specs.Runs.{row, Measured, Planned, sourceOf, rowsOf};
 ghost use Rattle.text_lines_out.specs.Walk.{recordRows, recordText, recordDone, Follows, Passes, walkRows};
 ghost use Rattle.text_lines_out.specs.Walk.{lineBlocksIn, wrappedAt, Wraps, topAt, sourceTable};
+ghost use Rattle.text_write.specs.Tables.{objectIn};
+ghost use Rattle.text_write.specs.Layouts.{WrapsOn, plannedText, Tabled, PlanOf};
 
 // Where the line after the one that starts at byte `start` of a source of `n` bytes starts; past the last line, one byte past the
 // source.
@@ -346,20 +347,15 @@ fn wrapped_at(ws: &[u32], at: usize) -> Wrapped
     }
 }
 
-// Those of an object: only the last line block can have any.
-fn find_wrapped(ws: &[u32]) -> Wrapped
-    requires { ⌜ checked (now ws) ≡ 0 ⌝ }
-    ensures { λ r. ⌜ Wraps (now (ws .entry)) (wrapped (lineBlocksIn (now (ws .entry)))) r ⌝ }
+// Those found before; else those of the record at a place.
+fn wrapped_on(ws: &[u32], at: usize, before: Wrapped) -> Wrapped
+    requires { ⌜ at < length (now ws) ⌝ }
+    ensures { λ r. ⌜ WrapsOn (now (ws .entry)) at before r ⌝ }
 {
-    let mut at = 0;
-    while at < ws.len() {
-        let found = wrapped_at(ws, at);
-        if found.count > 0 {
-            return found;
-        }
-        at = body_end(ws, at + 1);
+    if before.count > 0 {
+        return before;
     }
-    Wrapped { place: 0, count: 0 }
+    wrapped_at(ws, at)
 }
 
 // The larger of a line number and those of the record at a place.
@@ -380,17 +376,10 @@ fn top_at(ws: &[u32], at: usize, top: u64) -> u64
     larger(top, last_line(first, count))
 }
 
-// The width of the column of line numbers, for a source of so many lines.
-fn line_width(ws: &[u32], lines: u64) -> usize
-    requires { ⌜ (checked (now ws) ≡ 0) × (1 ≤ lines) ⌝ }
-    ensures { λ r. ⌜ r ≡ lineWidth (addBlocks (lineBlocksIn (now (ws .entry))) (plainRows 0 lines)) ⌝ }
+// The width of the column of line numbers up to this one.
+fn column_width(top: u64) -> usize
+    ensures { λ r. ⌜ r ≡ max (length (decimal top)) 4 ⌝ }
 {
-    let mut top = lines - 1;
-    let mut at = 0;
-    while at < ws.len() {
-        top = top_at(ws, at, top);
-        at = body_end(ws, at + 1);
-    }
     let digits = count_digits(top);
     if digits < 4 {
         return 4;
@@ -398,29 +387,107 @@ fn line_width(ws: &[u32], lines: u64) -> usize
     digits
 }
 
-// The room that the line table leaves, for the source of `n` bytes and so many lines in the words from a place on.
-fn measure_line_table(room: usize, ws: &[u32], text: usize, n: usize, lines: u64) -> Room
-    requires { ⌜ (checked (now ws) ≡ 0) × (n ≤ 3 * length (now ws)) × (lines ≤ 3 * length (now ws) + 1)
-        × (lines ≡ lineCount (textBytes (now ws) text n)) × (isUtf8 (textBytes (now ws) text n) ≡ true) ⌝ }
-    ensures { λ r. ⌜ roomOf r
-        ≡ lessPart room (lineTable (textBytes (now (ws .entry)) text n) (lineBlocksIn (now (ws .entry)))) ⌝ }
+// What all rows of an object's line table stand by: the width of the column of line numbers, and the words whose lines wrap.
+pub struct Layout {
+    pub width: usize,
+    pub wrapped: Wrapped,
+}
+
+// That for a source of so many lines, in one walk. Only the last line block can have lines that wrap.
+fn lay_out(ws: &[u32], lines: u64) -> Layout
+    requires { ⌜ (checked (now ws) ≡ 0) × (1 ≤ lines) ⌝ }
+    ensures { λ r. ⌜ (r .width ≡ lineWidth (addBlocks (lineBlocksIn (now (ws .entry))) (plainRows 0 lines)))
+        × Wraps (now (ws .entry)) (wrapped (lineBlocksIn (now (ws .entry)))) (r .wrapped) ⌝ }
 {
-    let width = line_width(ws, lines);
-    let wrapped = find_wrapped(ws);
-    let t = Table {
-        text,
+    let mut top = lines - 1;
+    let mut wrapped = Wrapped { place: 0, count: 0 };
+    let mut at = 0;
+    while at < ws.len() {
+        top = top_at(ws, at, top);
+        wrapped = wrapped_on(ws, at, wrapped);
+        at = body_end(ws, at + 1);
+    }
+    let width = column_width(top);
+    Layout { width, wrapped }
+}
+
+// What is found once of an object for measuring and writing: whether it has blocks only, and whether it has no source. Else the source of
+// `n` bytes and so many lines in the words from `text` on, the width of the column of line numbers, and the words whose lines wrap.
+pub struct SourcePlan {
+    pub only: bool,
+    pub bare: bool,
+    pub text: usize,
+    pub n: usize,
+    pub lines: u64,
+    pub width: usize,
+    pub place: usize,
+    pub count: usize,
+}
+
+// That without a source.
+fn plan_bare(only: bool) -> SourcePlan
+    ensures { λ r. ⌜ (r .only ≡ only) × (r .bare ≡ true) ⌝ }
+{
+    SourcePlan {
+        only,
+        bare: true,
+        text: 0,
+        n: 0,
+        lines: 0,
+        width: 0,
+        place: 0,
+        count: 0,
+    }
+}
+
+// That of a well formed object, of which it is known whether it has blocks only.
+pub(crate) fn plan_source(ws: &[u32], only: bool) -> SourcePlan
+    requires { ⌜ (checked (now ws) ≡ 0) × (only ≡ blocksOnly (objectIn (now ws))) ⌝ }
+    ensures { λ r. ⌜ PlanOf (now (ws .entry)) r ⌝ }
+{
+    if only {
+        return plan_bare(only);
+    }
+    let Place::At(at) = source_at(ws) else {
+        return plan_bare(only);
+    };
+    let end = body_end(ws, at);
+    let n = text_len(ws, at, end);
+    let lines = count_newlines(ws, at, n) + 1;
+    let layout = lay_out(ws, lines);
+    let wrapped = layout.wrapped;
+    SourcePlan {
+        only,
+        bare: false,
+        text: at,
         n,
-        width,
         lines,
-        wraps: wrapped.count as u64,
+        width: layout.width,
+        place: wrapped.place,
+        count: wrapped.count,
+    }
+}
+
+// The room that the line table leaves.
+fn measure_line_table(room: usize, ws: &[u32], p: SourcePlan) -> Room
+    requires { ⌜ (checked (now ws) ≡ 0) × Tabled (now ws) p ⌝ }
+    ensures { λ r. ⌜ roomOf r
+        ≡ lessPart room (lineTable (plannedText (now (ws .entry)) p) (lineBlocksIn (now (ws .entry)))) ⌝ }
+{
+    let t = Table {
+        text: p.text,
+        n: p.n,
+        width: p.width,
+        lines: p.lines,
+        wraps: p.count as u64,
     };
     let early = Run {
         first: 0,
-        count: wrapped.count,
+        count: p.count,
         known: true,
-        place: wrapped.place,
+        place: p.place,
     };
-    let Room::Left(left) = measure_line_header(room, width) else {
+    let Room::Left(left) = measure_line_header(room, p.width) else {
         return Room::Short;
     };
     let Rows::Left(rest, next) = measure_run(left, ws, t, early, 0) else {
@@ -430,30 +497,27 @@ fn measure_line_table(room: usize, ws: &[u32], text: usize, n: usize, lines: u64
 }
 
 // It, written into a room that suffices.
-fn put_line_table(out: &mut [u8], ws: &[u32], text: usize, n: usize, lines: u64) -> usize
-    requires { ⌜ (checked (now ws) ≡ 0) × (n ≤ 3 * length (now ws)) × (lines ≤ 3 * length (now ws) + 1)
-        × (lines ≡ lineCount (textBytes (now ws) text n)) × (isUtf8 (textBytes (now ws) text n) ≡ true)
-        × (length (lineTable (textBytes (now ws) text n) (lineBlocksIn (now ws))) ≤ length (now out)) ⌝ }
-    ensures { λ r. ⌜ Put (lineTable (textBytes (now (ws .entry)) text n) (lineBlocksIn (now (ws .entry)))) (now (out .entry)) r
+fn put_line_table(out: &mut [u8], ws: &[u32], p: SourcePlan) -> usize
+    requires { ⌜ (checked (now ws) ≡ 0) × Tabled (now ws) p
+        × (length (lineTable (plannedText (now ws) p) (lineBlocksIn (now ws))) ≤ length (now out)) ⌝ }
+    ensures { λ r. ⌜ Put (lineTable (plannedText (now (ws .entry)) p) (lineBlocksIn (now (ws .entry)))) (now (out .entry)) r
         (now (out .exit)) ⌝ }
 {
-    let width = line_width(ws, lines);
-    let wrapped = find_wrapped(ws);
     let t = Table {
-        text,
-        n,
-        width,
-        lines,
-        wraps: wrapped.count as u64,
+        text: p.text,
+        n: p.n,
+        width: p.width,
+        lines: p.lines,
+        wraps: p.count as u64,
     };
     let early = Run {
         first: 0,
-        count: wrapped.count,
+        count: p.count,
         known: true,
-        place: wrapped.place,
+        place: p.place,
     };
     let mut len = 0;
-    len += put_line_header(&mut out[len..], width);
+    len += put_line_header(&mut out[len..], p.width);
     let rows = put_run(&mut out[len..], ws, t, early, 0);
     len += rows.len;
     len += put_line_records(&mut out[len..], ws, t, rows.start);
@@ -461,17 +525,14 @@ fn put_line_table(out: &mut [u8], ws: &[u32], text: usize, n: usize, lines: u64)
 }
 
 // The room that the line table and the divider line after it leave; all of it without a source.
-pub(crate) fn measure_source(room: usize, ws: &[u32]) -> Room
-    requires { ⌜ checked (now ws) ≡ 0 ⌝ }
+pub(crate) fn measure_source(room: usize, ws: &[u32], p: SourcePlan) -> Room
+    requires { ⌜ (checked (now ws) ≡ 0) × PlanOf (now ws) p ⌝ }
     ensures { λ r. ⌜ roomOf r ≡ lessPart room (sourceTable (now (ws .entry))) ⌝ }
 {
-    let Place::At(at) = source_at(ws) else {
+    if p.bare {
         return Room::Left(room);
-    };
-    let end = body_end(ws, at);
-    let n = text_len(ws, at, end);
-    let lines = count_newlines(ws, at, n) + 1;
-    let Room::Left(left) = measure_line_table(room, ws, at, n, lines) else {
+    }
+    let Room::Left(left) = measure_line_table(room, ws, p) else {
         return Room::Short;
     };
     if left < 21 {
@@ -481,18 +542,15 @@ pub(crate) fn measure_source(room: usize, ws: &[u32]) -> Room
 }
 
 // They, written into a room that suffices.
-pub(crate) fn put_source(out: &mut [u8], ws: &[u32]) -> usize
-    requires { ⌜ (checked (now ws) ≡ 0) × (length (sourceTable (now ws)) ≤ length (now out)) ⌝ }
+pub(crate) fn put_source(out: &mut [u8], ws: &[u32], p: SourcePlan) -> usize
+    requires { ⌜ (checked (now ws) ≡ 0) × (length (sourceTable (now ws)) ≤ length (now out)) × PlanOf (now ws) p ⌝ }
     ensures { λ r. ⌜ Put (sourceTable (now (ws .entry))) (now (out .entry)) r (now (out .exit)) ⌝ }
 {
-    let Place::At(at) = source_at(ws) else {
+    if p.bare {
         return 0;
-    };
-    let end = body_end(ws, at);
-    let n = text_len(ws, at, end);
-    let lines = count_newlines(ws, at, n) + 1;
+    }
     let mut len = 0;
-    len += put_line_table(&mut out[len..], ws, at, n, lines);
+    len += put_line_table(&mut out[len..], ws, p);
     len += put_bytes(&mut out[len..], b"====================\n");
     len
 }

@@ -76,5 +76,5 @@ measure-file-spec =
     (λ c. search needs)
     (λ c. search needs)
     returns-2
-    (λ c κs. search needs)
+    (λ c κs. s (k1 (c .before .before .before)) .pre)
     returns-3)

@@ -19,15 +19,14 @@ use Rattle.text_write.proofs.measure_groups.Tie as tie
 
 returns : tie.Need-returns
 returns c =
-    let k = c .before in
-    let s = k .before .before in
+    let s = c .before .before in
     less-nothing (s .args .room)
-    ∙ ap (lessPart (s .args .room)) (sym (groups-none (objectIn (now (s .args .ws))) (sym (k .blocks-only .ensures) ∙ c .if1 .taken)))
+    ∙ ap (lessPart (s .args .room)) (sym (groups-none (objectIn (now (s .args .ws))) (sym (s .pre .1 .only) ∙ c .if1 .taken)))
 
 -- the parts
 module _ (c : tie.After-take) where
   abbrev s : tie.Start
-  s = c .before .before .before .before
+  s = c .before .before .before
 
   abbrev ws : List ℕ
   ws = now (s .args .ws)
@@ -52,7 +51,7 @@ module _ (c : tie.After-take) where
   taken = c .take .ensures
 
   whole : lessPart (s .args .room) (fixedLines ++ (symbols ++ (linker ++ (labels ++ source)))) ≡ lessPart (s .args .room) (groupsText ws)
-  whole = groups-measured object (s .args .room) (sym (c .before .before .blocks-only .ensures) ∙ c .before .if1 .left)
+  whole = groups-measured object (s .args .room) (sym (s .pre .1 .only) ∙ c .before .if1 .left)
 
 returns-2 : tie.Need-returns-2
 returns-2 c =
@@ -74,7 +73,7 @@ module _ (c : tie.After-measure-symbols) where
       (sym (ap roomOf (c .before .before .a .given .1)) ∙ taken k1) ∙ whole k1
 
   symbols-left : roomOf (c .measure-symbols .result) ≡ lessPart left1 (symbols k1)
-  symbols-left = symbols-room (ws k1) (s k1 .pre) left1 (c .measure-symbols .result) (c .measure-symbols .ensures)
+  symbols-left = symbols-room (ws k1) (s k1 .pre .0) left1 (c .measure-symbols .result) (c .measure-symbols .ensures)
 
 returns-3 : tie.Need-returns-3
 returns-3 c =
@@ -123,7 +122,7 @@ module _ (c : tie.After-measure-labels) where
       (sym (ap roomOf (c .before .before .c .given .1)) ∙ m2 .measure-linker .ensures) ∙ fits2 m2
 
   labels-left : roomOf (c .measure-labels .result) ≡ lessPart left3 (labels k3)
-  labels-left = labels-room (ws k3) (s k3 .pre) left3 (c .measure-labels .result) (c .measure-labels .ensures)
+  labels-left = labels-room (ws k3) (s k3 .pre .0) left3 (c .measure-labels .result) (c .measure-labels .ensures)
 
 returns-5 : tie.Need-returns-5
 returns-5 c =
@@ -143,7 +142,6 @@ pub measure-groups-spec : {M : Type 1} → statement M
 measure-groups-spec =
     tie.close
     (tie.spec
-    (λ c κs. search needs)
     returns
     (λ c κs. search needs)
     (λ c. search needs)
@@ -161,5 +159,5 @@ measure-groups-spec =
     (λ c. search needs)
     (λ c. search needs)
     returns-5
-    (λ c κs. search needs)
+    (λ c κs. s (k3 (c .before .before .before)) .pre)
     returns-6)

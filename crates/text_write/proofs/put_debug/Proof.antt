@@ -90,7 +90,7 @@ module _ (c : tie.After-put-source) where
 put-source-requires : tie.Need-put-source-requires
 put-source-requires c κs =
     let p = c .before .before .before in
-    let table = sourceTable (ws (from p)) in (s (from p) .pre .0, part-room (emits3 p) table [] (sym (append-nil table)))
+    let table = sourceTable (ws (from p)) in (s (from p) .pre .0, part-room (emits3 p) table [] (sym (append-nil table)), s (from p) .pre .2)
 
 pub put-debug-spec : {M : Type 1} → statement M
 put-debug-spec =

@@ -88,7 +88,7 @@ put-blocks-requires c κs =
 put-groups-requires : tie.Need-put-groups-requires
 put-groups-requires c κs =
     let p = c .before .before .before in
-    let table = groupsText (ws (from p)) in (s (from p) .pre .0, part-room (emits3 p) table [] (sym (append-nil table)))
+    let table = groupsText (ws (from p)) in (s (from p) .pre .0, part-room (emits3 p) table [] (sym (append-nil table)), s (from p) .pre .2)
 
 pub put-file-spec : {M : Type 1} → statement M
 put-file-spec =

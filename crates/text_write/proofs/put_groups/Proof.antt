@@ -16,14 +16,13 @@ use Rattle.text_write.proofs.put_groups.Tie as tie
 
 returns : tie.Need-returns
 returns c =
-    let k = c .before in
-    let s = k .before .before .before in
-    nothing-put (now (s .args .out)) (groups-none (objectIn (now (s .args .ws))) (sym (k .blocks-only .ensures) ∙ c .if1 .taken))
+    let s = c .before .before .before in
+    nothing-put (now (s .args .out)) (groups-none (objectIn (now (s .args .ws))) (sym (s .pre .2 .only) ∙ c .if1 .taken))
 
 -- the object
 module _ (c : tie.Else1) where
   abbrev s : tie.Start
-  s = c .before .before .before .before
+  s = c .before .before .before
 
   abbrev ws : List ℕ
   ws = now (s .args .ws)
@@ -32,7 +31,7 @@ module _ (c : tie.Else1) where
   room = now (s .args .out)
 
   whole : groupsText ws ≡ namesText ws ++ debugText ws
-  whole = groups-some (objectIn ws) (sym (c .before .blocks-only .ensures) ∙ c .if1 .left)
+  whole = groups-some (objectIn ws) (sym (s .pre .2 .only) ∙ c .if1 .left)
 
   emits0 : Emits (groupsText ws) room (groupsText ws) (record { at = 0; out = room })
   emits0 = begin _ _ (s .pre .1)
@@ -65,13 +64,12 @@ put-names-requires c κs =
 put-debug-requires : tie.Need-put-debug-requires
 put-debug-requires c κs =
     let p = c .before .before .before in
-    let group = debugText (ws (start p)) in (s (start p) .pre .0, part-room (emits1 p) group [] (sym (append-nil group)))
+    let group = debugText (ws (start p)) in (s (start p) .pre .0, part-room (emits1 p) group [] (sym (append-nil group)), s (start p) .pre .2)
 
 pub put-groups-spec : {M : Type 1} → statement M
 put-groups-spec =
     tie.close
     (tie.spec
-    (λ c κs. search needs)
     returns
     (λ c. search needs)
     (λ c. search needs)

@@ -20,10 +20,13 @@ returns c =
     file-refused (now (s .args .object)) (now (s .args .out)) (c .refused .result) (k .check .result) (k .check .ensures)
     (c .before .if1 .taken) (c .refused .ensures)
 
+formed-plan : (c : tie.Else1) → checked (now (c .before .before .before .before .args .object)) ≡ 0
+formed-plan c = sym (c .before .check .ensures) ∙ c .if1 .left
+
 -- words that are well formed
 module _ (c : tie.After-measure-file) where
   abbrev s : tie.Start
-  s = c .before .before .before .before .before
+  s = c .before .before .before .before .before .before .before
 
   abbrev object : List ℕ
   object = now (s .args .object)
@@ -32,7 +35,7 @@ module _ (c : tie.After-measure-file) where
   room = now (s .args .out)
 
   formed : checked object ≡ 0
-  formed = sym (c .before .before .check .ensures) ∙ c .before .if1 .left
+  formed = sym (c .before .before .before .before .check .ensures) ∙ c .before .before .before .if1 .left
 
 returns-2 : tie.Need-returns-2
 returns-2 c =
@@ -50,7 +53,7 @@ module _ (c : tie.After-enum-told) where
 
 put-file-requires : tie.Need-put-file-requires
 put-file-requires c κs =
-    let k = c .before in (formed (m k), file-fits (object (m k)) (room (m k)) _ (fits k))
+    let k = c .before in (formed (m k), file-fits (object (m k)) (room (m k)) _ (fits k), m k .before .plan-source .ensures)
 
 returns-3 : tie.Need-returns-3
 returns-3 c =
@@ -66,7 +69,9 @@ write-text-spec =
     (λ c κs. search needs)
     (λ c κs. search needs)
     returns
-    (λ c κs. search needs)
+    (λ c κs. formed-plan c)
+    (λ c κs. (formed-plan (c .before), c .blocks-only .ensures))
+    (λ c κs. (formed-plan (c .before .before), c .plan-source .ensures))
     (λ c. search needs)
     (λ c. search needs)
     (λ c κs. search needs)

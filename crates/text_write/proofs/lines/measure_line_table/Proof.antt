@@ -5,10 +5,9 @@ use mathlib.Core.Path.{_≡_, refl, sym, ap, subst, _∙_}
 use mathlib.Core.Bool.{true}
 use mathlib.Core.List.{List, _++_}
 use mathlib.Core.Option.{some}
-use Prim.Native.Nat.{ℕ, _+_, _-_, _^_, _≤_}
+use Prim.Native.Nat.{ℕ, _+_, _^_, _≤_}
 use denote.Ref.{now}
 use Rattle.format.specs.TextWriter.{lineTable, lineHeader, textLine}
-use Rattle.object.specs.Texts.{textBytes}
 use Rattle.measuring.specs.Room.{roomOf, lessPart}
 use Rattle.measuring.proofs.RoomLaws.{part-fits, part-short}
 use Rattle.text_lines_out.specs.Lines.{At, rowsText}
@@ -16,26 +15,27 @@ use Rattle.text_lines_out.specs.Runs.{addressFrom, runRows, Measured}
 use Rattle.text_lines_out.specs.Walk.{walkRows, lineBlocksIn}
 use Rattle.text_lines_out.specs.declared.Wrapped.{Wrapped}
 use Rattle.text_lines_out.proofs.LineLaws.{at-start}
-use Rattle.text_lines_out.proofs.TableLaws.{table-parts, wrapped-passed, some-lines}
+use Rattle.text_lines_out.proofs.TableLaws.{table-parts, wrapped-passed}
+use Rattle.text_write.specs.Layouts.{plannedText, plannedWraps}
 use Rattle.text_write.proofs.lines.measure_line_table.Statement.{statement}
 use Rattle.text_write.proofs.lines.measure_line_table.Tie as tie
 
 -- the parts
-module _ (c : tie.After-find-wrapped) where
+module _ (c : tie.After-shared-slice-known) where
   abbrev s : tie.Start
-  s = c .before .before .before
+  s = c .before
 
   abbrev ws : List ℕ
   ws = now (s .args .ws)
 
   abbrev text : List ℕ
-  text = textBytes ws (s .args .text) (s .args .n)
+  text = plannedText ws (s .args .p)
 
   abbrev r : Wrapped
-  r = c .find-wrapped .result
+  r = plannedWraps (s .args .p)
 
   abbrev width : ℕ
-  width = c .before .line-width .result
+  width = s .args .p .width
 
   abbrev header : List ℕ
   header = textLine (lineHeader width)
@@ -44,9 +44,9 @@ module _ (c : tie.After-find-wrapped) where
   early = rowsText width text (runRows 0 (addressFrom true ws (r .place)) 0 (r .count))
 
   abbrev late : List ℕ
-  late = rowsText width text (walkRows ws (s .args .lines) (r .count))
+  late = rowsText width text (walkRows ws (s .args .p .lines) (r .count))
 
-  few : s .args .lines ≤ 2 ^ 64
+  few : s .args .p .lines ≤ 2 ^ 64
   few = search needs
 
   short : r .count ≤ 2 ^ 64
@@ -54,16 +54,8 @@ module _ (c : tie.After-find-wrapped) where
 
   parts : lineTable text (lineBlocksIn ws) ≡ header ++ (early ++ late)
   parts =
-      table-parts ws text (s .args .lines) width r (s .pre .0) (s .pre .3) few short (c .find-wrapped .ensures)
-      (c .before .line-width .ensures)
-
-line-width-requires : tie.Need-line-width-requires
-line-width-requires c κs =
-    let p = c .before .pre in
-    let a = c .before .args in (p .0, some-lines (textBytes (now (a .ws)) (a .text) (a .n)) (a .lines) (p .3))
-
-find-wrapped-requires : tie.Need-find-wrapped-requires
-find-wrapped-requires c κs = c .before .before .pre .0
+      table-parts ws text (s .args .p .lines) width r (s .pre .0) (s .pre .1 .counted) few short (s .pre .1 .wraps)
+      (s .pre .1 .wide)
 
 returns : tie.Need-returns
 returns c =
@@ -74,7 +66,7 @@ returns c =
 
 -- the header has room
 module _ (c : tie.After-known-told) where
-  abbrev f : tie.After-find-wrapped
+  abbrev f : tie.After-shared-slice-known
   f = c .before .before .before .before
 
   abbrev left : ℕ
@@ -87,9 +79,9 @@ module _ (c : tie.After-known-told) where
 
 measure-run-requires : tie.Need-measure-run-requires
 measure-run-requires c κs = let g = f c in (
-  s g .pre .1,
+  s g .pre .1 .short,
   (let h = short g in omega (arith, h)),
-  at-start (text g) (s g .pre .4),
+  at-start (text g) (s g .pre .1 .sound),
 )
 
 returns-2 : tie.Need-returns-2
@@ -120,11 +112,11 @@ measure-line-records-requires : tie.Need-measure-line-records-requires
 measure-line-records-requires c κs = let g = f (k c) in
     let a = s g .args in (
       s g .pre .0,
-      s g .pre .1,
-      s g .pre .2,
-      s g .pre .3,
-      wrapped-passed (ws g) (text g) (a .lines) (width g) (r g) (s g .pre .0) (s g .pre .3) (few g) (short g)
-          (g .find-wrapped .ensures) (g .before .line-width .ensures) (c .before .rest .given .0 .1 .0) (told c .1),
+      s g .pre .1 .short,
+      s g .pre .1 .few,
+      s g .pre .1 .counted,
+      wrapped-passed (ws g) (text g) (a .p .lines) (width g) (r g) (s g .pre .0) (s g .pre .1 .counted) (few g) (short g)
+          (s g .pre .1 .wraps) (s g .pre .1 .wide) (c .before .rest .given .0 .1 .0) (told c .1),
     )
 
 returns-3 : tie.Need-returns-3
@@ -137,8 +129,6 @@ pub measure-line-table-spec : {M : Type 1} → statement M
 measure-line-table-spec =
     tie.close
     (tie.spec
-    line-width-requires
-    find-wrapped-requires
     (λ c κs. search needs)
     (λ c. search needs)
     (λ c. search needs)

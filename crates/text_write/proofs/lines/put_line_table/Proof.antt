@@ -4,11 +4,10 @@ use native.Mathlib.Omega.{arith}
 use mathlib.Core.Path.{_≡_, refl, sym}
 use mathlib.Core.Bool.{true}
 use mathlib.Core.List.{List, [], _++_, append-nil}
-use Prim.Native.Nat.{ℕ, _+_, _-_, _^_, _≤_, _<_}
+use Prim.Native.Nat.{ℕ, _^_, _≤_, _<_}
 use lib.ListN.{length}
 use denote.Ref.{now}
 use Rattle.format.specs.TextWriter.{lineTable, lineHeader, textLine}
-use Rattle.object.specs.Texts.{textBytes}
 use Rattle.text_escape.proofs.EscapeLaws.{part-room}
 use Rattle.writing.proofs.Parts.{State, Emits, after, begin, emit, emitted, within, small, same}
 use Rattle.text_lines_out.specs.Lines.{rowsText}
@@ -16,26 +15,27 @@ use Rattle.text_lines_out.specs.Runs.{addressFrom, runRows}
 use Rattle.text_lines_out.specs.Walk.{walkRows, lineBlocksIn}
 use Rattle.text_lines_out.specs.declared.Wrapped.{Wrapped}
 use Rattle.text_lines_out.proofs.LineLaws.{at-start}
-use Rattle.text_lines_out.proofs.TableLaws.{table-parts, wrapped-passed, some-lines}
+use Rattle.text_lines_out.proofs.TableLaws.{table-parts, wrapped-passed}
+use Rattle.text_write.specs.Layouts.{plannedText, plannedWraps}
 use Rattle.text_write.proofs.lines.put_line_table.Statement.{statement}
 use Rattle.text_write.proofs.lines.put_line_table.Tie as tie
 
 -- the parts
-module _ (c : tie.After-find-wrapped) where
+module _ (c : tie.After-shared-slice-known) where
   abbrev s : tie.Start
-  s = c .before .before .before .before
+  s = c .before .before
 
   abbrev ws : List ℕ
   ws = now (s .args .ws)
 
   abbrev text : List ℕ
-  text = textBytes ws (s .args .text) (s .args .n)
+  text = plannedText ws (s .args .p)
 
   abbrev r : Wrapped
-  r = c .find-wrapped .result
+  r = plannedWraps (s .args .p)
 
   abbrev width : ℕ
-  width = c .before .line-width .result
+  width = s .args .p .width
 
   abbrev header : List ℕ
   header = textLine (lineHeader width)
@@ -44,9 +44,9 @@ module _ (c : tie.After-find-wrapped) where
   early = rowsText width text (runRows 0 (addressFrom true ws (r .place)) 0 (r .count))
 
   abbrev late : List ℕ
-  late = rowsText width text (walkRows ws (s .args .lines) (r .count))
+  late = rowsText width text (walkRows ws (s .args .p .lines) (r .count))
 
-  few : s .args .lines ≤ 2 ^ 64
+  few : s .args .p .lines ≤ 2 ^ 64
   few = search needs
 
   short : r .count ≤ 2 ^ 64
@@ -60,17 +60,17 @@ module _ (c : tie.After-find-wrapped) where
 
   parts : all ≡ header ++ (early ++ late)
   parts =
-      table-parts ws text (s .args .lines) width r (s .pre .0) (s .pre .3) few short (c .find-wrapped .ensures)
-      (c .before .line-width .ensures)
+      table-parts ws text (s .args .p .lines) width r (s .pre .0) (s .pre .1 .counted) few short (s .pre .1 .wraps)
+      (s .pre .1 .wide)
 
   abbrev state0 : State ℕ
   state0 = record { at = 0; out = now (s .args .out) }
 
   emits0 : Emits all (now (s .args .out)) all state0
-  emits0 = begin _ _ (s .pre .5)
+  emits0 = begin _ _ (s .pre .2)
 
 module _ (c : tie.After-put-line-header) where
-  abbrev f : tie.After-find-wrapped
+  abbrev f : tie.After-shared-slice-known
   f = c .before .before
 
   abbrev state1 : State ℕ
@@ -99,14 +99,6 @@ module _ (c : tie.After-put-line-records) where
   emits3 : Emits (all (f (h q))) (now (s (f (h q)) .args .out)) [] state3
   emits3 = emit (emits2 q) (late (f (h q))) [] (sym (append-nil (late (f (h q))))) (c .put-line-records .ensures)
 
-line-width-requires : tie.Need-line-width-requires
-line-width-requires c κs =
-    let p = c .before .before .pre in
-    let a = c .before .before .args in (p .0, some-lines (textBytes (now (a .ws)) (a .text) (a .n)) (a .lines) (p .3))
-
-find-wrapped-requires : tie.Need-find-wrapped-requires
-find-wrapped-requires c κs = c .before .before .before .pre .0
-
 add-len : tie.Need-add-len
 add-len c = let e = c .before .before in small (emits1 e) (long (f e))
 
@@ -119,9 +111,9 @@ part-put-run-start c = within (emits1 (c .before .before))
 put-run-requires : tie.Need-put-run-requires
 put-run-requires c κs = let e = c .before .before .before in
     let g = f e in (
-      s g .pre .1,
+      s g .pre .1 .short,
       (let z = short g in omega (arith, z)),
-      at-start (text g) (s g .pre .4),
+      at-start (text g) (s g .pre .1 .sound),
       part-room (emits1 e) (early g) (late g) refl,
     )
 
@@ -139,11 +131,11 @@ put-line-records-requires c κs = let e = c .before .before .before .before in
     let g = f (h e) in
     let a = s g .args in (
       s g .pre .0,
-      s g .pre .1,
-      s g .pre .2,
-      s g .pre .3,
-      wrapped-passed (ws g) (text g) (a .lines) (width g) (r g) (s g .pre .0) (s g .pre .3) (few g) (short g)
-          (g .find-wrapped .ensures) (g .before .line-width .ensures) (e .put-run .result .start) (e .put-run .ensures .1),
+      s g .pre .1 .short,
+      s g .pre .1 .few,
+      s g .pre .1 .counted,
+      wrapped-passed (ws g) (text g) (a .p .lines) (width g) (r g) (s g .pre .0) (s g .pre .1 .counted) (few g) (short g)
+          (s g .pre .1 .wraps) (s g .pre .1 .wide) (e .put-run .result .start) (e .put-run .ensures .1),
       part-room (emits2 e) (late g) [] (sym (append-nil (late g))),
     )
 
@@ -160,8 +152,6 @@ pub put-line-table-spec : {M : Type 1} → statement M
 put-line-table-spec =
     tie.close
     (tie.spec
-    line-width-requires
-    find-wrapped-requires
     (λ c. search needs)
     (λ c. search needs)
     (λ c. search needs)

@@ -1,86 +1,44 @@
 -- The line table, then the divider line. Assumes nothing.
 use borrow.Author.Needs.{needs}
-use native.Mathlib.Omega.{arith}
-use mathlib.Core.Path.{_≡_, refl, sym, ap, subst, _∙_}
-use mathlib.Core.Bool.{true}
+use mathlib.Core.Path.{_≡_, refl, sym}
 use mathlib.Core.List.{List, [], _++_, append-nil}
-use Prim.Native.Nat.{ℕ, _+_, _-_, _*_, _^_, _≤_, _<_}
+use Prim.Native.Nat.{ℕ, _^_, _<_}
 use lib.ListN.{length}
 use denote.Ref.{now}
 use Rattle.format.specs.Basics.{ascii}
-use Rattle.format.specs.Utf8.{isUtf8}
-use Rattle.format.specs.Source.{lineCount}
 use Rattle.format.specs.TextWriter.{lineTable, barLine}
-use Rattle.object.specs.Bodies.{bodyAt}
-use Rattle.object.specs.Texts.{textLen, textBytes}
-use Rattle.source_info.specs.Sources.{Sourced}
-use Rattle.source_info.specs.declared.Place.the-variants as place
 use Rattle.text_lines_out.specs.Walk.{lineBlocksIn, sourceTable}
-use Rattle.text_lines_out.proofs.SourceLaws.{source-nothing, source-small, source-sound, source-table, source-lines}
 use Rattle.text_escape.proofs.EscapeLaws.{part-room}
 use Rattle.writing.proofs.Parts.{State, Emits, after, begin, emit, emitted, within, small, same}
 use Rattle.text_lines_out.proofs.BlockLaws.{nothing-put}
+use Rattle.text_write.specs.Layouts.{plannedText, Tabled}
 use Rattle.text_write.proofs.lines.put_source.Statement.{statement}
 use Rattle.text_write.proofs.lines.put_source.Tie as tie
 
 -- the source
-module _ (c : tie.After-count-newlines) where
+module _ (c : tie.Else1) where
   abbrev s : tie.Start
-  s = c .before .before .before .before .before .before .before .before .before
+  s = c .before .before .before
 
   abbrev ws : List ℕ
   ws = now (s .args .ws)
 
-  abbrev at : ℕ
-  at = c .before .before .before .before .at .given .0 .0
-
-  abbrev n : ℕ
-  n = c .before .text-len .result
-
-  good : Sourced ws (place.At at)
-  good =
-      subst (Sourced ws) (c .before .before .before .before .at .given .1)
-      (c .before .before .before .before .before .before .source-at .ensures)
-
-  size : n ≡ textLen ws at (at + length (bodyAt ws at))
-  size = c .before .text-len .ensures ∙ ap (textLen ws at) (c .before .before .body-end .ensures)
-
-  abbrev text : List ℕ
-  text = textBytes ws at n
-
   abbrev table : List ℕ
-  table = lineTable text (lineBlocksIn ws)
+  table = lineTable (plannedText ws (s .args .p)) (lineBlocksIn ws)
 
-  small-source : n ≤ 3 * length ws
-  small-source = source-small ws (s .pre .0) at n good size
+  tabled : Tabled ws (s .args .p)
+  tabled = s .pre .2 .tabled (c .if1 .left)
 
   whole : sourceTable ws ≡ table ++ barLine
-  whole = source-table ws (s .pre .0) at n good size
-
-  abbrev lines : ℕ
-  lines = c .count-newlines .result + 1
-
-  few : lines ≤ 3 * length ws + 1
-  few = let h = small-source in let k = c .count-newlines .ensures .1 in omega (arith, h, k)
-
-  counted : lines ≡ lineCount text
-  counted = source-lines ws (s .pre .0) at n good size (c .count-newlines .result) (c .count-newlines .ensures .0)
-
-  sound : isUtf8 text ≡ true
-  sound = source-sound ws (s .pre .0) at n good size
-
-add-lines : tie.Need-add-lines
-add-lines c = let h = few c in search needs
+  whole = tabled .whole
 
 returns : tie.Need-returns
 returns c =
-    let k = c .before .before in
-    let s = k .before .before .before in
-    let ws = now (s .args .ws) in
-    nothing-put (now (s .args .out)) (source-nothing ws (s .pre .0) (subst (Sourced ws) (c .enum-told .given .1) (k .source-at .ensures)))
+    let s = c .before .before .before in
+    nothing-put (now (s .args .out)) (s .pre .2 .nothing (c .if1 .taken))
 
 -- part by part
-module _ (c : tie.After-count-newlines) where
+module _ (c : tie.Else1) where
   abbrev state0 : State ℕ
   state0 = record { at = 0; out = now (s c .args .out) }
 
@@ -91,7 +49,7 @@ module _ (c : tie.After-count-newlines) where
   long = search needs
 
 module _ (c : tie.After-put-line-table) where
-  abbrev k : tie.After-count-newlines
+  abbrev k : tie.Else1
   k = c .before .before
 
   abbrev state1 : State ℕ
@@ -114,10 +72,7 @@ module _ (c : tie.After-put-bytes) where
 put-line-table-requires : tie.Need-put-line-table-requires
 put-line-table-requires c κs = let k = c .before in (
   s k .pre .0,
-  small-source k,
-  few k,
-  counted k,
-  sound k,
+  tabled k,
   part-room (emits0 k) (table k) barLine (whole k),
 )
 
@@ -143,14 +98,7 @@ pub put-source-spec : {M : Type 1} → statement M
 put-source-spec =
     tie.close
     (tie.spec
-    (λ c κs. search needs)
-    (λ c. search needs)
-    (λ c. search needs)
     returns
-    (λ c κs. search needs)
-    (λ c κs. search needs)
-    (λ c κs. search needs)
-    add-lines
     (λ c. search needs)
     (λ c. search needs)
     (λ c. search needs)

@@ -1,0 +1,43 @@
+-- What is found of an object's line table before it is measured and written. Assumes nothing.
+use mathlib.Core.Path.{_≡_}
+use mathlib.Core.Bool.{true, false}
+use mathlib.Core.List.{List, [], _++_}
+use Prim.Native.Nat.{ℕ, _+_, _*_, _≤_, _<_}
+use lib.ListN.{length}
+use Rattle.format.specs.Source.{lineCount}
+use Rattle.format.specs.TextWriter.{lineTable, lineWidth, addBlocks, plainRows, barLine, blocksOnly}
+use Rattle.format.specs.Utf8.{isUtf8}
+use Rattle.object.specs.Texts.{textBytes}
+use Rattle.text_lines_out.specs.Merge.{wrapped}
+use Rattle.text_lines_out.specs.Walk.{lineBlocksIn, wrappedAt, Wraps, sourceTable}
+use Rattle.text_lines_out.specs.declared.Wrapped.{Wrapped}
+use Rattle.text_write.specs.Tables.{objectIn}
+use Rattle.text_write.specs.declared.lines.SourcePlan.{SourcePlan}
+
+-- words found before stay; else they are those of the record at a place
+pub record WrapsOn (ws : List ℕ) (at : ℕ) (before r : Wrapped) : Type 0 where
+  pub kept : 0 < before .count → r ≡ before
+  pub found : before .count ≡ 0 → Wraps ws (wrappedAt ws at) r
+
+-- the source of a plan, and its words whose lines wrap
+abbrev pub plannedText : List ℕ → SourcePlan → List ℕ
+plannedText ws p = textBytes ws (p .text) (p .n)
+
+abbrev pub plannedWraps : SourcePlan → Wrapped
+plannedWraps p = record { place = p .place; count = p .count }
+
+-- a plan of an object that has a source
+pub record Tabled (ws : List ℕ) (p : SourcePlan) : Type 0 where
+  pub short : p .n ≤ 3 * length ws
+  pub few : p .lines ≤ 3 * length ws + 1
+  pub counted : p .lines ≡ lineCount (plannedText ws p)
+  pub sound : isUtf8 (plannedText ws p) ≡ true
+  pub wide : p .width ≡ lineWidth (addBlocks (lineBlocksIn ws) (plainRows 0 (p .lines)))
+  pub wraps : Wraps ws (wrapped (lineBlocksIn ws)) (plannedWraps p)
+  pub whole : sourceTable ws ≡ lineTable (plannedText ws p) (lineBlocksIn ws) ++ barLine
+
+-- a plan of an object
+pub record PlanOf (ws : List ℕ) (p : SourcePlan) : Type 0 where
+  pub only : p .only ≡ blocksOnly (objectIn ws)
+  pub nothing : p .bare ≡ true → sourceTable ws ≡ []
+  pub tabled : p .bare ≡ false → Tabled ws p
