@@ -4,8 +4,8 @@ use mathlib.Core.Bool.{Bool, true, false}
 use mathlib.Core.List.{List, [], _∷_}
 use Prim.Native.Nat.{ℕ, zero, suc, _+_, _-_, _≤_, _<_}
 use native.Mathlib.Omega.{arith}
-use lib.ListN.{length, take, drop, length-drop, drop-of-length-le}
-use lib.Seq.{length-take-le, take-all, take-nil, take-take, drop-drop}
+use lib.ListN.{length, take, drop, getD, length-drop, drop-of-length-le}
+use lib.Seq.{length-take-le, take-all, take-nil, take-take, drop-drop, getD-take, getD-drop}
 use lib.Dec.{ltb, eqb}
 use borrow.Author.Tests.{lt-ltb, le-ltb, ltb-true, ltb-false, eq-eqb, ne-eqb, eqb-true, eqb-false}
 use Rattle.format.specs.Basics.{if_then_else_, isEmpty}
@@ -13,6 +13,8 @@ use Rattle.format.specs.Utf8.{trimStart, trimEnd, trim, isBlank}
 use Rattle.format.proofs.ListLaws.{by-test}
 use Rattle.trim.specs.declared.Span.{Span}
 use Rattle.trim.specs.Span.{part, Spans, clipped, trimStartSpan, trimEndSpan, trimSpan}
+use Rattle.trim.specs.WhiteSpace.{shownWhite, whiteAt}
+use Rattle.trim.proofs.TrimLaws.{white-shown, white-shown-before, trim-stop, trim-on, blank-end, back-stop}
 
 drop-take : (r n : ℕ) (l : List ℕ) → drop r (take n l) ≡ take (n - r) (drop r l)
 drop-take zero n l = let e : n ≡ n - 0 = omega arith in ap (λ (k : ℕ). take k l) e
@@ -139,6 +141,61 @@ both-trimmed s start end c r q f e g =
           ∙ ap (λ (x : List ℕ). record { start = trimStartSpan s start end .start; end = trimStartSpan s start end .start + length x }) p,
       record { ordered = g .ordered; inside = g .inside; same = g .same ∙ p },
     )
+
+-- WHAT ASCII SHOWS of a range that lies in the text
+part-at : (s : List ℕ) (a e k : ℕ) → a + k < e → getD (part a e s) k 0 ≡ getD s (a + k) 0
+part-at s a e k h = let l : k < e - a = omega arith in rw (getD-take, getD-drop)
+
+module _ (s : List ℕ) (i e : ℕ) (h : i < e) (l : e ≤ length s) where
+  range-length : length (part i e s) ≡ e - i
+  range-length = part-length s i e (omega arith) l
+
+  shown-first : (n : ℕ) → n ≡ shownWhite (getD s i 0) → n < 4 → n ≡ whiteAt (part i e s) 0
+  shown-first n q f =
+      let k : i + 0 ≡ i = omega arith in
+      let g : getD (part i e s) 0 0 ≡ getD s i 0 = part-at s i e 0 (omega arith) ∙ ap (λ (j : ℕ). getD s j 0) k in
+      white-shown (part i e s) 0 n (omega (arith, range-length)) (q ∙ ap shownWhite (sym g)) f
+
+  -- a space at its start is passed over
+  pub space-on : getD s i 0 ≡ 0x20 → trimStart (part (i + 1) e s) ≡ trimStart (part i e s)
+  unfolding trimStart shownWhite
+  space-on q = ap trimStart (part-drop s i e 1) ∙ trim-on (part i e s) 0 1 (shown-first 1 (sym (ap shownWhite q)) (omega arith))
+
+  start-stays : 0 ≡ shownWhite (getD s i 0) → trimStart (part i e s) ≡ part i e s
+  unfolding trimStart
+  start-stays q = trim-stop (part i e s) (sym (shown-first 0 q (omega arith)))
+
+  end-stays : 0 ≡ shownWhite (getD s (e - 1) 0) → take (e - i) (part i e s) ≡ trimEnd (part i e s)
+  end-stays q =
+      let n : length (part i e s) ≡ e - i = range-length in
+      let k : i + (length (part i e s) - 1) ≡ e - 1 = omega arith in
+      let g : getD (part i e s) (length (part i e s) - 1) 0 ≡ getD s (e - 1) 0 =
+      part-at s i e (length (part i e s) - 1) (omega arith) ∙ ap (λ (j : ℕ). getD s j 0) k in
+      ap (λ (j : ℕ). take j (part i e s)) (sym n) ∙ back-stop (part i e s) (length (part i e s)) (omega arith) (blank-end (part i e s))
+      (white-shown-before (part i e s) (length (part i e s)) 0 (omega arith) (omega arith) (q ∙ ap shownWhite (sym g)) (omega arith))
+
+  clip-range : record { start = i; end = e } ≡ clipped (length s) i e
+  clip-range = clip-in (length s) i e e last-same h
+    where
+      last-same : e ≡ (if ltb e (length s) then e else length s)
+      last-same = by-test (ltb e (length s)) (λ t. simp t) (λ t. simp t (omega (arith, ltb-false e (length s) t)))
+
+-- past its spaces a range begins with, and ends in, what is no White_Space
+pub range-shown : (s : List ℕ) (start end a : ℕ) → start ≤ a → a < end → end ≤ length s
+    → trimStart (part a end s) ≡ trimStart (part start end s) → 0 ≡ shownWhite (getD s a 0) → 0 ≡ shownWhite (getD s (end - 1) 0)
+    → (record { start = a; end = end } ≡ trimSpan s start end) × Spans s a end (trim (part start end s))
+range-shown s start end a h l i e p q =
+    let c : Span = record { start = start; end = end } in
+    let k : start + (a - start) ≡ a = omega arith in
+    let k2 : a + (end - a) ≡ end = omega arith in
+    let f = start-trimmed s start end c (clip-range s start end (omega arith) i) (a - start)
+    (omega (arith, range-length s start end (omega arith) i))
+    (sym (part-drop s start end (a - start)) ∙ ap (λ (x : ℕ). part x end s) k ∙ sym (start-stays s a end l i p) ∙ e) in
+    let g = end-trimmed s a end (record { start = a; end = end }) (clip-range s a end l i) (end - a)
+    (omega (arith, range-length s a end l i)) (end-stays s a end l i q) in
+    let f2 = rw k at f in
+    let g2 = rw k2 at g in
+    both-trimmed s start end (record { start = a; end = end }) (record { start = a; end = end }) (f2 .0) (f2 .1) (g2 .0) (g2 .1)
 
 empty-length : (xs : List ℕ) → eqb (length xs) 0 ≡ isEmpty xs
 unfolding isEmpty

@@ -174,14 +174,48 @@ pub fn trim_end(s: &[u8], start: usize, end: usize) -> Span
     }
 }
 
-// A range less the White_Space at both ends.
-pub fn trim(s: &[u8], start: usize, end: usize) -> Span
+// A range less the White_Space at both ends, of whatever bytes.
+fn trim_any(s: &[u8], start: usize, end: usize) -> Span
     ensures { λ r. ⌜ Trimmed trim trimSpan (now (s .entry)) start end r ⌝ }
 {
     let c = trim_start(s, start, end);
     let a = c.start;
     let e = c.end;
     trim_end(s, a, e)
+}
+
+// Past the spaces at the start of a range.
+fn past_spaces(s: &[u8], start: usize, end: usize) -> usize
+    requires { ⌜ (start ≤ end) × (end ≤ length (now s)) ⌝ }
+    ensures { λ r. ⌜ (start ≤ r) × (r ≤ end) × (trimStart (part r end (now (s .entry))) ≡ trimStart (part start end (now (s .entry)))) ⌝ }
+{
+    let mut i = start;
+    while i < end {
+        if s[i] != 0x20 {
+            return i;
+        }
+        i += 1;
+    }
+    i
+}
+
+// A range less the White_Space at both ends: where bytes of ASCII show what is left, by them.
+pub fn trim(s: &[u8], start: usize, end: usize) -> Span
+    ensures { λ r. ⌜ Trimmed trim trimSpan (now (s .entry)) start end r ⌝ }
+{
+    if start < end {
+        if end <= s.len() {
+            let a = past_spaces(s, start, end);
+            if a < end {
+                if shown_white(s[a]) == 0 {
+                    if shown_white(s[end - 1]) == 0 {
+                        return Span { start: a, end: end };
+                    }
+                }
+            }
+        }
+    }
+    trim_any(s, start, end)
 }
 
 // Whether a range is White_Space alone.
