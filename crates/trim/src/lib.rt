@@ -174,7 +174,7 @@ pub fn trim_end(s: &[u8], start: usize, end: usize) -> Span
     }
 }
 
-// A range less the White_Space at both ends, of whatever bytes.
+// A range less the White_Space at both ends, of whatever bytes. Called from more than one place, it stays out of what is fast.
 fn trim_any(s: &[u8], start: usize, end: usize) -> Span
     ensures { λ r. ⌜ Trimmed trim trimSpan (now (s .entry)) start end r ⌝ }
 {
@@ -203,15 +203,17 @@ fn past_spaces(s: &[u8], start: usize, end: usize) -> usize
 pub fn trim(s: &[u8], start: usize, end: usize) -> Span
     ensures { λ r. ⌜ Trimmed trim trimSpan (now (s .entry)) start end r ⌝ }
 {
-    if start < end {
-        if end <= s.len() {
-            let a = past_spaces(s, start, end);
-            if a < end {
-                if shown_white(s[a]) == 0 {
-                    if shown_white(s[end - 1]) == 0 {
-                        return Span { start: a, end: end };
-                    }
-                }
+    if end <= start {
+        return trim_any(s, start, end);
+    }
+    if s.len() < end {
+        return trim_any(s, start, end);
+    }
+    let a = past_spaces(s, start, end);
+    if a < end {
+        if shown_white(s[a]) == 0 {
+            if shown_white(s[end - 1]) == 0 {
+                return Span { start: a, end: end };
             }
         }
     }
