@@ -34,6 +34,16 @@ unfolding lineLength
 line-fits [] = omega arith
 line-fits (b ∷ bs) = by-test (eqb b 0x0A) (λ t. simp t (omega arith)) (λ t. simp t (omega (arith, line-fits bs)))
 
+-- an LF ends the line
+line-short : (bs : List ℕ) (k : ℕ) → k < length bs → getD bs k 0 ≡ 0x0A → lineLength bs ≤ k
+unfolding lineLength
+line-short [] k h e = absurd (omega arith)
+line-short (b ∷ bs) zero h e = rw (eq-eqb b 0x0A e) (omega arith)
+line-short (b ∷ bs) (suc k) h e = by-test (eqb b 0x0A) (λ t. simp t (omega arith)) (λ t. simp t (omega (arith, line-short bs k (omega arith) e)))
+
+pub line-within : (s : List ℕ) (at k : ℕ) → at + k < length s → getD s (at + k) 0 ≡ 0x0A → lineLength (drop at s) ≤ k
+line-within s at k h e = line-short (drop at s) k (omega (arith, length-drop at s)) (rw (getD-drop at s k 0) e)
+
 -- a text begins with LF just if its first line is empty
 lf-not : (bs : List ℕ) (k : ℕ) → lineLength bs ≡ suc k → beginsWith (0x0A ∷ []) bs ≡ false
 unfolding lineLength beginsWith

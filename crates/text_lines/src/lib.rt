@@ -19,14 +19,15 @@ pub enum Line {
     Done,
 }
 
-// Whether an LF is among the 16 bytes from a place on. The loop has no exit in the middle, so that the bytes can be compared at once.
-fn has_lf(s: &[u8], at: usize) -> bool
-    requires { ⌜ at + 16 ≤ length (now s) ⌝ }
-    ensures { λ r. ⌜ (r ≡ false → 16 + lineLength (drop (at + 16) (now (s .entry))) ≡ lineLength (drop at (now (s .entry)))) ⌝ }
+// Whether an LF is among the n bytes from a place on. The loop has no exit in the middle, so that the bytes can be compared at once.
+fn has_lf(s: &[u8], at: usize, n: usize) -> bool
+    requires { ⌜ at + n ≤ length (now s) ⌝ }
+    ensures { λ r. ⌜ (r ≡ false → n + lineLength (drop (at + n) (now (s .entry))) ≡ lineLength (drop at (now (s .entry))))
+        × (r ≡ true → lineLength (drop at (now (s .entry))) < n) ⌝ }
 {
     let mut found = false;
     let mut k = 0;
-    while k < 16 {
+    while k < n {
         if s[at + k] == 0x0A {
             found = true;
         }
@@ -39,14 +40,30 @@ fn has_lf(s: &[u8], at: usize) -> bool
 fn line_blocks(s: &[u8], at: usize) -> usize
     requires { ⌜ at ≤ length (now s) ⌝ }
     ensures { λ r. ⌜ (at ≤ r) × (r ≤ length (now (s .entry)))
-        × (r + lineLength (drop r (now (s .entry))) ≡ at + lineLength (drop at (now (s .entry)))) ⌝ }
+        × (r + lineLength (drop r (now (s .entry))) ≡ at + lineLength (drop at (now (s .entry))))
+        × (16 ≤ length (now (s .entry)) - r → lineLength (drop r (now (s .entry))) < 16) ⌝ }
 {
     let mut i = at;
     while 16 <= s.len() - i {
-        if has_lf(s, i) {
+        if has_lf(s, i, 16) {
             return i;
         }
         i += 16;
+    }
+    i
+}
+
+// The place of the next LF, which is among the 16 bytes from a place on: no byte's place needs a test.
+fn find_lf(s: &[u8], at: usize) -> usize
+    requires { ⌜ (at + 16 ≤ length (now s)) × (lineLength (drop at (now s)) < 16) ⌝ }
+    ensures { λ r. ⌜ r ≡ at + lineLength (drop at (now (s .entry))) ⌝ }
+{
+    let mut i = at;
+    if !has_lf(s, at, 8) {
+        i = at + 8;
+    }
+    while s[i] != 0x0A {
+        i += 1;
     }
     i
 }
@@ -57,6 +74,9 @@ fn line_end(s: &[u8], at: usize) -> usize
     ensures { λ r. ⌜ (at ≤ r) × (r ≤ length (now (s .entry))) × (r ≡ at + lineLength (drop at (now (s .entry)))) ⌝ }
 {
     let mut i = line_blocks(s, at);
+    if 16 <= s.len() - i {
+        return find_lf(s, i);
+    }
     while i < s.len() {
         if s[i] == 0x0A {
             return i;
@@ -225,6 +245,9 @@ fn is_short_row(t: &[u8], at: usize) -> bool
     if t.len() - 5 < at {
         return false;
     }
+    if t[at + 4] != 0x0A {
+        return false;
+    }
     if t[at] < 0x2F {
         return false;
     }
@@ -237,10 +260,7 @@ fn is_short_row(t: &[u8], at: usize) -> bool
     if t[at + 2] == 0x0A {
         return false;
     }
-    if t[at + 3] < 0x0E {
-        return false;
-    }
-    t[at + 4] == 0x0A
+    0x0D < t[at + 3]
 }
 
 // The next line of the group, past comments and blank lines.

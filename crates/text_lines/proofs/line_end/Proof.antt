@@ -1,9 +1,10 @@
+-- The place of the LF that the blocks show, or byte by byte. Assumes nothing.
 use borrow.Author.Needs.{needs}
 use native.Mathlib.Omega.{arith}
 use mathlib.Core.Path.{_≡_, refl}
 use Prim.Native.Nat.{_+_, _-_, _≤_}
 use denote.Ref.{now}
-use lib.ListN.{length, drop}
+use lib.ListN.{length, drop, length-drop}
 use Rattle.text_lines.specs.Lines.{lineLength}
 use Rattle.text_lines.proofs.LineLaws.{line-here, line-on, line-stop}
 use Rattle.text_lines.proofs.line_end.Statement.{statement}
@@ -15,17 +16,35 @@ Inv-loop s at i₀ i = (at ≤ i) × (i ≤ length s) × (i + lineLength (drop i
 abbrev μ-loop : tie.MeasureT-loop
 μ-loop s at i₀ i = length s - i
 
-loop-holds : tie.Need-loop-holds Inv-loop μ-loop
-loop-holds c = c .line-blocks .ensures
+find-lf-requires : tie.Need-find-lf-requires Inv-loop μ-loop
+find-lf-requires c κs = let b = c .before .line-blocks .ensures in (omega (arith, b .1), b .3 (c .if1 .taken))
 
 returns : tie.Need-returns Inv-loop μ-loop
-returns c = (omega arith, omega arith, omega (arith, line-here (now (c .before .before .before .before .before .before .args .s)) (c .before .before .before .loop .i) (c .before .before .loop-test .taken) (c .if1 .taken)))
+returns c =
+    let b = c .before .before .line-blocks .ensures in
+    let e = c .find-lf .ensures in
+    (omega (arith, b .0, e), omega (arith, b .3 (c .before .if1 .taken), c .before .if1 .taken, e), omega (arith, b .2, e))
 
-loop-again : tie.Need-loop-again Inv-loop μ-loop
-loop-again c = (omega arith, omega arith, omega (arith, line-on (now (c .before .before .before .before .before .before .args .s)) (c .before .before .before .loop .i) (c .before .before .loop-test .taken) (c .if1 .left)))
+loop-holds : tie.Need-loop-holds Inv-loop μ-loop
+loop-holds c = let b = c .before .line-blocks .ensures in (b .0, b .1, b .2)
 
 returns-2 : tie.Need-returns-2 Inv-loop μ-loop
-returns-2 c = (omega arith, omega arith, omega (arith, line-stop (now (c .before .before .before .before .args .s)) (c .before .loop .i) (c .loop-test .left)))
+returns-2 c =
+    let l = c .before .before .before in
+    (omega arith, omega arith, omega (arith, line-here (now (l .before .before .before .before .args .s)) (l .loop .i) (c .before .before .loop-test .taken) (c .if2 .taken)))
+
+loop-again : tie.Need-loop-again Inv-loop μ-loop
+loop-again c =
+    let l = c .before .before .before in
+    (omega arith, omega arith, omega (arith, line-on (now (l .before .before .before .before .args .s)) (l .loop .i) (c .before .before .loop-test .taken) (c .if2 .left)))
+
+returns-3 : tie.Need-returns-3 Inv-loop μ-loop
+returns-3 c =
+    let l = c .before in
+    (omega arith, omega arith, omega (arith, line-stop (now (l .before .before .before .before .args .s)) (l .loop .i) (c .loop-test .left)))
 
 pub line-end-spec : {M : Type 1} → statement M
-line-end-spec = tie.close (tie.spec Inv-loop μ-loop (λ c κs. c .before .pre) loop-holds (λ c. search needs) returns (λ c. search needs) (λ c. search needs) loop-again returns-2)
+line-end-spec =
+    tie.close
+    (tie.spec Inv-loop μ-loop (λ c κs. c .before .pre) (λ c. omega (arith, c .line-blocks .ensures .1)) find-lf-requires returns loop-holds
+    (λ c. search needs) returns-2 (λ c. search needs) (λ c. search needs) loop-again returns-3)
