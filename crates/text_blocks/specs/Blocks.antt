@@ -1,13 +1,13 @@
 -- .TEXT from a place on: blocks, parsed first and put then, and the addresses seen so far.
 -- Assumes nothing.
 use mathlib.Core.Path.{_≡_}
-use mathlib.Core.Bool.{true, false}
+use mathlib.Core.Bool.{Bool, true, false, _&&_}
 use mathlib.Core.List.{List, [], _∷_}
 use mathlib.Core.Option.{Option, none, some}
-use Prim.Native.Nat.{ℕ, zero, suc, _≤_, _<_}
+use Prim.Native.Nat.{ℕ, zero, suc, _+_, _≤_, _<_}
 use lib.ListN.{length, drop, getD}
-use lib.Dec.{eqb}
-use Rattle.format.specs.Basics.{Outcome, refused, given, andThen, isSome}
+use lib.Dec.{eqb, ltb}
+use Rattle.format.specs.Basics.{Outcome, refused, given, andThen, isSome, if_then_else_}
 use Rattle.format.specs.Sorted.{atKey}
 use Rattle.format.specs.TextReader.{hex2u16, parseDecimal, maybeHex2u16, parseTextGroup}
 use Rattle.format.specs.ObjectFile.{ObjectFile, Block, blockKey}
@@ -15,7 +15,33 @@ use Rattle.text_lines.specs.declared.Passed.{Passed}
 use Rattle.text_lines.specs.declared.Passed.the-variants as pa
 use Rattle.text_blocks.specs.declared.BlockStep.{BlockStep}
 use Rattle.text_blocks.specs.declared.BlockStep.the-variants as bl
-use Rattle.text_lines.specs.Groups.{partsFrom}
+use Rattle.format.specs.Words.{memoryWord}
+use Rattle.trim.specs.Span.{part}
+use Rattle.text_cells.specs.Cells.{digitOr16}
+use Rattle.text_lines.specs.Groups.{partsFrom, RowAt}
+
+-- what a byte of an entry stands for: a digit for its value, `?` for 61, and any other byte for 255
+unfoldable pub entryDigit : ℕ → ℕ
+entryDigit b = if eqb b 63 then 61 else if ltb (digitOr16 b) 16 then digitOr16 b else 255
+
+-- a table has what the bytes from i on stand for
+unfoldable pub tableFrom : ℕ → List ℕ → Bool
+tableFrom i [] = true
+tableFrom i (x ∷ xs) = eqb x (entryDigit i) && tableFrom (suc i) xs
+
+unfoldable pub isTable : List ℕ → Bool  -- and of all 256
+isTable xs = eqb (length xs) 256 && tableFrom 0 xs
+
+-- an entry of four bytes at a place, and its memory word
+pub record EntryAt (t : List ℕ) (at w : ℕ) : Type 0 where
+  pub row : RowAt t at at (at + 4) (at + 4 + 1)
+  pub entry : Option ℕ
+  pub read : some entry ≡ maybeHex2u16 (part at (at + 4) t)
+  pub made : w ≡ memoryWord entry
+
+-- by a table of what bytes stand for: 0 says nothing
+abbrev pub ShortEntry : List ℕ → List ℕ → ℕ → ℕ → Type 0
+ShortEntry digits t at w = isTable digits ≡ true → (w ≡ 0 → ⊥) → EntryAt t at w
 
 -- the entries of the first n lines
 unfoldable pub wordsIn : ℕ → List (List ℕ) → Option (List (Option ℕ))

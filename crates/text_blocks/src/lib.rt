@@ -11,9 +11,10 @@ use text_lines::next_row;
 ghost use mathlib.Core.Path.{_≡_};
 ghost use mathlib.Core.Bool.{true};
 ghost use Prim.Native.Nat.{_-_, _<_};
+ghost use lib.ListN.{getD};
 ghost use Rattle.format.specs.Basics.{isSome};
 ghost use Rattle.format.specs.TextReader.{lines, hex2u16, maybeHex2u16};
-ghost use Rattle.text_blocks.specs.Blocks.{Entries, NextBlock, BlocksChecked};
+ghost use Rattle.text_blocks.specs.Blocks.{ShortEntry, Entries, NextBlock, BlocksChecked};
 
 // A block of .TEXT: where its entries start, and the place after them.
 pub enum BlockStep {
@@ -38,13 +39,322 @@ fn is_entry(s: &[u8]) -> bool
     }
 }
 
+// What a byte of an entry stands for: a digit for its value, `?` for 61, and any other byte for 255. The sum of four shows whether they are all
+// digits, or all `?`.
+pub const DIGITS: [u8; 256] = [
+    255,
+    255,
+    255,
+    255,
+    255,
+    255,
+    255,
+    255,
+    255,
+    255,
+    255,
+    255,
+    255,
+    255,
+    255,
+    255,
+    255,
+    255,
+    255,
+    255,
+    255,
+    255,
+    255,
+    255,
+    255,
+    255,
+    255,
+    255,
+    255,
+    255,
+    255,
+    255,
+    255,
+    255,
+    255,
+    255,
+    255,
+    255,
+    255,
+    255,
+    255,
+    255,
+    255,
+    255,
+    255,
+    255,
+    255,
+    255,
+    0,
+    1,
+    2,
+    3,
+    4,
+    5,
+    6,
+    7,
+    8,
+    9,
+    255,
+    255,
+    255,
+    255,
+    255,
+    61,
+    255,
+    10,
+    11,
+    12,
+    13,
+    14,
+    15,
+    255,
+    255,
+    255,
+    255,
+    255,
+    255,
+    255,
+    255,
+    255,
+    255,
+    255,
+    255,
+    255,
+    255,
+    255,
+    255,
+    255,
+    255,
+    255,
+    255,
+    255,
+    255,
+    255,
+    255,
+    255,
+    255,
+    10,
+    11,
+    12,
+    13,
+    14,
+    15,
+    255,
+    255,
+    255,
+    255,
+    255,
+    255,
+    255,
+    255,
+    255,
+    255,
+    255,
+    255,
+    255,
+    255,
+    255,
+    255,
+    255,
+    255,
+    255,
+    255,
+    255,
+    255,
+    255,
+    255,
+    255,
+    255,
+    255,
+    255,
+    255,
+    255,
+    255,
+    255,
+    255,
+    255,
+    255,
+    255,
+    255,
+    255,
+    255,
+    255,
+    255,
+    255,
+    255,
+    255,
+    255,
+    255,
+    255,
+    255,
+    255,
+    255,
+    255,
+    255,
+    255,
+    255,
+    255,
+    255,
+    255,
+    255,
+    255,
+    255,
+    255,
+    255,
+    255,
+    255,
+    255,
+    255,
+    255,
+    255,
+    255,
+    255,
+    255,
+    255,
+    255,
+    255,
+    255,
+    255,
+    255,
+    255,
+    255,
+    255,
+    255,
+    255,
+    255,
+    255,
+    255,
+    255,
+    255,
+    255,
+    255,
+    255,
+    255,
+    255,
+    255,
+    255,
+    255,
+    255,
+    255,
+    255,
+    255,
+    255,
+    255,
+    255,
+    255,
+    255,
+    255,
+    255,
+    255,
+    255,
+    255,
+    255,
+    255,
+    255,
+    255,
+    255,
+    255,
+    255,
+    255,
+    255,
+    255,
+    255,
+    255,
+    255,
+    255,
+    255,
+    255,
+    255,
+    255,
+    255,
+    255,
+    255,
+    255,
+    255,
+    255,
+    255,
+    255,
+    255,
+    255,
+    255,
+    255,
+    255,
+    255,
+    255,
+    255,
+    255,
+    255,
+    255,
+    255,
+    255,
+    255,
+    255,
+    255,
+    255,
+    255,
+];
+
+// A byte as a number that has room for sums.
+fn wide(b: u8) -> u32
+    ensures { λ r. ⌜ (r ≡ b) × (r < 256) ⌝ }
+{
+    b as u32
+}
+
+// What a table says of a byte.
+fn digit_in(digits: &[u8; 256], b: u8) -> u32
+    ensures { λ r. ⌜ (r ≡ getD (now (digits .entry)) b 0) × (b < 256) × (r < 256) ⌝ }
+{
+    wide(digits[b as usize])
+}
+
+// The memory word of an entry of four digits, or ????, with an LF after it; 0 for a row of another form. The table is the caller's, so that it
+// is made once for many entries.
+pub fn short_entry(t: &[u8], at: usize, digits: &[u8; 256]) -> u32
+    ensures { λ r. ⌜ ShortEntry (now (digits .entry)) (now (t .entry)) at r ⌝ }
+{
+    if t.len() < 5 {
+        return 0;
+    }
+    if t.len() - 5 < at {
+        return 0;
+    }
+    if t[at + 4] != 0x0A {
+        return 0;
+    }
+    let a = digit_in(digits, t[at]);
+    let b = digit_in(digits, t[at + 1]);
+    let c = digit_in(digits, t[at + 2]);
+    let d = digit_in(digits, t[at + 3]);
+    let sum = a + b + c + d;
+    if sum < 61 {
+        return 0x2001_0000 + (((a * 16 + b) * 16 + c) * 16 + d);
+    }
+    if sum == 244 {
+        return 0x2000_0000;
+    }
+    0
+}
+
 // The next n lines of the group, all of them entries.
 pub fn pass_entries(t: &[u8], at: usize, n: usize) -> Passed
     ensures { λ r. ⌜ Entries (now (t .entry)) at n r ⌝ }
 {
     let mut i = at;
     let mut left = n;
+    let digits = DIGITS;
     while 0 < left {
+        if short_entry(t, i, &digits) != 0 {
+            i = i + 4 + 1;
+            left -= 1;
+            continue;
+        }
         let Line::At { start, end, next } = next_row(t, i) else {
             return Passed::Bad;
         };

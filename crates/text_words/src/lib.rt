@@ -1,5 +1,7 @@
 // The words of a text file's rows.
+use text_blocks::DIGITS;
 use text_blocks::pass_entries;
+use text_blocks::short_entry;
 use text_cells::Entry;
 use text_cells::Number;
 use text_cells::decimal;
@@ -116,7 +118,15 @@ fn put_entries(out: &mut [u32], t: &[u8], from: usize, n: usize) -> usize
 {
     let mut i = 0;
     let mut at = from;
+    let digits = DIGITS;
     while i < n {
+        let w = short_entry(t, at, &digits);
+        if w != 0 {
+            out[i] = w;
+            i += 1;
+            at = at + 4 + 1;
+            continue;
+        }
         let Line::At { start, end, next } = next_row(t, at) else {
             return i;
         };

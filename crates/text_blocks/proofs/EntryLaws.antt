@@ -1,0 +1,151 @@
+-- An entry of four bytes: by a table of what each stands for. Assumes nothing.
+use mathlib.Core.Path.{_≡_, refl, sym, ap, _∙_, subst}
+use mathlib.Core.Bool.{Bool, true, false, _&&_}
+use mathlib.Core.List.{List, [], _∷_}
+use mathlib.Core.Option.{Option, none, some}
+use Prim.Native.Nat.{ℕ, zero, suc, _+_, _-_, _*_, _≤_, _<_}
+use native.Mathlib.Omega.{arith}
+use native.Mathlib.Numerals.{add-one}
+use lib.ListN.{length, take, drop, getD}
+use lib.Seq.{drop-cons}
+use lib.Dec.{eqb, ltb}
+use borrow.Author.Tests.{ne-eqb, eqb-true, ltb-true, ltb-false}
+use Rattle.format.specs.Basics.{eqs, if_then_else_}
+use Rattle.format.specs.TextReader.{hex2u16, maybeHex2u16}
+use Rattle.format.specs.Words.{memoryWord}
+use Rattle.trim.specs.Span.{part}
+use Rattle.text_cells.specs.Cells.{digitOr16}
+use Rattle.text_cells.proofs.NumberLaws.{hex-four, entry-unknown, entry-hex}
+use Rattle.text_lines.proofs.ShortLaws.{short-row}
+use Rattle.text_lines.proofs.TestLaws.{by-test, front, within-low, within-high}
+use Rattle.text_blocks.specs.Blocks.{entryDigit, tableFrom, isTable, EntryAt}
+
+-- THE TABLE, by one test of all its bytes
+both-left : (a b : Bool) → (a && b) ≡ true → a ≡ true
+both-left true b e = refl
+both-left false b e = e
+
+both-right : (a b : Bool) → (a && b) ≡ true → b ≡ true
+both-right true b e = e
+both-right false b e = let z : _≡_ {A = ℕ} 0 1 = cc in absurd (omega arith)
+
+table-from : (xs : List ℕ) (i : ℕ) → tableFrom i xs ≡ true → (k : ℕ) → k < length xs → getD xs k 0 ≡ entryDigit (i + k)
+unfolding tableFrom
+table-from [] i e k h = absurd (omega arith)
+table-from (x ∷ xs) i e zero h =
+    let z : i ≡ i + 0 = omega arith in
+    eqb-true x (entryDigit i) (both-left (eqb x (entryDigit i)) (tableFrom (suc i) xs) e) ∙ ap entryDigit z
+table-from (x ∷ xs) i e (suc k) h =
+    let z : suc i + k ≡ i + suc k = omega arith in
+    table-from xs (suc i) (both-right (eqb x (entryDigit i)) (tableFrom (suc i) xs) e) k (omega arith) ∙ ap entryDigit z
+
+pub table-is : (xs : List ℕ) → isTable xs ≡ true → (b : ℕ) → b < 256 → getD xs b 0 ≡ entryDigit b
+unfolding isTable
+table-is xs e b h =
+    let l = eqb-true (length xs) 256 (both-left (eqb (length xs) 256) (tableFrom 0 xs) e) in
+    let z : 0 + b ≡ b = omega arith in
+    table-from xs 0 (both-right (eqb (length xs) 256) (tableFrom 0 xs) e) b (omega arith) ∙ ap entryDigit z
+
+-- WHAT A BYTE STANDS FOR
+pub is-digit : (b : ℕ) → entryDigit b < 61 → (digitOr16 b ≡ entryDigit b) × (entryDigit b < 16)
+unfolding entryDigit
+is-digit b h =
+    by-test (eqb b 63)
+    (λ t. let z : entryDigit b ≡ 61 = rw t refl in absurd (omega arith))
+    (λ t. by-test (ltb (digitOr16 b) 16)
+    (λ u. rw (t, u) (refl, ltb-true (digitOr16 b) 16 u))
+    (λ u. let z : entryDigit b ≡ 255 = rw (t, u) refl in absurd (omega arith)))
+
+pub is-unknown : (b : ℕ) → 60 < entryDigit b → entryDigit b < 255 → b ≡ 63
+unfolding entryDigit
+is-unknown b l h =
+    by-test (eqb b 63)
+    (λ t. eqb-true b 63 t)
+    (λ t. by-test (ltb (digitOr16 b) 16)
+    (λ u. let z : entryDigit b ≡ digitOr16 b = rw (t, u) refl in absurd (omega (arith, ltb-true (digitOr16 b) 16 u)))
+    (λ u. let z : entryDigit b ≡ 255 = rw (t, u) refl in absurd (omega arith)))
+
+not-over : (b : ℕ) → entryDigit b < 255 → entryDigit b ≤ 61
+unfolding entryDigit
+not-over b h =
+    by-test (eqb b 63)
+    (λ t. let z : entryDigit b ≡ 61 = rw t refl in omega arith)
+    (λ t. by-test (ltb (digitOr16 b) 16)
+    (λ u. let z : entryDigit b ≡ digitOr16 b = rw (t, u) refl in omega (arith, ltb-true (digitOr16 b) 16 u))
+    (λ u. let z : entryDigit b ≡ 255 = rw (t, u) refl in absurd (omega arith)))
+
+digit-from : (b : ℕ) → digitOr16 b < 16 → (0x30 ≤ b) × (b ≤ 0x66) × (b ≡ 63 → ⊥)
+unfolding digitOr16
+digit-from b h =
+    by-test (ltb b 48)
+    (λ t. let l = ltb-true b 48 t in
+    let z : digitOr16 b ≡ 16 = simp (within-low 48 57 b (omega arith), within-low 65 70 b (omega arith), within-low 97 102 b (omega arith)) in
+    absurd (omega arith))
+    (λ t. by-test (ltb 102 b)
+    (λ u. let l = ltb-true 102 b u in
+    let z : digitOr16 b ≡ 16 = simp (within-high 48 57 b (omega arith), within-high 65 70 b (omega arith), within-high 97 102 b (omega arith)) in
+    absurd (omega arith))
+    (λ u. (ltb-false b 48 t, ltb-false 102 b u, λ e. let z : digitOr16 b ≡ 16 = ap digitOr16 e in omega arith)))
+
+-- FOUR BYTES
+part-four : (t : List ℕ) (at : ℕ) → at + 4 ≤ length t
+    → part at (at + 4) t ≡ getD t at 0 ∷ getD t (at + 1) 0 ∷ getD t (at + 2) 0 ∷ getD t (at + 3) 0 ∷ []
+part-four t at h =
+    let n : at + 4 - at ≡ 4 = omega arith in
+    let p : at + 1 + 1 ≡ at + 2 = omega arith in
+    let q : at + 2 + 1 ≡ at + 3 = omega arith in
+    ap (λ (k : ℕ). take k (drop at t)) n
+    ∙ ap (take 4)
+    (front 0 t at (omega arith)
+    ∙ ap (λ (l : List ℕ). getD t at 0 ∷ l) (front 0 t (at + 1) (omega arith) ∙ ap (λ (j : ℕ). getD t (at + 1) 0 ∷ drop j t) p
+    ∙ ap (λ (l : List ℕ). getD t (at + 1) 0 ∷ l) (front 0 t (at + 2) (omega arith) ∙ ap (λ (j : ℕ). getD t (at + 2) 0 ∷ drop j t) q
+    ∙ ap (λ (l : List ℕ). getD t (at + 2) 0 ∷ l) (front 0 t (at + 3) (omega arith)))))
+
+read-digits : (p q r s a b c d : ℕ) → a ≡ digitOr16 p → b ≡ digitOr16 q → c ≡ digitOr16 r → d ≡ digitOr16 s
+    → a < 16 → b < 16 → c < 16 → d < 16 → some (some (((a * 16 + b) * 16 + c) * 16 + d)) ≡ maybeHex2u16 (p ∷ q ∷ r ∷ s ∷ [])
+unfolding eqs
+read-digits p q r s a b c d ea eb ec ed la lb lc ld =
+    entry-hex (p ∷ q ∷ r ∷ s ∷ []) (some (((a * 16 + b) * 16 + c) * 16 + d))
+    (simp (ne-eqb p 63 (digit-from p (omega arith) .2)))
+    (hex-four (p ∷ q ∷ r ∷ s ∷ []) refl a b c d ea eb ec ed la lb lc ld)
+
+module _ (t : List ℕ) (at : ℕ) (l : at + 5 ≤ length t) (lf : getD t (at + 4) 0 ≡ 0x0A) (a b c d : ℕ)
+    (ea : a ≡ entryDigit (getD t at 0)) (eb : b ≡ entryDigit (getD t (at + 1) 0)) (ec : c ≡ entryDigit (getD t (at + 2) 0))
+    (ed : d ≡ entryDigit (getD t (at + 3) 0)) where
+  pub entry-digits : a + b + c + d < 61 → EntryAt t at (0x2001_0000 + (((a * 16 + b) * 16 + c) * 16 + d))
+  unfolding memoryWord
+  entry-digits h =
+      let pa = is-digit (getD t at 0) (omega arith) in
+      let pb = is-digit (getD t (at + 1) 0) (omega arith) in
+      let pc = is-digit (getD t (at + 2) 0) (omega arith) in
+      let pd = is-digit (getD t (at + 3) 0) (omega arith) in
+      let fa = digit-from (getD t at 0) (omega arith) in
+      let fb = digit-from (getD t (at + 1) 0) (omega arith) in
+      let fc = digit-from (getD t (at + 2) 0) (omega arith) in
+      let fd = digit-from (getD t (at + 3) 0) (omega arith) in
+      record {
+        row = short-row t at l (omega arith) (omega arith) (λ e. omega arith) (λ e. omega arith) (omega arith) lf;
+        entry = some (((a * 16 + b) * 16 + c) * 16 + d);
+        read = read-digits _ _ _ _ a b c d (ea ∙ sym (pa .0)) (eb ∙ sym (pb .0)) (ec ∙ sym (pc .0)) (ed ∙ sym (pd .0)) (omega arith) (omega arith) (omega arith) (omega arith)
+            ∙ ap maybeHex2u16 (sym (part-four t at (omega arith)));
+        made = omega arith;
+      }
+
+  pub entry-unread : a + b + c + d ≡ 244 → EntryAt t at 0x2000_0000
+  unfolding memoryWord eqs
+  entry-unread h =
+      let ba = not-over (getD t at 0) (omega arith) in
+      let bb = not-over (getD t (at + 1) 0) (omega arith) in
+      let bc = not-over (getD t (at + 2) 0) (omega arith) in
+      let bd = not-over (getD t (at + 3) 0) (omega arith) in
+      let fa = is-unknown (getD t at 0) (omega arith) (omega arith) in
+      let fb = is-unknown (getD t (at + 1) 0) (omega arith) (omega arith) in
+      let fc = is-unknown (getD t (at + 2) 0) (omega arith) (omega arith) in
+      let fd = is-unknown (getD t (at + 3) 0) (omega arith) (omega arith) in
+      let four : part at (at + 4) t ≡ 63 ∷ 63 ∷ 63 ∷ 63 ∷ [] = part-four t at (omega arith) ∙ rw (fa, fb, fc, fd) refl in
+      record {
+        row = short-row t at l (omega arith) (omega arith) (λ e. omega arith) (λ e. omega arith) (omega arith) lf;
+        entry = none;
+        read = entry-unknown (part at (at + 4) t) (ap (λ (x : List ℕ). eqs x (63 ∷ 63 ∷ 63 ∷ 63 ∷ [])) four);
+        made = refl;
+      }
