@@ -16,7 +16,7 @@ use Rattle.text_lines.specs.Groups.{partsFrom, kindOf, RowAt, HeadAt}
 use Rattle.text_lines.proofs.RowLaws.{rows-on, row-groups, parts-of}
 use Rattle.text_lines.proofs.TestLaws.{and-no}
 use Rattle.text_rows.specs.Rows.{countIn, firstLine, linesAfter, endsTable, rowIn, rowsIn, underHeader, groupRows, rowsFrom, rowsOf, rowAt}
-use Rattle.text_rows.specs.Steps.{Skips, GroupEnd, FirstRow, TableAt, FoundAt}
+use Rattle.text_rows.specs.Steps.{Skips, GroupEnd, FirstRow, TableAt, FoundAt, LineOf}
 
 abbrev Group : Type 0
 Group = List ℕ × List (List ℕ)
@@ -196,6 +196,10 @@ module _ (kind : ℕ) (t : List ℕ) (at a e n : ℕ) (l : RowAt t at a e n) whe
   pub row-other : (kind ≡ 0 → ⊥) → (kind ≡ 3 → ⊥) → FoundAt kind t at at n
   row-other z h = row-single z (ends-other kind first h)
 
+pub row-span : (t : List ℕ) (at a e n : ℕ) → RowAt t at a e n → LineOf t at a e
+unfolding firstLine
+row-span t at a e n l = record { ordered = l .ordered; inside = l .inside; same = sym (ap firstLine (rows-on t at a e n l)) }
+
 pub row-end : (kind : ℕ) (t : List ℕ) (at : ℕ) → partsFrom t at .before ≡ [] → rowsIn kind 0 (partsFrom t at .before) ≡ []
 unfolding rowsIn
 row-end kind t at e = ap (rowsIn kind 0) e
@@ -245,8 +249,8 @@ pub record Seeking (kind : ℕ) (t : List ℕ) (from at : ℕ) : Type 0 where
   pub same : rowsFrom kind t at ≡ rowsFrom kind t from
 
 module _ (kind : ℕ) (t : List ℕ) (from at : ℕ) (s : Seeking kind t from at) where
-  pub found-row : (n : ℕ) → FoundAt kind t at at n → FoundAt kind t from at n
-  found-row n f = record { from = s .order; on = f .on; inside = f .inside; same = sym (s .same) ∙ f .same }
+  pub found-row : (p n : ℕ) → FoundAt kind t at p n → FoundAt kind t from p n
+  found-row p n f = record { from = omega (arith, s .order, f .from); on = f .on; inside = f .inside; same = sym (s .same) ∙ f .same }
 
   module _ (e : rowsIn kind 0 (partsFrom t at .before) ≡ []) where
     ended : rowsFrom kind t at ≡ flatMap (groupRows kind) (partsFrom t at .groups)

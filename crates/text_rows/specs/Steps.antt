@@ -5,7 +5,8 @@ use Prim.Native.Nat.{ℕ, suc, _+_, _≤_, _<_}
 use lib.ListN.{length, drop, getD}
 use Rattle.format.specs.Records.{Record}
 use Rattle.text_lines.specs.Groups.{partsFrom}
-use Rattle.text_rows.specs.Rows.{countIn, rowsIn, underHeader, groupRows, rowsFrom, rowsOf, rowAt}
+use Rattle.trim.specs.Span.{Spans}
+use Rattle.text_rows.specs.Rows.{firstLine, countIn, rowsIn, underHeader, groupRows, rowsFrom, rowsOf, rowAt}
 use Rattle.text_rows.specs.declared.Place.{Place}
 use Rattle.text_rows.specs.declared.Place.the-variants as place
 use Rattle.text_rows.specs.declared.Found.{Found}
@@ -57,12 +58,16 @@ pub record FoundAt (kind : ℕ) (t : List ℕ) (at p next : ℕ) : Type 0 where
   pub inside : next ≤ length t
   pub same : rowsFrom kind t at ≡ rowAt kind t p ∷ rowsFrom kind t next
 
-abbrev pub RowEnd : ℕ → List ℕ → ℕ → Place → Type 0
-RowEnd kind t at (place.At next) = FoundAt kind t at at next
-RowEnd kind t at place.Nothing = rowsIn kind 0 (partsFrom t at .before) ≡ []
+-- where the first line of the row at p stands
+abbrev pub LineOf : List ℕ → ℕ → ℕ → ℕ → Type 0
+LineOf t p start end = Spans t start end (firstLine (partsFrom t p .before))
+
+abbrev pub RowHere : ℕ → List ℕ → ℕ → Found → Type 0
+RowHere kind t at (found.At p start end next) = FoundAt kind t at p next × LineOf t p start end
+RowHere kind t at found.Nothing = rowsIn kind 0 (partsFrom t at .before) ≡ []
 
 abbrev pub NextPlace : ℕ → List ℕ → ℕ → Found → Type 0
-NextPlace kind t at (found.At p next) = FoundAt kind t at p next
+NextPlace kind t at (found.At p start end next) = FoundAt kind t at p next × LineOf t p start end
 NextPlace kind t at found.Nothing = rowsFrom kind t at ≡ []
 
 -- where the walk begins, for rows of every kind

@@ -14,7 +14,7 @@ ghost use lib.ListN.{length};
 ghost use Rattle.format.specs.TextReader.{parseDecimal};
 ghost use Rattle.text_lines.specs.Groups.{partsFrom};
 ghost use Rattle.text_rows.specs.Rows.{orZero, countIn};
-ghost use Rattle.text_rows.specs.Steps.{Skips, Headless, DotAfter, GroupEnd, FirstRow, NextTable, RowEnd, NextPlace, BeginsAt};
+ghost use Rattle.text_rows.specs.Steps.{Skips, Headless, DotAfter, GroupEnd, FirstRow, NextTable, RowHere, NextPlace, BeginsAt};
 
 // A place in the input, or none.
 pub enum Place {
@@ -22,9 +22,9 @@ pub enum Place {
     Nothing,
 }
 
-// The next row of a kind: its place, and the place after it.
+// The next row of a kind: its place, where its first line starts and ends, and the place after it.
 pub enum Found {
-    At(usize, usize),
+    At(usize, usize, usize, usize),
     Nothing,
 }
 
@@ -185,22 +185,22 @@ fn next_table(t: &[u8], kind: u8, from: usize) -> Place
     }
 }
 
-// The place after the row that begins at a place of a table.
-fn row_end(t: &[u8], kind: u8, at: usize) -> Place
-    ensures { λ r. ⌜ RowEnd kind (now (t .entry)) at r ⌝ }
+// The row that begins at a place of a table, where one does.
+fn row_at(t: &[u8], kind: u8, at: usize) -> Found
+    ensures { λ r. ⌜ RowHere kind (now (t .entry)) at r ⌝ }
 {
     let Line::At { start, end, next } = next_row(t, at) else {
-        return Place::Nothing;
+        return Found::Nothing;
     };
     if kind == 0 {
-        return Place::At(block_end(t, next));
+        return Found::At(at, start, end, block_end(t, next));
     }
     if kind == 3 {
         if begins_with(&t[start..end], b'=') {
-            return Place::Nothing;
+            return Found::Nothing;
         }
     }
-    Place::At(next)
+    Found::At(at, start, end, next)
 }
 
 // The first row of a kind from a place on, where one begins or its table ends.
@@ -209,12 +209,12 @@ pub fn next_place(t: &[u8], kind: u8, from: usize) -> Found
 {
     let mut at = from;
     loop {
-        let row = row_end(t, kind, at);
+        let row = row_at(t, kind, at);
         match row {
-            Place::At(next) => {
-                return Found::At(at, next);
+            Found::At(p, start, end, next) => {
+                return Found::At(p, start, end, next);
             }
-            Place::Nothing => {
+            Found::Nothing => {
                 let Place::At(n) = next_table(t, kind, at) else {
                     return Found::Nothing;
                 };

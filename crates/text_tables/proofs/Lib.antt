@@ -3,4 +3,5 @@ pub mod SymbolLaws
 pub mod DebugLaws
 pub mod LabelLaws
 pub mod LineRowLaws
+pub mod CellLaws
 pub mod GroupLaws

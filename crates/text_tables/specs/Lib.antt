@@ -3,3 +3,4 @@ pub mod Symbols
 pub mod Debug
 pub mod Labels
 pub mod LineRows
+pub mod RowCells

@@ -3,6 +3,7 @@ use text_cells::Entry;
 use text_cells::Number;
 use text_cells::cell_is;
 use text_cells::decimal;
+use text_cells::find_cell;
 use text_cells::hex2u16;
 use text_cells::maybe_hex2u16;
 use text_cells::trimmed_cell;
@@ -12,9 +13,11 @@ use text_lines::Passed;
 use text_lines::begins_with;
 use text_lines::has_row;
 use text_lines::next_row;
+use trim::trim;
 ghost use mathlib.Core.Path.{_≡_};
 ghost use mathlib.Core.List.{map};
-ghost use Prim.Native.Nat.{_+_, _-_};
+ghost use Prim.Native.Nat.{_+_, _-_, _≤_};
+ghost use lib.ListN.{length};
 ghost use Rattle.format.specs.Basics.{isSome};
 ghost use Rattle.format.specs.Records.{emptyObject};
 ghost use Rattle.format.specs.Utf8.{trim};
@@ -22,6 +25,7 @@ ghost use Rattle.format.specs.TextReader.{lines, splitn, sameCells, upToBar, pa
 ghost use Rattle.text_tables.specs.Debug.{FirstBar, NextIn, labelView, lineView};
 ghost use Rattle.text_tables.specs.Labels.{LabelIs, NextLabel, labelColumns};
 ghost use Rattle.text_tables.specs.LineRows.{lineIn, lineOf};
+ghost use Rattle.text_tables.specs.RowCells.{CellAt};
 ghost use Rattle.text_lines.specs.Groups.{partsFrom};
 ghost use Rattle.text_tables.specs.Symbols.{SymIs, NextSymbol, SymbolsChecked, symbolColumns};
 ghost use Rattle.format.specs.Calls.{refusalOf};
@@ -72,23 +76,52 @@ pub fn parse_symbol_header(l: &[u8]) -> bool
     cell_is(l, 2, 2, &label)
 }
 
+// A cell, trimmed, and where the row goes on after its divider; its end where there is none.
+pub struct Cell {
+    pub start: usize,
+    pub end: usize,
+    pub next: usize,
+}
+
+// The first cell of a row from a place on.
+fn next_cell(l: &[u8], at: usize) -> Cell
+    requires { ⌜ at ≤ length (now l) ⌝ }
+    ensures { λ r. ⌜ CellAt (now (l .entry)) at r ⌝ }
+{
+    let c = find_cell(&l[at..], 1, 0);
+    let n = c.end - c.start;
+    let s = trim(l, at + c.start, at + c.end);
+    if l.len() - at - n < 3 {
+        return Cell {
+            start: s.start,
+            end: s.end,
+            next: l.len(),
+        };
+    }
+    Cell {
+        start: s.start,
+        end: s.end,
+        next: at + n + 3,
+    }
+}
+
 // What a row of .SYMBOL says.
 pub fn parse_symbol_row(l: &[u8]) -> SymbolRow
     ensures { λ r. ⌜ SymIs (now (l .entry)) r ⌝ }
 {
-    let c = trimmed_cell(l, 2, 0);
+    let c = next_cell(l, 0);
     let c_start = c.start;
     let c_end = c.end;
     let Number::Value(a) = hex2u16(&l[c_start..c_end]) else {
         return SymbolRow::Bad;
     };
-    let d = trimmed_cell(l, 2, 1);
+    let d = next_cell(l, c.next);
     let d_start = d.start;
     let d_end = d.end;
     let Number::Value(x) = decimal(&l[d_start..d_end], 255) else {
         return SymbolRow::Bad;
     };
-    let n = trimmed_cell(l, 2, 2);
+    let n = trim(l, d.next, l.len());
     SymbolRow::Row {
         address: a as u16,
         external: x != 0,
@@ -268,13 +301,13 @@ pub fn parse_label_header(l: &[u8]) -> bool
 pub fn parse_label_row(l: &[u8]) -> LabelRow
     ensures { λ r. ⌜ LabelIs (now (l .entry)) r ⌝ }
 {
-    let d = trimmed_cell(l, 1, 1);
+    let n = next_cell(l, 0);
+    let d = trim(l, n.next, l.len());
     let d_start = d.start;
     let d_end = d.end;
     let Number::Value(i) = decimal(&l[d_start..d_end], 0xFFFF_FFFF_FFFF_FFFF) else {
         return LabelRow::Bad;
     };
-    let n = trimmed_cell(l, 1, 0);
     LabelRow::Row {
         start: n.start,
         end: n.end,

@@ -7,7 +7,7 @@ use lib.ListN.{length}
 use denote.Ref.{now}
 use Rattle.text_lines.specs.Groups.{partsFrom}
 use Rattle.text_rows.specs.Rows.{rowsIn}
-use Rattle.text_rows.specs.Steps.{RowEnd, NextTable, TableAt}
+use Rattle.text_rows.specs.Steps.{RowHere, NextTable, TableAt}
 use Rattle.text_rows.proofs.StepLaws.{Seeking, found-row, found-table, found-none}
 use Rattle.text_rows.proofs.next_place.Statement.{statement}
 use Rattle.text_rows.proofs.next_place.Tie as tie
@@ -26,12 +26,13 @@ returns c =
     let d = c .before in
     let l = d .before .before .before .loop in
     let a = d .before .before .before .before .before .args in
-    found-row _ _ _ _ (l .inv) _ (subst (RowEnd (a .kind) (now (a .t)) (l .at)) (d .row .given .1) (d .before .before .row-end .ensures))
+    let f = subst (RowHere (a .kind) (now (a .t)) (l .at)) (d .row .given .1) (d .before .before .row-at .ensures) in
+    (found-row _ _ _ _ (l .inv) _ _ (f .0), f .1)
 
 ended : (c : tie.After-enum-told Inv-loop μ-loop) → rowsIn (c .before .before .before .before .before .args .kind) 0 (partsFrom (now (c .before .before .before .before .before .args .t)) (c .before .before .before .loop .at) .before) ≡ []
 ended c =
     let a = c .before .before .before .before .before .args in
-    subst (RowEnd (a .kind) (now (a .t)) (c .before .before .before .loop .at)) (c .enum-told .given .1) (c .before .before .row-end .ensures)
+    subst (RowHere (a .kind) (now (a .t)) (c .before .before .before .loop .at)) (c .enum-told .given .1) (c .before .before .row-at .ensures)
 
 table : (c : tie.After-n Inv-loop μ-loop) → TableAt (c .before .before .before .before .before .before .before .before .args .kind) (now (c .before .before .before .before .before .before .before .before .args .t)) (c .before .before .before .before .before .before .loop .at) (c .n .given .0 .0)
 table c =

@@ -1,0 +1,16 @@
+-- A row's cells, one after the other.
+-- Assumes nothing.
+use mathlib.Core.Path.{_≡_}
+use mathlib.Core.List.{List, []}
+use Prim.Native.Nat.{ℕ, _≤_}
+use lib.ListN.{length, drop, getD}
+use Rattle.format.specs.Utf8.{trim}
+use Rattle.format.specs.TextReader.{splitn}
+use Rattle.trim.specs.Span.{Spans}
+use Rattle.text_tables.specs.declared.Cell.{Cell}
+
+-- the first cell from a place on, trimmed, and where the row goes on after its divider
+pub record CellAt (l : List ℕ) (at : ℕ) (r : Cell) : Type 0 where
+  pub cell : Spans l (r .start) (r .end) (trim (getD (splitn 1 (drop at l)) 0 []))
+  pub inside : r .next ≤ length l
+  pub rest : drop (r .next) l ≡ getD (splitn 1 (drop at l)) 1 []
