@@ -8,10 +8,9 @@ use Rattle.format.specs.Basics.{if_then_else_, isEmpty, ascii}
 use Rattle.format.specs.TextWriter.{textLine, spaces, symbolHeader, labelHeader}
 use Rattle.format.specs.Utf8.{characters}
 use Rattle.text_numerals.proofs.DigitLaws.{spaces-length}
-use borrow.Author.Tests.{le-leb, lt-leb}
 use Rattle.writing.specs.Written.{Put}
 use Rattle.writing.proofs.Parts.{begin, emitted}
-use Rattle.label_tables.specs.Tables.{tableOf, fitting}
+use Rattle.label_tables.specs.Tables.{tableOf}
 
 module _ (header : List ℕ) (line : ℕ → List ℕ) (ps order : List ℕ) where
   abbrev rows : List ℕ → List ℕ
@@ -71,13 +70,6 @@ pub label-header-size : (names indices a b : ℕ) → a ≡ names - 5 → b ≡ 
 label-header-size names indices a b e f =
     ap length (sym (label-header names indices)) ∙ header-length (names - 5) (indices - 5) ∙ omega arith
 
--- A PART THAT IS PUT WHERE IT FITS
+-- AN EMPTY PART
 pub put-nothing : (space : List ℕ) → Put [] space 0 space
 put-nothing space = emitted (begin [] space (omega arith)) refl
-
-module _ (n : ℕ) (part space : List ℕ) where
-  pub fitting-not : length space < n → fitting n part space ≡ []
-  fitting-not h = rw (lt-leb n (length space) h) refl
-
-  pub fitting-is : n ≤ length space → fitting n part space ≡ part
-  fitting-is h = rw (le-leb n (length space) h) refl

@@ -2,21 +2,13 @@
 use mathlib.Core.Path.{_≡_, refl, sym, ap, _∙_}
 use mathlib.Core.List.{List, [], _∷_, _++_, flatMap}
 use mathlib.Core.Option.{none, some}
-use Prim.Native.Nat.{ℕ, _≤_, _<_, max}
+use Prim.Native.Nat.{ℕ, max}
 use native.Mathlib.Omega.{arith}
 use Rattle.format.specs.TextWriter.{widest}
-use Rattle.measuring.specs.Room.{less, lessPart, roomOf}
+use Rattle.measuring.specs.Room.{lessPart, roomOf}
 use Rattle.measuring.specs.declared.Room.{Room}
 use Rattle.measuring.specs.declared.Room.the-variants as room
-use Rattle.measuring.proofs.RoomLaws.{fits, short, part-fits, part-short, less-nothing}
-
--- what an answer says
-module _ (n space : ℕ) (r : Room) (e : roomOf r ≡ less space n) where
-  pub room-fits : (k : ℕ) → r ≡ room.Left k → n ≤ space
-  room-fits k q = fits space n (sym (ap roomOf q) ∙ e) .0
-
-  pub room-lacks : r ≡ room.Short → space < n
-  room-lacks q = short space n (sym (ap roomOf q) ∙ e)
+use Rattle.measuring.proofs.RoomLaws.{part-fits, part-short, less-nothing}
 
 -- a row, and those after it
 module _ (line : ℕ → List ℕ) (ps qs : List ℕ) (p : ℕ) (next : ps ≡ p ∷ qs) where

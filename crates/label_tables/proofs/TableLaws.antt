@@ -1,11 +1,9 @@
 -- The tables by places are the tables of a well formed object's labels, and as long as they are measured. Assumes nothing.
-use mathlib.Core.Path.{_≡_, refl, sym, ap, ap₂, subst, _∙_}
+use mathlib.Core.Path.{_≡_, refl, sym, ap, ap₂, _∙_}
 use mathlib.Core.List.{List, [], _∷_, _++_, map, flatMap}
 use Prim.Native.Nat.{ℕ, _+_, max}
 use native.Mathlib.Omega.{arith}
 use lib.ListN.{length, length-append}
-use lib.Dec.{leb}
-use borrow.Author.Tests.{leb-true, leb-false}
 use Rattle.format.specs.Basics.{Outcome, given, givenOr, if_then_else_, isEmpty, All}
 use Rattle.format.specs.ObjectFile.{Label, ObjectFile, labelKey}
 use Rattle.format.specs.Sorted.{sorted}
@@ -14,14 +12,12 @@ use Rattle.format.specs.TextWriter.{labelHeader, labelRow, byStart, labelTable}
 use Rattle.format.specs.Words.{objectOf}
 use Rattle.format.specs.Records.{emptyObject}
 use Rattle.format.specs.Calls.{checked}
-use Rattle.format.proofs.ListLaws.{by-test, all-map, flatMap-map, flatMap-reordered}
+use Rattle.format.proofs.ListLaws.{all-map, flatMap-map, flatMap-reordered}
 use Rattle.format.proofs.ListFacts.{flatMap-cong}
 use Rattle.format.proofs.OrderLaws.{distinct-front}
 use Rattle.format.proofs.GatherLaws.{Distinct, rises-distinct}
 use Rattle.format.proofs.RisesLaws.{reordered-sorted}
 use Rattle.format.proofs.WordsTrip.{words-only}
-use Rattle.writing.specs.Written.{Put}
-use Rattle.writing.proofs.WriteLaws.{too-short}
 use Rattle.object.specs.Texts.{textBytes}
 use Rattle.object.specs.Access.{labelAt}
 use Rattle.object.proofs.ByteLaws.{text-len, text-bytes}
@@ -34,8 +30,7 @@ use Rattle.label_order.specs.declared.By.the-variants as by
 use Rattle.label_order.proofs.KeyLaws.{all-sorted}
 use Rattle.label_order.proofs.ObjectLaws.{Named, labels-are, labels-named, labels-by-address, labels-by-start}
 use Rattle.label_tables.specs.Rows.{bytesAt, nameAt, rowLabel, symbolLine, labelLine}
-use Rattle.label_tables.specs.Tables.{namesWidth, indicesWidth, tableOf, symbolsOf, labelsOf, symbolsLength, labelsLength, fitting}
-use Rattle.label_tables.proofs.FrameLaws.{put-nothing, fitting-not, fitting-is}
+use Rattle.label_tables.specs.Tables.{namesWidth, indicesWidth, tableOf, symbolsOf, labelsOf, symbolsLength, labelsLength}
 
 -- A LABEL whose name is a text
 module _ (ws : List ℕ) (p : ℕ) (named : Named ws p) where
@@ -175,17 +170,6 @@ module _ (ws : List ℕ) (h : ObjectFile) (formed : objectOf ws ≡ given h) whe
       (flatMap-reordered line (reordered-sorted (λ m. m .start ∷ m .name) ls (distinct-front labelKey (λ m. m .start) ls distinct)))
       ∙ ap length (sym (label-table ls))
 
--- A TABLE THAT IS PUT WHERE IT FITS is a part like others
-fitted : (part space after : List ℕ) (r : ℕ) → Put (fitting (length part) part space) space r after → Put part space r after
-fitted part space after r p =
-    by-test (leb (length part) (length space))
-    (λ t. subst (λ l. Put l space r after) (fitting-is (length part) part space (leb-true (length part) (length space) t)) p)
-    (λ t. let l = leb-false (length part) (length space) t in
-    let e = subst (λ l. Put l space r after) (fitting-not (length part) part space l) p in
-    let n = put-nothing space in
-    let s = too-short part space (length part) refl l in
-    (e .0 ∙ sym (n .0) ∙ s .0, e .1 ∙ sym (n .1) ∙ s .1))
-
 -- WHAT THE CALLS SAY of the tables of a well formed object's labels
 module _ (ws : List ℕ) (z : checked ws ≡ 0) where
   abbrev labels : List Label
@@ -212,16 +196,9 @@ module _ (ws : List ℕ) (z : checked ws ≡ 0) where
   pub labels-room : (room : ℕ) (r : Room) → roomOf r ≡ less room (labelsLength ws) → roomOf r ≡ lessPart room (labelTable labels)
   labels-room room r e = e ∙ ap (less room) labels-size
 
-  -- what the writers do: they need no more room than the tables, as other parts
-  module _ (space after : List ℕ) (r : ℕ) where
-    pub symbols-put : Put (fitting (symbolsLength ws) (symbolsOf ws) space) space r after → Put (symbolTable labels) space r after
-    symbols-put p =
-        let f = formed ws z in
-        let e = symbols-are ws (f .object) (f .is) ∙ ap symbolTable (same (f .object) (f .is)) in
-        fitted (symbolTable labels) space after r (subst (λ l. Put l space r after) (ap₂ (λ n l. fitting n l space) symbols-size e) p)
+  -- what they are
+  pub symbols-text : symbolsOf ws ≡ symbolTable labels
+  symbols-text = let f = formed ws z in symbols-are ws (f .object) (f .is) ∙ ap symbolTable (same (f .object) (f .is))
 
-    pub labels-put : Put (fitting (labelsLength ws) (labelsOf ws) space) space r after → Put (labelTable labels) space r after
-    labels-put p =
-        let f = formed ws z in
-        let e = labels-table-is ws (f .object) (f .is) ∙ ap labelTable (same (f .object) (f .is)) in
-        fitted (labelTable labels) space after r (subst (λ l. Put l space r after) (ap₂ (λ n l. fitting n l space) labels-size e) p)
+  pub labels-text : labelsOf ws ≡ labelTable labels
+  labels-text = let f = formed ws z in labels-table-is ws (f .object) (f .is) ∙ ap labelTable (same (f .object) (f .is))

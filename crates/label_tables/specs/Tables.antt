@@ -3,7 +3,6 @@
 use mathlib.Core.List.{List, [], _++_, flatMap}
 use Prim.Native.Nat.{ℕ}
 use lib.ListN.{length}
-use lib.Dec.{leb}
 use Rattle.format.specs.Basics.{if_then_else_, isEmpty}
 use Rattle.format.specs.Sorted.{sorted}
 use Rattle.format.specs.TextWriter.{decimal, widest, textLine, symbolHeader, labelHeader}
@@ -56,7 +55,3 @@ columnsLength names indices ws =
 
 abbrev pub labelsLength : List ℕ → ℕ
 labelsLength ws = columnsLength (namesWidth ws) (indicesWidth ws) ws
-
--- a part, where so many bytes fit in the room
-abbrev pub fitting : ℕ → List ℕ → List ℕ → List ℕ
-fitting n part space = if leb n (length space) then part else []

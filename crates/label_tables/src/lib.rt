@@ -1,7 +1,5 @@
 // The text writer's two tables of labels, .SYMBOL and .DEBUG's label table: their rows by the labels' places in the words of an object.
 use gather::Found;
-use label_order::By;
-use label_order::Labels;
 use label_order::next_label;
 use measuring::Room;
 use object::body_end;
@@ -18,7 +16,7 @@ use writing::put_u8;
 ghost use mathlib.Core.Path.{_≡_};
 ghost use Prim.Native.Nat.{_+_, _-_, _*_, _%_, _^_, _≤_, _<_, max};
 ghost use mathlib.Core.List.{flatMap};
-ghost use lib.ListN.{length, getD, take};
+ghost use lib.ListN.{length, getD};
 ghost use lib.Dec.{leb};
 ghost use Rattle.format.specs.Utf8.{characters};
 ghost use Rattle.format.specs.TextWriter.{decimal, toRight, textLine, labelHeader};
@@ -30,34 +28,10 @@ ghost use Rattle.object.specs.Texts.{textBytes};
 ghost use Rattle.label_tables.specs.Rows.{nameAt, symbolLine, labelLine, Ascii};
 ghost use Rattle.measuring.specs.Room.{roomOf, less, lessPart};
 ghost use Rattle.label_tables.specs.Tables.{namesWidth, indicesWidth, symbolsLength, columnsLength, labelsLength};
-ghost use Rattle.label_tables.specs.Tables.{byAddress, byStart, symbolsOf, labelsOf, fitting};
 ghost use Rattle.label_order.specs.Labels.{labelPlaces};
 
 // 000's TABLE_DIV.
 const TABLE_DIV: [u8; 3] = [0x20, 0x7C, 0x20];
-
-// .SYMBOL's header: ADDR | EXT | LABEL, and a newline.
-const SYMBOL_HEADER: [u8; 19] = [
-    0x41,
-    0x44,
-    0x44,
-    0x52,
-    0x20,
-    0x7C,
-    0x20,
-    0x45,
-    0x58,
-    0x54,
-    0x20,
-    0x7C,
-    0x20,
-    0x4C,
-    0x41,
-    0x42,
-    0x45,
-    0x4C,
-    0x0A,
-];
 
 // The header of the label table in two parts: LABEL, and after its spaces the divider and INDEX.
 const LABEL: [u8; 5] = [0x4C, 0x41, 0x42, 0x45, 0x4C];
@@ -267,13 +241,13 @@ fn larger(a: usize, b: usize) -> usize
 }
 
 // The widths of the label table's columns.
-struct Widths {
-    names: usize,
-    indices: usize,
+pub struct Widths {
+    pub names: usize,
+    pub indices: usize,
 }
 
 // The longest name in bytes, at least 5, and the longest index, at least 5.
-fn column_widths(ws: &[u32]) -> Widths
+pub fn column_widths(ws: &[u32]) -> Widths
     ensures { λ r. ⌜ (r .names ≡ namesWidth (now (ws .entry))) × (r .indices ≡ indicesWidth (now (ws .entry))) ⌝ }
 {
     let mut names = 5;
@@ -398,106 +372,8 @@ pub fn measure_labels(ws: &[u32], room: usize) -> Room
     label_room(ws, w.names, w.indices, room)
 }
 
-// The rows of .SYMBOL at the first n places of a window.
-fn put_symbol_rows(out: &mut [u8], ws: &[u32], win: &[usize], n: usize) -> usize
-    requires { ⌜ (n ≤ length (now win)) × (length (flatMap (symbolLine (now ws)) (take n (now win))) ≤ length (now out)) ⌝ }
-    ensures { λ r. ⌜ Put (flatMap (symbolLine (now (ws .entry))) (take n (now (win .entry)))) (now (out .entry)) r (now (out .exit)) ⌝ }
-{
-    let mut at = 0;
-    let mut i = 0;
-    while i < n {
-        let p = win[i];
-        at += put_symbol_row(&mut out[at..], ws, p);
-        i += 1;
-    }
-    at
-}
-
-// The rows of the label table at the first n places of a window.
-fn put_label_rows(
-    out: &mut [u8],
-    ws: &[u32],
-    win: &[usize],
-    n: usize,
-    names: usize,
-    indices: usize,
-) -> usize
-    requires { ⌜ (n ≤ length (now win)) × (length (flatMap (labelLine names indices (now ws)) (take n (now win))) ≤ length (now out)) ⌝ }
-    ensures { λ r. ⌜ Put (flatMap (labelLine names indices (now (ws .entry))) (take n (now (win .entry))))
-        (now (out .entry)) r (now (out .exit)) ⌝ }
-{
-    let mut at = 0;
-    let mut i = 0;
-    while i < n {
-        let p = win[i];
-        at += put_label_row(&mut out[at..], ws, p, names, indices);
-        i += 1;
-    }
-    at
-}
-
-// The rows of .SYMBOL, window by window.
-fn put_symbol_windows(out: &mut [u8], ws: &[u32], win: &mut [usize]) -> usize
-    requires { ⌜ (0 < length (now win)) × (length (flatMap (symbolLine (now ws)) (byAddress (now ws))) ≤ length (now out)) ⌝ }
-    ensures { λ r. ⌜ Put (flatMap (symbolLine (now (ws .entry))) (byAddress (now (ws .entry)))) (now (out .entry)) r (now (out .exit)) ⌝ }
-{
-    let mut at = 0;
-    let mut labels = Labels::new(ws, By::Address);
-    loop {
-        let w = labels.next_window(ws, win);
-        at += put_symbol_rows(&mut out[at..], ws, win, w.count);
-        if w.count < win.len() {
-            return at;
-        }
-        labels = w.labels;
-    }
-}
-
-// The rows of the label table, window by window.
-fn put_label_windows(
-    out: &mut [u8],
-    ws: &[u32],
-    win: &mut [usize],
-    names: usize,
-    indices: usize,
-) -> usize
-    requires { ⌜ (0 < length (now win)) × (length (flatMap (labelLine names indices (now ws)) (byStart (now ws))) ≤ length (now out)) ⌝ }
-    ensures { λ r. ⌜ Put (flatMap (labelLine names indices (now (ws .entry))) (byStart (now (ws .entry))))
-        (now (out .entry)) r (now (out .exit)) ⌝ }
-{
-    let mut at = 0;
-    let mut labels = Labels::new(ws, By::Start);
-    loop {
-        let w = labels.next_window(ws, win);
-        at += put_label_rows(&mut out[at..], ws, win, w.count, names, indices);
-        if w.count < win.len() {
-            return at;
-        }
-        labels = w.labels;
-    }
-}
-
-// The table of .SYMBOL; nothing where it doesn't fit.
-pub fn put_symbol_table(out: &mut [u8], ws: &[u32]) -> usize
-    ensures { λ r. ⌜ Put (fitting (symbolsLength (now (ws .entry))) (symbolsOf (now (ws .entry))) (now (out .entry)))
-        (now (out .entry)) r (now (out .exit)) ⌝ }
-{
-    let Room::Left(_) = measure_symbols(ws, out.len()) else {
-        return 0;
-    };
-    let Found::At(_, _) = next_label(ws, 0) else {
-        return 0;
-    };
-    let header = SYMBOL_HEADER;
-    let mut win = [0usize; 4096];
-    let mut at = 0;
-    at += put_bytes(&mut out[at..], &header);
-    at += put_symbol_windows(&mut out[at..], ws, &mut win);
-    at
-}
-
 // The header of the label table, in columns of these widths.
-fn put_label_header(out: &mut [u8], names: usize, indices: usize) -> usize
+pub fn put_label_header(out: &mut [u8], names: usize, indices: usize) -> usize
     ensures { λ r. ⌜ Put (textLine (labelHeader names indices)) (now (out .entry)) r (now (out .exit)) ⌝ }
 {
     let a = past_header(names);
@@ -513,26 +389,5 @@ fn put_label_header(out: &mut [u8], names: usize, indices: usize) -> usize
     at += put_bytes(&mut out[at..], &index);
     at += put_spaces(&mut out[at..], b);
     at += put_u8(&mut out[at..], 0x0A);
-    at
-}
-
-// The label table; nothing where it doesn't fit.
-pub fn put_label_table(out: &mut [u8], ws: &[u32]) -> usize
-    ensures { λ r. ⌜ Put (fitting (labelsLength (now (ws .entry))) (labelsOf (now (ws .entry))) (now (out .entry)))
-        (now (out .entry)) r (now (out .exit)) ⌝ }
-{
-    let w = column_widths(ws);
-    let names = w.names;
-    let indices = w.indices;
-    let Room::Left(_) = label_room(ws, names, indices, out.len()) else {
-        return 0;
-    };
-    let Found::At(_, _) = next_label(ws, 0) else {
-        return 0;
-    };
-    let mut win = [0usize; 4096];
-    let mut at = 0;
-    at += put_label_header(&mut out[at..], names, indices);
-    at += put_label_windows(&mut out[at..], ws, &mut win, names, indices);
     at
 }

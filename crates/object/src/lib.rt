@@ -64,28 +64,20 @@ fn near_end(ws: &[u32], at: usize) -> usize
     i
 }
 
-// 1 for a word that begins a record.
-fn count_head(w: u32) -> u32
-    ensures { λ r. ⌜ (r ≤ 1) × (r ≡ 0 → isHead w ≡ false) ⌝ }
-{
-    if is_head(w) {
-        return 1;
-    }
-    0
-}
-
-// Whether the 16 words from a place on all go on. Heads are counted, so that the loop has no exit in the middle.
+// Whether the 16 words from a place on all go on. The loop has no exit in the middle, so that the words can be compared at once.
 fn is_body_block(ws: &[u32], at: usize) -> bool
     requires { ⌜ at + 16 ≤ length (now ws) ⌝ }
     ensures { λ r. ⌜ (r ≡ true → SameEnd (now (ws .entry)) at (at + 16)) ⌝ }
 {
-    let mut heads: u32 = 0;
+    let mut all = true;
     let mut k = 0;
     while k < 16 {
-        heads += count_head(ws[at + k]);
+        if is_head(ws[at + k]) {
+            all = false;
+        }
         k += 1;
     }
-    heads == 0
+    all
 }
 
 // A place up to which the words go on: past the whole blocks.

@@ -1,6 +1,7 @@
 -- The fixed lines, the label table, a divider line, and the source. Assumes nothing.
 use borrow.Author.Needs.{needs}
-use mathlib.Core.Path.{refl, sym}
+use native.Mathlib.Omega.{arith}
+use mathlib.Core.Path.{refl, sym, ap, subst}
 use mathlib.Core.List.{List, [], _++_, append-nil}
 use Prim.Native.Nat.{ℕ, _^_, _<_}
 use lib.ListN.{length}
@@ -8,10 +9,11 @@ use denote.Ref.{now}
 use Rattle.format.specs.Basics.{ascii}
 use Rattle.format.specs.ObjectFile.{ObjectFile}
 use Rattle.format.specs.TextWriter.{labelTable, barLine}
-use Rattle.writing.proofs.Parts.{State, Emits, after, begin, emit, emitted, within, small, same}
+use Rattle.writing.specs.Written.{Put}
+use Rattle.writing.proofs.Parts.{State, Emits, rest, after, begin, emit, emitted, within, small, same}
 use Rattle.text_escape.proofs.EscapeLaws.{part-room}
 use Rattle.text_lines_out.specs.Walk.{sourceTable}
-use Rattle.label_tables.proofs.TableLaws.{labels-put}
+use Rattle.label_tables.proofs.TableLaws.{labels-text}
 use Rattle.text_write.specs.Tables.{objectIn}
 use Rattle.text_write.specs.Groups.{debugLines, sourcePart, debugGroup, debugText}
 use Rattle.text_write.proofs.put_debug.Statement.{statement}
@@ -63,7 +65,8 @@ module _ (c : tie.After-put-label-table) where
   emits2 =
       let k = start put1 in
       emit (emits1 put1) (labelTable (object k .labels)) (barLine ++ sourcePart (object k)) refl
-      (labels-put (ws k) (s k .pre .0) _ _ _ (c .put-label-table .ensures))
+      (subst (λ (l : List ℕ). Put l (rest (state1 put1)) (c .put-label-table .result) (c .put-label-table .last .0)) (labels-text (ws k) (s k .pre .0))
+      (c .put-label-table .ensures))
 
 module _ (c : tie.After-put-bytes2) where
   abbrev put2 : tie.After-put-label-table
@@ -87,6 +90,13 @@ module _ (c : tie.After-put-source) where
       (after (state3 put3) (c .put-source .result) (c .put-source .last .0))
   emits4 = emit (emits3 put3) (sourceTable (ws (from put3))) [] (sym (append-nil _)) (c .put-source .ensures)
 
+put-label-table-requires : tie.Need-put-label-table-requires
+put-label-table-requires c κs =
+    let p = c .before .before .before in
+    let k = start p in
+    let table = labelTable (object k .labels) in
+    omega (arith, ap length (labels-text (ws k) (s k .pre .0)), part-room (emits1 p) table (barLine ++ sourcePart (object k)) refl)
+
 put-source-requires : tie.Need-put-source-requires
 put-source-requires c κs =
     let p = c .before .before .before in
@@ -105,7 +115,7 @@ put-debug-spec =
     (λ c. within (emits1 (c .before .before)))
     (λ c. within (emits1 (c .before .before)))
     (λ c. search needs)
-    (λ c κs. search needs)
+    put-label-table-requires
     (λ c. let p = c .before .before in small (emits2 p) (long (start (put1 p))))
     (λ c. within (emits2 (c .before .before)))
     (λ c. within (emits2 (c .before .before)))

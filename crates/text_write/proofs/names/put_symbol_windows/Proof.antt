@@ -9,30 +9,29 @@ use denote.Ref.{now}
 use Rattle.gather.specs.Order.{HandsOut}
 use Rattle.writing.proofs.Parts.{State, Emits, after, begin, emit, emitted, within, small, same}
 use Rattle.label_order.specs.Order.{left}
-use Rattle.label_tables.specs.Rows.{labelLine}
-use Rattle.label_tables.specs.Tables.{byStart}
+use Rattle.label_tables.specs.Rows.{symbolLine}
+use Rattle.label_tables.specs.Tables.{byAddress}
 use Rattle.label_tables.proofs.HandedLaws.{handed-few, handed-long, handed-rows, handed-less, handed-last, lent-room}
-use Rattle.label_tables.proofs.put_label_windows.Statement.{statement}
-use Rattle.label_tables.proofs.put_label_windows.Tie as tie
+use Rattle.text_write.proofs.names.put_symbol_windows.Statement.{statement}
+use Rattle.text_write.proofs.names.put_symbol_windows.Tie as tie
 
 abbrev Inv-loop : tie.InvT-loop
-Inv-loop out₀ ws win₀ names indices at₀ labels₀ out win at labels =
+Inv-loop out₀ ws win₀ at₀ labels₀ out win at labels =
     (length win ≡ length win₀)
-    × Emits (flatMap (labelLine names indices ws) (byStart ws)) out₀ (flatMap (labelLine names indices ws) (left ws labels))
-    (record { at = at; out = out })
+    × Emits (flatMap (symbolLine ws) (byAddress ws)) out₀ (flatMap (symbolLine ws) (left ws labels)) (record { at = at; out = out })
 
 abbrev μ-loop : tie.MeasureT-loop
-μ-loop out₀ ws win₀ names indices at₀ labels₀ out win at labels = length (left ws labels)
+μ-loop out₀ ws win₀ at₀ labels₀ out win at labels = length (left ws labels)
 
 loop-holds : tie.Need-loop-holds Inv-loop μ-loop
 loop-holds c =
     let start = c .before .before .before .before in
     let ws = now (start .args .ws) in
-    let line = labelLine (start .args .names) (start .args .indices) ws in
+    let line = symbolLine ws in
     let out = now (start .args .out) in (
       refl,
-      subst (λ l. Emits (flatMap line (byStart ws)) out (flatMap line l) (record { at = 0; out = out })) (sym (c .new .ensures))
-          (begin (flatMap line (byStart ws)) out (start .pre .1)),
+      subst (λ l. Emits (flatMap line (byAddress ws)) out (flatMap line l) (record { at = 0; out = out })) (sym (c .new .ensures))
+          (begin (flatMap line (byAddress ws)) out (start .pre .1)),
     )
 
 -- a window
@@ -47,7 +46,7 @@ module _ (w : tie.After-next-window Inv-loop μ-loop) where
   ws = now (start .args .ws)
 
   abbrev line : ℕ → List ℕ
-  line = labelLine (start .args .names) (start .args .indices) ws
+  line = symbolLine ws
 
   abbrev state : State ℕ
   state = record { at = at-loop .loop .at; out = at-loop .loop .out }
@@ -77,16 +76,16 @@ module _ (w : tie.After-next-window Inv-loop μ-loop) where
   tight = omega arith
 
 -- its rows
-module _ (c : tie.After-put-label-rows Inv-loop μ-loop) where
+module _ (c : tie.After-put-symbol-rows Inv-loop μ-loop) where
   abbrev w : tie.After-next-window Inv-loop μ-loop
   w = c .before .before .before .before .before
 
-  emits : Emits (flatMap (line w) (byStart (ws w))) (now (start w .args .out)) (flatMap (line w) (others w))
-      (after (state w) (c .put-label-rows .result) (c .put-label-rows .last .0))
+  emits : Emits (flatMap (line w) (byAddress (ws w))) (now (start w .args .out)) (flatMap (line w) (others w))
+      (after (state w) (c .put-symbol-rows .result) (c .put-symbol-rows .last .0))
   emits = emit (at-loop w .loop .inv .1) (flatMap (line w) (take (n w) (win w))) (flatMap (line w) (others w)) (split w)
-      (c .put-label-rows .ensures)
+      (c .put-symbol-rows .ensures)
 
-rows-requires : tie.Need-put-label-rows-requires Inv-loop μ-loop
+rows-requires : tie.Need-put-symbol-rows-requires Inv-loop μ-loop
 rows-requires c κs =
     let w = c .before .before .before .before in (
       omega (arith, long w, handed-few (places w) (at-loop w .loop .win) (win w) (others w) (n w) (handed w)),
@@ -112,8 +111,8 @@ loop-less c =
 loop-again : tie.Need-loop-again Inv-loop μ-loop
 loop-again c = let r = c .before .before .before .before .before in (long (w r) ∙ at-loop (w r) .loop .inv .0, emits r)
 
-pub put-label-windows-spec : {M : Type 1} → statement M
-put-label-windows-spec =
+pub put-symbol-windows-spec : {M : Type 1} → statement M
+put-symbol-windows-spec =
     tie.close
     (tie.spec
     Inv-loop

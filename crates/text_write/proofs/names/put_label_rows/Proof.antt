@@ -6,24 +6,24 @@ use Prim.Native.Nat.{ℕ, _+_, _-_, _^_, _≤_, _<_}
 use lib.ListN.{length, take, drop, getD}
 use denote.Ref.{now}
 use Rattle.writing.proofs.Parts.{State, Emits, after, begin, emit, emitted, within, small, same}
-use Rattle.label_tables.specs.Rows.{symbolLine}
+use Rattle.label_tables.specs.Rows.{labelLine}
 use Rattle.label_tables.proofs.HandedLaws.{window-row, window-end}
-use Rattle.label_tables.proofs.put_symbol_rows.Statement.{statement}
-use Rattle.label_tables.proofs.put_symbol_rows.Tie as tie
+use Rattle.text_write.proofs.names.put_label_rows.Statement.{statement}
+use Rattle.text_write.proofs.names.put_label_rows.Tie as tie
 
 abbrev Inv-loop : tie.InvT-loop
-Inv-loop out₀ ws win n at₀ i₀ out at i =
-    (i ≤ n) × Emits (flatMap (symbolLine ws) (take n win)) out₀ (flatMap (symbolLine ws) (drop i (take n win)))
+Inv-loop out₀ ws win n names indices at₀ i₀ out at i =
+    (i ≤ n) × Emits (flatMap (labelLine names indices ws) (take n win)) out₀ (flatMap (labelLine names indices ws) (drop i (take n win)))
     (record { at = at; out = out })
 
 abbrev μ-loop : tie.MeasureT-loop
-μ-loop out₀ ws win n at₀ i₀ out at i = n - i
+μ-loop out₀ ws win n names indices at₀ i₀ out at i = n - i
 
 loop-holds : tie.Need-loop-holds Inv-loop μ-loop
 loop-holds c = (omega arith, begin _ _ (c .before .before .before .pre .1))
 
 -- a row more
-module _ (c : tie.After-put-symbol-row Inv-loop μ-loop) where
+module _ (c : tie.After-put-label-row Inv-loop μ-loop) where
   abbrev turn : tie.In-loop Inv-loop μ-loop
   turn = c .before .before .before
 
@@ -37,7 +37,7 @@ module _ (c : tie.After-put-symbol-row Inv-loop μ-loop) where
   state = record { at = turn .before .loop .at; out = turn .before .loop .out }
 
   abbrev line : ℕ → List ℕ
-  line = symbolLine (now (start .args .ws))
+  line = labelLine (start .args .names) (start .args .indices) (now (start .args .ws))
 
   abbrev win : List ℕ
   win = now (start .args .win)
@@ -46,10 +46,10 @@ module _ (c : tie.After-put-symbol-row Inv-loop μ-loop) where
   n = start .args .n
 
   emits : Emits (flatMap line (take n win)) (now (start .args .out)) (flatMap line (drop (i + 1) (take n win)))
-      (after state (c .put-symbol-row .result) (c .put-symbol-row .last .0))
+      (after state (c .put-label-row .result) (c .put-label-row .last .0))
   emits =
       emit (turn .before .loop .inv .1) (line (getD win i 0)) (flatMap line (drop (i + 1) (take n win)))
-      (window-row line win n i (turn .loop-test .taken) (start .pre .0)) (c .put-symbol-row .ensures)
+      (window-row line win n i (turn .loop-test .taken) (start .pre .0)) (c .put-label-row .ensures)
 
   tight : length (now (start .args .out)) < 2 ^ 64
   tight = omega arith
@@ -63,10 +63,11 @@ same-length c = same (c .before .loop .inv .1)
 returns : tie.Need-returns Inv-loop μ-loop
 returns c =
     let a = c .before .before .before .before .before .args in
-    emitted (c .before .loop .inv .1) (window-end (symbolLine (now (a .ws))) (now (a .win)) (a .n) (c .before .loop .i) (omega arith))
+    emitted (c .before .loop .inv .1)
+    (window-end (labelLine (a .names) (a .indices) (now (a .ws))) (now (a .win)) (a .n) (c .before .loop .i) (omega arith))
 
-pub put-symbol-rows-spec : {M : Type 1} → statement M
-put-symbol-rows-spec =
+pub put-label-rows-spec : {M : Type 1} → statement M
+put-label-rows-spec =
     tie.close
     (tie.spec
     Inv-loop
