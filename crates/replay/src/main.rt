@@ -1,6 +1,7 @@
 // Replays a list of answers on standard input, one case to a line, and prints how many lines there were and how many answers differ.
 // A line is `CALL INPUT ARG NUMBER FIRST SECOND` for a query: a letter, the input in hexadecimal, and numbers of 16, 2, 16 and 16
-// hexadecimal digits; `CALL INPUT NUMBER OUTPUT` for a call that fills a buffer.
+// hexadecimal digits; `CALL INPUT NUMBER OUTPUT` for a call that fills a buffer. Then prints what the clerk's programs make of some files.
+mod conversions;
 mod files;
 mod line;
 mod queries;
@@ -37,4 +38,5 @@ fn main() {
     io::write_all(1, b" lines, ");
     io::print_decimal(1, wrong);
     io::write_all(1, b" differ\n");
+    conversions::show_all();
 }

@@ -7,11 +7,12 @@ ghost use mathlib.Core.List.{[], _∷_};
 ghost use Prim.Native.Nat.{_≤_, min};
 ghost use lib.ListN.{length, take};
 ghost use Rattle.io.specs.Counts.{Counts};
+ghost use Rattle.format.specs.Trips.{text};
 ghost use Rattle.binary_trips.specs.Steps.{Step};
 ghost use Rattle.round_trips.specs.Rows.{formOf, row, rows, Ran};
 use binary_trips::Made;
 use binary_trips::binary_trip;
-use text_trips::text_trip;
+use text_format::TextFormat;
 
 // The forms of trips in a list.
 const BINARY: u16 = 0;
@@ -52,6 +53,27 @@ const TURNED: [u32; 8] = [
     0xA0000201,
     0xE2004342,
 ];
+
+// A text trip: a write of the object in the text form and, if that gives 0, a read of exactly the length filled.
+fn text_trip(object: &[u32], bytes: &mut [u8], words: &mut [u32]) -> Made
+    ensures { λ r. ⌜ Step text (now (object .entry)) (now (bytes .entry)) (now (words .entry)) r (now (words .exit)) ⌝ }
+    ensures { λ r. ⌜ Counts (r .len) (now (words .exit)) ⌝ }
+{
+    let format = TextFormat::new();
+    let written = format.serialize(object, bytes);
+    if written.number != 0 {
+        return Made {
+            number: written.number,
+            len: 0,
+        };
+    }
+    let filled = written.len;
+    let read = format.deserialize(&bytes[..filled], words);
+    Made {
+        number: read.number,
+        len: read.len,
+    }
+}
 
 // A trip of the form with this number; prints its name.
 fn trip(form: u16, object: &[u32], bytes: &mut [u8], words: &mut [u32]) -> Made

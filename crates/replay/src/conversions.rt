@@ -25,7 +25,8 @@ fn show_in_six(file: &[u8]) {
     io::write_all(1, &out[..n]);
 }
 
-fn main() {
+// All of these cases, one after the other.
+pub fn show_all() {
     let header = [0x6Fu8, 0x62, 0x6A, 0x21, 0x10, 0x00, 0x01];
     let text = b"LC-3 OBJ FILE";
     show_text(&header[..6]);
