@@ -13,7 +13,7 @@ use borrow.Author.Tests.{ne-eqb, ltb-true, ltb-false}
 use Rattle.format.specs.Basics.{beginsWith, ascii}
 use Rattle.format.specs.TextReader.{splitOnce, splitn}
 use Rattle.trim.specs.Span.{Spans}
-use Rattle.text_lines.proofs.TestLaws.{by-test, front, and-no}
+use Rattle.text_lines.proofs.TestLaws.{by-test, front, and-no, drop-more}
 use Rattle.text_lines.proofs.LineLaws.{to-end}
 
 -- a divider at a place
@@ -116,6 +116,11 @@ module _ (bs : List ℕ) (e : splitOnce bs ≡ some (take 4 bs, drop 7 bs)) wher
   pub second-four : splitOnce (drop 7 bs) ≡ some (take 4 (drop 7 bs), drop 7 (drop 7 bs)) → take 4 (drop 7 bs) ≡ getD (splitn 2 bs) 1 []
   second-four f =
       sym (ap (λ (l : List (List ℕ)). getD l 1 []) (cells-cut bs 1 4 e) ∙ ap (λ (l : List (List ℕ)). getD l 0 []) (cells-cut (drop 7 bs) 0 4 f))
+
+  pub third-four : splitOnce (drop 7 bs) ≡ some (take 4 (drop 7 bs), drop 7 (drop 7 bs)) → drop 14 bs ≡ getD (splitn 2 bs) 2 []
+  third-four f =
+      sym (ap (λ (l : List (List ℕ)). getD l 2 []) (cells-cut bs 1 4 e) ∙ ap (λ (l : List (List ℕ)). getD l 1 []) (cells-cut (drop 7 bs) 0 4 f)
+      ∙ ap (λ (l : List (List ℕ)). getD l 0 []) (cells-whole (drop 7 (drop 7 bs))) ∙ drop-more bs 7 7)
 
 -- a cell, cut by cut
 module _ (bs : List ℕ) where

@@ -300,6 +300,23 @@ pub fn trimmed_cells(s: &[u8]) -> Cells
     }
 }
 
+// The third cell of a row that is cut at its first two dividers at most, untrimmed: at once where the first two are four bytes wide.
+pub fn third_cell(s: &[u8]) -> Span
+    ensures { λ r. ⌜ Spans (now (s .entry)) (r .start) (r .end) (getD (splitn 2 (now (s .entry))) 2 []) ⌝ }
+{
+    if 14 <= s.len() {
+        if is_four_wide(s, 0) {
+            if is_four_wide(s, 7) {
+                return Span {
+                    start: 14,
+                    end: s.len(),
+                };
+            }
+        }
+    }
+    find_cell(s, 2, 2)
+}
+
 // A trimmed cell has these bytes.
 pub fn cell_is(l: &[u8], k: usize, i: usize, name: &[u8]) -> bool
     ensures { λ r. ⌜ r ≡ eqs (trim (getD (splitn k (now (l .entry))) i [])) (now (name .entry)) ⌝ }
