@@ -7,13 +7,13 @@ use mathlib.Core.Option.{none, some}
 use Prim.Native.Nat.{ℕ, zero, suc, _+_, _-_, _≤_, _<_}
 use native.Mathlib.Omega.{arith}
 use lib.ListN.{length, take, drop, getD, length-drop}
-use lib.Seq.{drop-length, take-nil}
+use lib.Seq.{drop-length, take-nil, getD-drop}
 use lib.Dec.{ltb, eqb}
 use borrow.Author.Tests.{ne-eqb, ltb-true, ltb-false}
 use Rattle.format.specs.Basics.{beginsWith, ascii}
 use Rattle.format.specs.TextReader.{splitOnce, splitn}
 use Rattle.trim.specs.Span.{Spans}
-use Rattle.text_lines.proofs.TestLaws.{by-test, front, and-no}
+use Rattle.text_lines.proofs.TestLaws.{by-test, front, and-no, drop-more}
 use Rattle.text_lines.proofs.LineLaws.{to-end}
 
 -- a divider at a place
@@ -71,6 +71,25 @@ unfolding splitOnce ascii
 cut-none [] n = refl
 cut-none (b ∷ bs) n = rw (n 0 (omega arith), cut-none bs (λ p h. n (suc p) (omega arith)))
 
+-- a cell of four bytes, and a divider
+four : (s : List ℕ) → 6 < length s → (getD s 1 0 ≡ 0x7C → ⊥) → (getD s 2 0 ≡ 0x7C → ⊥) → (getD s 3 0 ≡ 0x7C → ⊥)
+    → getD s 4 0 ≡ 0x20 → getD s 5 0 ≡ 0x7C → getD s 6 0 ≡ 0x20 → splitOnce s ≡ some (take 4 s, drop 7 s)
+four s h a b c d e f = cut-at s 4 (omega arith) before (bar-yes s 4 (omega arith) d e f)
+  where
+    before : (p : ℕ) → p < 4 → barAt s p ≡ false
+    before zero l = bar-no1 s 0 (omega arith) a
+    before (suc zero) l = bar-no1 s 1 (omega arith) b
+    before (suc (suc zero)) l = bar-no1 s 2 (omega arith) c
+    before (suc (suc (suc zero))) l = bar-no1 s 3 (omega arith) (λ q. omega arith)
+    before (suc (suc (suc (suc p)))) l = absurd (omega arith)
+
+pub four-wide : (s : List ℕ) (at : ℕ) → at + 7 ≤ length s → (getD s (at + 1) 0 ≡ 0x7C → ⊥) → (getD s (at + 2) 0 ≡ 0x7C → ⊥)
+    → (getD s (at + 3) 0 ≡ 0x7C → ⊥) → getD s (at + 4) 0 ≡ 0x20 → getD s (at + 5) 0 ≡ 0x7C → getD s (at + 6) 0 ≡ 0x20
+    → splitOnce (drop at s) ≡ some (take 4 (drop at s), drop 7 (drop at s))
+four-wide s at h a b c d e f =
+    four (drop at s) (omega (arith, length-drop at s)) (λ q. a (sym (getD-drop at s 1 0) ∙ q)) (λ q. b (sym (getD-drop at s 2 0) ∙ q))
+    (λ q. c (sym (getD-drop at s 3 0) ∙ q)) (getD-drop at s 4 0 ∙ d) (getD-drop at s 5 0 ∙ e) (getD-drop at s 6 0 ∙ f)
+
 -- cells
 module _ (bs : List ℕ) where
   pub cells-none : (j : ℕ) → getD (splitn 0 bs) (suc j) [] ≡ []
@@ -88,6 +107,20 @@ module _ (bs : List ℕ) where
   pub cells-whole : splitn 0 bs ≡ bs ∷ []
   unfolding splitn
   cells-whole = refl
+
+-- two cells of four bytes
+module _ (bs : List ℕ) (e : splitOnce bs ≡ some (take 4 bs, drop 7 bs)) where
+  pub first-four : take 4 bs ≡ getD (splitn 2 bs) 0 []
+  first-four = sym (ap (λ (l : List (List ℕ)). getD l 0 []) (cells-cut bs 1 4 e))
+
+  pub second-four : splitOnce (drop 7 bs) ≡ some (take 4 (drop 7 bs), drop 7 (drop 7 bs)) → take 4 (drop 7 bs) ≡ getD (splitn 2 bs) 1 []
+  second-four f =
+      sym (ap (λ (l : List (List ℕ)). getD l 1 []) (cells-cut bs 1 4 e) ∙ ap (λ (l : List (List ℕ)). getD l 0 []) (cells-cut (drop 7 bs) 0 4 f))
+
+  pub third-four : splitOnce (drop 7 bs) ≡ some (take 4 (drop 7 bs), drop 7 (drop 7 bs)) → drop 14 bs ≡ getD (splitn 2 bs) 2 []
+  third-four f =
+      sym (ap (λ (l : List (List ℕ)). getD l 2 []) (cells-cut bs 1 4 e) ∙ ap (λ (l : List (List ℕ)). getD l 1 []) (cells-cut (drop 7 bs) 0 4 f)
+      ∙ ap (λ (l : List (List ℕ)). getD l 0 []) (cells-whole (drop 7 (drop 7 bs))) ∙ drop-more bs 7 7)
 
 -- a cell, cut by cut
 module _ (bs : List ℕ) where

@@ -13,7 +13,7 @@ use borrow.Author.Tests.{lt-ltb, le-ltb, eq-eqb, ne-eqb, ltb-true, ltb-false, eq
 use Rattle.format.specs.Basics.{andThen, isEmpty, eqs, ascii}
 use Rattle.format.specs.TextReader.{digitValue, digitsFrom, withoutPlus, belowLimit, parseNumber, hex2u16, maybeHex2u16}
 use Rattle.text_cells.specs.Cells.{digitOr16}
-use Rattle.text_lines.proofs.TestLaws.{by-test, front}
+use Rattle.text_lines.proofs.TestLaws.{by-test, front, within-yes}
 
 pub plus-none : (s : List ℕ) → length s ≡ 0 → drop 0 s ≡ withoutPlus s
 unfolding withoutPlus
@@ -91,6 +91,23 @@ number-none base limit s i e h = rw (← e, drop-of-length-le s {i = i} (omega a
 pub number-from : (base limit : ℕ) (s : List ℕ) (i : ℕ) → drop i s ≡ withoutPlus s → i < length s → belowLimit limit (digitsFrom base 0 (drop i s)) ≡ parseNumber base limit s
 unfolding parseNumber isEmpty
 number-from base limit s i e h = rw (← e, front 0 s i h)
+
+-- decimal digits alone
+module _ (v : ℕ) (s : List ℕ) (i : ℕ) where
+  pub decimal-on : i < length s → 48 ≤ getD s i 0 → getD s i 0 ≤ 57 → digitsFrom 10 (v * 10 + (getD s i 0 - 48)) (drop (i + 1) s) ≡ digitsFrom 10 v (drop i s)
+  unfolding digitOr16
+  decimal-on h l u =
+      let d : digitOr16 (getD s i 0) ≡ getD s i 0 - 48 = simp (within-yes 48 57 (getD s i 0) l u) in
+      ap (λ (x : ℕ). digitsFrom 10 (v * 10 + x) (drop (i + 1) s)) (sym d) ∙ sym (from-on 10 v s i h (omega (arith, d)))
+
+pub digits-alone : (s : List ℕ) (v limit : ℕ) → 0 < length s → digitsFrom 10 0 s ≡ some v → parseNumber 10 limit s ≡ belowLimit limit (some v)
+unfolding parseNumber isEmpty withoutPlus digitsFrom digitValue
+digits-alone [] v limit h e = absurd (omega arith)
+digits-alone (b ∷ bs) v limit h e =
+    by-test (eqb b 0x2B)
+    (λ t. let z : none ≡ some v = sym (ap (λ (x : ℕ). digitsFrom 10 0 (x ∷ bs)) (eqb-true b 0x2B t)) ∙ e in
+    let y : _≡_ {A = ℕ} 0 1 = cc in absurd (omega arith))
+    (λ t. simp t (ap (belowLimit limit) e))
 
 pub hex-no : (s : List ℕ) → (length s ≡ 4 → ⊥) → none ≡ hex2u16 s
 unfolding hex2u16

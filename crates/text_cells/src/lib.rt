@@ -3,14 +3,16 @@ use text_lines::equals;
 use trim::Span;
 use trim::trim;
 ghost use mathlib.Core.Path.{_≡_};
+ghost use mathlib.Core.Bool.{true};
 ghost use mathlib.Core.List.{[]};
+ghost use mathlib.Core.Option.{some};
 ghost use Prim.Native.Nat.{_+_, _-_, _≤_, _<_};
-ghost use lib.ListN.{length, drop, getD};
+ghost use lib.ListN.{length, take, drop, getD};
 ghost use Rattle.format.specs.Basics.{eqs};
 ghost use Rattle.format.specs.Utf8.{trim};
-ghost use Rattle.format.specs.TextReader.{splitn, parseNumber, parseDecimal, hex2u16, maybeHex2u16, withoutPlus};
+ghost use Rattle.format.specs.TextReader.{splitOnce, splitn, parseNumber, parseDecimal, hex2u16, maybeHex2u16, withoutPlus};
 ghost use Rattle.trim.specs.Span.{Spans};
-ghost use Rattle.text_cells.specs.Cells.{digitOr16, numberRead, entryOf, Cut};
+ghost use Rattle.text_cells.specs.Cells.{digitOr16, numberRead, entryOf, DigitsAlone, Cut};
 
 // What a cell says.
 pub enum Number {
@@ -31,26 +33,29 @@ pub enum Divider {
     Nothing,
 }
 
-// The value of a digit; 16 if it is none. By sums, since no branch foresees the digits of a word: from `0` up to `?` the digits end in 0 to 9
-// of 16, and past that the letters in 1 to 6 of 32, which is 9 less than their value.
+// The value of a digit; 16 if it is none.
 pub fn digit(b: u8) -> u64
     ensures { λ r. ⌜ (r ≡ digitOr16 b) × (r ≤ 16) ⌝ }
 {
-    if b < 48 {
-        return 16;
+    match b {
+        0x30 => 0,
+        0x31 => 1,
+        0x32 => 2,
+        0x33 => 3,
+        0x34 => 4,
+        0x35 => 5,
+        0x36 => 6,
+        0x37 => 7,
+        0x38 => 8,
+        0x39 => 9,
+        0x41 | 0x61 => 10,
+        0x42 | 0x62 => 11,
+        0x43 | 0x63 => 12,
+        0x44 | 0x64 => 13,
+        0x45 | 0x65 => 14,
+        0x46 | 0x66 => 15,
+        _ => 16,
     }
-    if 102 < b {
-        return 16;
-    }
-    let letter = b / 64;
-    let place = b % 32;
-    if place < 16 - 15 * letter {
-        return 16;
-    }
-    if 25 - 19 * letter < place {
-        return 16;
-    }
-    (b % 16 + 9 * letter) as u64
 }
 
 // Past a `+`.
@@ -93,11 +98,43 @@ fn read_number(s: &[u8], base: u64, max: u64) -> Number
     Number::Value(v)
 }
 
+// The number that a cell says by decimal digits alone, where the sums fit; of other cells nothing is said.
+fn plain_decimal(s: &[u8]) -> Number
+    ensures { λ r. ⌜ DigitsAlone (now (s .entry)) r ⌝ }
+{
+    if s.len() == 0 {
+        return Number::Nothing;
+    }
+    let mut v: u64 = 0;
+    let mut i = 0;
+    while i < s.len() {
+        let b = s[i];
+        if b < 0x30 {
+            return Number::Nothing;
+        }
+        if 0x39 < b {
+            return Number::Nothing;
+        }
+        if 1844674407370955160 < v {
+            return Number::Nothing;
+        }
+        v = v * 10 + (b - 0x30) as u64;
+        i += 1;
+    }
+    Number::Value(v)
+}
+
 // A decimal number that is at most `max`.
 pub fn decimal(s: &[u8], max: u64) -> Number
     ensures { λ r. ⌜ numberRead r ≡ parseDecimal (max + 1) (now (s .entry)) ⌝ }
 {
-    read_number(s, 10, max)
+    let Number::Value(v) = plain_decimal(s) else {
+        return read_number(s, 10, max);
+    };
+    if max < v {
+        return Number::Nothing;
+    }
+    Number::Value(v)
 }
 
 // Four hexadecimal digits, or three after a `+`: the former without a loop.
@@ -207,6 +244,77 @@ pub fn trimmed_cell(s: &[u8], k: usize, i: usize) -> Span
     let start = c.start;
     let end = c.end;
     trim(s, start, end)
+}
+
+// Whether a cell of four bytes stands at a place, with a divider after it.
+fn is_four_wide(s: &[u8], at: usize) -> bool
+    requires { ⌜ at + 7 ≤ length (now s) ⌝ }
+    ensures { λ r. ⌜ (r ≡ true → splitOnce (drop at (now (s .entry))) ≡ some (take 4 (drop at (now (s .entry))), drop 7 (drop at (now (s .entry))))) ⌝ }
+{
+    if s[at + 4] != 0x20 {
+        return false;
+    }
+    if s[at + 5] != 0x7C {
+        return false;
+    }
+    if s[at + 6] != 0x20 {
+        return false;
+    }
+    if s[at + 1] == 0x7C {
+        return false;
+    }
+    if s[at + 2] == 0x7C {
+        return false;
+    }
+    s[at + 3] != 0x7C
+}
+
+// The first two cells of a row, where they lie.
+pub struct Cells {
+    pub first: Span,
+    pub second: Span,
+}
+
+// The first two cells of a row that is cut at its first two dividers at most, trimmed: at once where each is four bytes wide.
+pub fn trimmed_cells(s: &[u8]) -> Cells
+    ensures { λ r. ⌜ Spans (now (s .entry)) (r .first .start) (r .first .end) (trim (getD (splitn 2 (now (s .entry))) 0 []))
+        × Spans (now (s .entry)) (r .second .start) (r .second .end) (trim (getD (splitn 2 (now (s .entry))) 1 [])) ⌝ }
+{
+    if 14 <= s.len() {
+        if is_four_wide(s, 0) {
+            if is_four_wide(s, 7) {
+                let a = trim(s, 0, 4);
+                let b = trim(s, 7, 11);
+                return Cells {
+                    first: a,
+                    second: b,
+                };
+            }
+        }
+    }
+    let a = trimmed_cell(s, 2, 0);
+    let b = trimmed_cell(s, 2, 1);
+    Cells {
+        first: a,
+        second: b,
+    }
+}
+
+// The third cell of a row that is cut at its first two dividers at most, untrimmed: at once where the first two are four bytes wide.
+pub fn third_cell(s: &[u8]) -> Span
+    ensures { λ r. ⌜ Spans (now (s .entry)) (r .start) (r .end) (getD (splitn 2 (now (s .entry))) 2 []) ⌝ }
+{
+    if 14 <= s.len() {
+        if is_four_wide(s, 0) {
+            if is_four_wide(s, 7) {
+                return Span {
+                    start: 14,
+                    end: s.len(),
+                };
+            }
+        }
+    }
+    find_cell(s, 2, 2)
 }
 
 // A trimmed cell has these bytes.

@@ -447,3 +447,7 @@ escape-of t c d b k h un.Bad i = escape-bad t c d b k h i
 pub plain-more : (t : List ℕ) (a e : ℕ) → Plain t a e → (getD t e 0 ≡ 0x5C → ⊥) → Plain t a (e + 1)
 plain-more t a e h n i p q x =
     by-test (ltb i e) (λ w. h i p (ltb-true i e w) x) (λ w. let z : i ≡ e = omega (arith, ltb-false i e w) in n (ap (λ (j : ℕ). getD t j 0) (sym z) ∙ x))
+
+-- one stretch after another
+pub plain-join : (t : List ℕ) (a m e : ℕ) → Plain t a m → Plain t m e → Plain t a e
+plain-join t a m e f g i p q = by-test (ltb i m) (λ w. f i p (ltb-true i m w)) (λ w. g i (ltb-false i m w) q)

@@ -1,10 +1,11 @@
 // The text reader's source: the bytes of the SOURCE cells as one text, unescaped.
 use text_cells::digit;
-use text_cells::find_cell;
+use text_cells::third_cell;
 use text_lines::Line;
 use text_tables::next_source_line;
 use trim::Span;
 ghost use mathlib.Core.Path.{_≡_};
+ghost use mathlib.Core.Bool.{false};
 ghost use Prim.Native.Nat.{_+_, _-_, _^_, _%_, _≤_, _<_};
 ghost use mathlib.Core.List.{[]};
 ghost use lib.ListN.{length, getD};
@@ -40,11 +41,33 @@ fn at_most(x: usize, most: usize) -> usize
 fn source_cell(l: &[u8]) -> Span
     ensures { λ r. ⌜ Spans (now (l .entry)) (r .start) (r .end) (getD (splitn 2 (now (l .entry))) 2 []) ⌝ }
 {
-    find_cell(l, 2, 2)
+    third_cell(l)
 }
 
-// The next byte of the source column.
+// The next byte of the source column: the next one of a cell, or what is found in later cells.
 pub fn next_byte(t: &[u8], c: Source) -> Byte
+    ensures { λ r. ⌜ NextByte (now (t .entry)) c r ⌝ }
+{
+    let at = c.at;
+    let end = c.end;
+    if end <= at {
+        return find_byte(t, c);
+    }
+    if t.len() < end {
+        return find_byte(t, c);
+    }
+    Byte::Is(
+        t[at],
+        Source {
+            at: at + 1,
+            end: end,
+            next: c.next,
+        },
+    )
+}
+
+// The next byte of the source column, of whatever cell: a way that stays out of the fast one.
+fn find_byte(t: &[u8], c: Source) -> Byte
     ensures { λ r. ⌜ NextByte (now (t .entry)) c r ⌝ }
 {
     let mut at = c.at;
@@ -194,12 +217,47 @@ fn one_token(t: &[u8], c: Source) -> Token
     Token::Scalar(v, g)
 }
 
+// Whether a backslash is among the n bytes from a place on. The loop has no exit in the middle, so that the bytes can be compared at once.
+fn has_backslash(t: &[u8], at: usize, n: usize) -> bool
+    requires { ⌜ at + n ≤ length (now t) ⌝ }
+    ensures { λ r. ⌜ (r ≡ false → Plain (now (t .entry)) at (at + n)) ⌝ }
+{
+    let mut found = false;
+    let mut k = 0;
+    while k < n {
+        if t[at + k] == 0x5C {
+            found = true;
+        }
+        k += 1;
+    }
+    found
+}
+
+// Past the blocks of n bytes without a backslash from a place on.
+fn plain_blocks(t: &[u8], at: usize, end: usize, n: usize) -> usize
+    requires { ⌜ (at ≤ end) × (end ≤ length (now t)) × (0 < n) ⌝ }
+    ensures { λ r. ⌜ (at ≤ r) × (r ≤ end) × Plain (now (t .entry)) at r ⌝ }
+{
+    let mut i = at;
+    while n <= end - i {
+        if has_backslash(t, i, n) {
+            return i;
+        }
+        i += n;
+    }
+    i
+}
+
 // Up to the next backslash before the end.
 fn plain_end(t: &[u8], at: usize, end: usize) -> usize
     requires { ⌜ end ≤ length (now t) ⌝ }
     ensures { λ r. ⌜ (at < r → (r ≤ end) × Plain (now (t .entry)) at r) ⌝ }
 {
-    let mut i = at;
+    if end <= at {
+        return at;
+    }
+    let block = plain_blocks(t, at, end, 16);
+    let mut i = plain_blocks(t, block, end, 8);
     while i < end {
         if t[i] == 0x5C {
             return i;

@@ -7,6 +7,7 @@ use text_cells::find_cell;
 use text_cells::hex2u16;
 use text_cells::maybe_hex2u16;
 use text_cells::trimmed_cell;
+use text_cells::trimmed_cells;
 use text_lines::Group;
 use text_lines::Line;
 use text_lines::Passed;
@@ -381,13 +382,14 @@ pub enum LineRow {
 pub fn parse_line_row(l: &[u8]) -> LineRow
     ensures { λ r. ⌜ lineOf r ≡ lineIn (now (l .entry)) ⌝ }
 {
-    let c = trimmed_cell(l, 2, 0);
+    let cells = trimmed_cells(l);
+    let c = cells.first;
     let c_start = c.start;
     let c_end = c.end;
     let Number::Value(n) = decimal(&l[c_start..c_end], 0xFFFF_FFFF_FFFF_FFFF) else {
         return LineRow::Bad;
     };
-    let d = trimmed_cell(l, 2, 1);
+    let d = cells.second;
     let d_start = d.start;
     let d_end = d.end;
     match maybe_hex2u16(&l[d_start..d_end]) {
