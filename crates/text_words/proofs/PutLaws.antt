@@ -20,8 +20,10 @@ use Rattle.writing.proofs.WriteLaws.{length-into}
 use Rattle.writing.proofs.Parts.{State, Emits, rest, after, begin, emit, emitted, within}
 use Rattle.gather.specs.Window.{HoldsWindow}
 use Rattle.gather.proofs.OrderLaws.{held-front}
-use Rattle.text_rows.specs.Rows.{rowAt}
-use Rattle.text_gather.specs.Order.{HandsOut}
+use Rattle.text_rows.specs.Rows.{rowsFrom, rowAt}
+use Rattle.text_rows.specs.Steps.{FoundAt}
+use Rattle.text_gather.specs.declared.Sorting.{Sorting}
+use Rattle.text_gather.specs.Order.{left, HandsOut}
 use Rattle.text_words.specs.Written.{wordsAt, putEach, PutEach}
 
 -- ONE PART
@@ -166,6 +168,17 @@ rows-at f n i win h k =
 
 pub rows-done : (f : ℕ → List ℕ) (n i : ℕ) (win : List ℕ) → n ≤ i → n ≤ length win → map f (drop i (take n win)) ≡ []
 rows-done f n i win h k = ap (map f) (drop-of-length-le (take n win) {i = i} (omega (arith, length-take-le n win k)))
+
+-- ROWS AS THEY COME: the first of them, and those after it
+pub found-words : (kind : ℕ) (t : List ℕ) (at p next : ℕ) → FoundAt kind t at p next
+    → map recordWords (rowsFrom kind t at) ≡ (wordsAt kind t p ∷ []) ++ map recordWords (rowsFrom kind t next)
+unfolding wordsAt
+found-words kind t at p next f = ap (map recordWords) (f .same)
+
+-- where the keys rise, they are the rows in order
+pub straight-rows : (t : List ℕ) (o : Sorting) → o .rising ≡ true → rowsFrom (o .kind) t (o .at) ≡ left t o
+unfolding left
+straight-rows t o e = simp e
 
 -- WINDOWS: what was handed out, and what is left
 module _ (kind : ℕ) (t : List ℕ) (rows : List Record) (found now : List ℕ) (n : ℕ) (others : List Record) (h : HandsOut kind t rows found now n others) where

@@ -13,7 +13,9 @@ use text_gather::name_at;
 use text_lines::Line;
 use text_lines::Passed;
 use text_lines::next_row;
+use text_rows::Found;
 use text_rows::count_of;
+use text_rows::next_place;
 use writing::put_number_words;
 use writing::put_text_words;
 use writing::put_word;
@@ -32,7 +34,8 @@ ghost use Rattle.text_blocks.specs.Blocks.{wordsIn};
 ghost use Rattle.text_words.specs.Written.{externalAt, indexAt, entryWord, entriesFrom, EntriesOf, wordsAt, PutEach};
 ghost use Rattle.text_words.specs.Room.{roomOf, roomFor, roomAfter};
 ghost use Rattle.format.specs.Sorted.{sorted};
-ghost use Rattle.text_rows.specs.Rows.{rowKey, rowsOf};
+ghost use Rattle.text_rows.specs.Rows.{rowKey, rowsFrom, rowsOf};
+ghost use Rattle.text_gather.specs.Order.{left};
 
 // A relocation: its address and its name.
 fn put_relocation(out: &mut [u32], address: u16, name: &[u8]) -> usize
@@ -236,13 +239,29 @@ fn put_window(out: &mut [u32], t: &[u8], kind: u8, win: &[usize], n: usize) -> u
     at
 }
 
-// The rows of a kind in the order of their keys, window by window.
-fn put_windows(out: &mut [u32], t: &[u8], kind: u8, win: &mut [usize]) -> usize
-    requires { ⌜ 0 < length (now win) ⌝ }
-    ensures { λ r. ⌜ PutEach (map recordWords (sorted rowKey (rowsOf kind (now (t .entry))))) (now (out .entry)) r (now (out .exit)) ⌝ }
+// The rows of a kind from a place on, as they come.
+fn put_straight(out: &mut [u32], t: &[u8], kind: u8, from: usize) -> usize
+    ensures { λ r. ⌜ PutEach (map recordWords (rowsFrom kind (now (t .entry)) from)) (now (out .entry)) r (now (out .exit)) ⌝ }
 {
     let mut at = 0;
-    let mut sorting = Sorting::new(t, kind);
+    let mut row = from;
+    loop {
+        let Found::At(p, next) = next_place(t, kind, row) else {
+            return at;
+        };
+        at += put_row(&mut out[at..], t, kind, p);
+        row = next;
+    }
+}
+
+// The rows that are left to hand out, window by window.
+fn put_windows(out: &mut [u32], t: &[u8], first: Sorting, win: &mut [usize]) -> usize
+    requires { ⌜ 0 < length (now win) ⌝ }
+    ensures { λ r. ⌜ PutEach (map recordWords (left (now (t .entry)) first)) (now (out .entry)) r (now (out .exit)) ⌝ }
+{
+    let kind = first.kind;
+    let mut at = 0;
+    let mut sorting = first;
     loop {
         let w = sorting.next_window(t, win);
         let n = w.count;
@@ -254,12 +273,23 @@ fn put_windows(out: &mut [u32], t: &[u8], kind: u8, win: &mut [usize]) -> usize
     }
 }
 
-// The rows of a kind in the order of their keys.
+// The same, by way of an array.
+fn put_sorted(out: &mut [u32], t: &[u8], sorting: Sorting) -> usize
+    ensures { λ r. ⌜ PutEach (map recordWords (left (now (t .entry)) sorting)) (now (out .entry)) r (now (out .exit)) ⌝ }
+{
+    let mut win = [0usize; 4096];
+    put_windows(out, t, sorting, &mut win)
+}
+
+// The rows of a kind in the order of their keys: without an array where they come in it.
 pub fn put_rows(out: &mut [u32], t: &[u8], kind: u8) -> usize
     ensures { λ r. ⌜ PutEach (map recordWords (sorted rowKey (rowsOf kind (now (t .entry))))) (now (out .entry)) r (now (out .exit)) ⌝ }
 {
-    let mut win = [0usize; 4096];
-    put_windows(out, t, kind, &mut win)
+    let sorting = Sorting::new(t, kind);
+    if sorting.rising {
+        return put_straight(out, t, sorting.kind, sorting.at);
+    }
+    put_sorted(out, t, sorting)
 }
 
 // The room that is left.
@@ -318,13 +348,32 @@ fn window_room(t: &[u8], kind: u8, win: &[usize], n: usize, room: usize) -> Room
     Room::Left(left)
 }
 
-// The room after the rows of a kind, window by window.
-fn windows_room(t: &[u8], kind: u8, win: &mut [usize], room: usize) -> Room
-    requires { ⌜ 0 < length (now win) ⌝ }
-    ensures { λ r. ⌜ roomOf r ≡ roomAfter (map recordWords (sorted rowKey (rowsOf kind (now (t .entry))))) room ⌝ }
+// The room after the rows of a kind from a place on.
+fn straight_room(t: &[u8], kind: u8, from: usize, room: usize) -> Room
+    ensures { λ r. ⌜ roomOf r ≡ roomAfter (map recordWords (rowsFrom kind (now (t .entry)) from)) room ⌝ }
 {
     let mut left = room;
-    let mut sorting = Sorting::new(t, kind);
+    let mut row = from;
+    loop {
+        let Found::At(p, next) = next_place(t, kind, row) else {
+            return Room::Left(left);
+        };
+        let Room::Left(m) = row_room(t, kind, p, left) else {
+            return Room::Short;
+        };
+        left = m;
+        row = next;
+    }
+}
+
+// The room after the rows that are left to hand out, window by window.
+fn windows_room(t: &[u8], first: Sorting, win: &mut [usize], room: usize) -> Room
+    requires { ⌜ 0 < length (now win) ⌝ }
+    ensures { λ r. ⌜ roomOf r ≡ roomAfter (map recordWords (left (now (t .entry)) first)) room ⌝ }
+{
+    let kind = first.kind;
+    let mut left = room;
+    let mut sorting = first;
     loop {
         let w = sorting.next_window(t, win);
         let n = w.count;
@@ -339,10 +388,21 @@ fn windows_room(t: &[u8], kind: u8, win: &mut [usize], room: usize) -> Room
     }
 }
 
+// The same, by way of an array.
+fn sorted_room(t: &[u8], sorting: Sorting, room: usize) -> Room
+    ensures { λ r. ⌜ roomOf r ≡ roomAfter (map recordWords (left (now (t .entry)) sorting)) room ⌝ }
+{
+    let mut win = [0usize; 4096];
+    windows_room(t, sorting, &mut win, room)
+}
+
 // The room after the rows of a kind, a later row with the same key replacing.
 pub fn rows_room(t: &[u8], kind: u8, room: usize) -> Room
     ensures { λ r. ⌜ roomOf r ≡ roomAfter (map recordWords (sorted rowKey (rowsOf kind (now (t .entry))))) room ⌝ }
 {
-    let mut win = [0usize; 4096];
-    windows_room(t, kind, &mut win, room)
+    let sorting = Sorting::new(t, kind);
+    if sorting.rising {
+        return straight_room(t, sorting.kind, sorting.at, room);
+    }
+    sorted_room(t, sorting, room)
 }

@@ -1,35 +1,25 @@
 use borrow.Author.Needs.{needs}
-use mathlib.Core.Path.{_≡_, refl, sym, ap, _∙_, subst}
-use mathlib.Core.List.{List, map}
-use Prim.Native.Nat.{ℕ, _+_, _-_, _<_, _≤_}
+use mathlib.Core.Path.{refl, ap, _∙_}
+use mathlib.Core.List.{map}
+use Prim.Native.Nat.{_+_, _-_}
 use native.Mathlib.Omega.{arith}
 use lib.ListN.{length}
 use denote.Ref.{now}
 use borrow.Rule.Slice.PartMut.{putMid}
-use Rattle.format.specs.Records.{Record}
-use Rattle.format.specs.Sorted.{sorted}
 use Rattle.format.specs.Words.{recordWords}
-use Rattle.text_rows.specs.Rows.{rowKey, rowsOf}
 use Rattle.text_gather.specs.Order.{left}
 use Rattle.text_words.proofs.PutLaws.{Puts, puts-begin, Walks, walk-fits, walk-puts, walk-on, walk-end, walk-less}
 use Rattle.text_words.proofs.put_windows.Statement.{statement}
 use Rattle.text_words.proofs.put_windows.Tie as tie
 
 abbrev Inv-loop : tie.InvT-loop
-Inv-loop out₀ t kind win₀ at₀ sorting₀ out win at sorting = Walks kind t (left t sorting) (sorted rowKey (rowsOf kind t)) out₀ out win₀ win at (sorting .kind)
+Inv-loop out₀ t win₀ kind at₀ sorting₀ out win at sorting = Walks kind t (left t sorting) (left t sorting₀) out₀ out win₀ win at (sorting .kind)
 
 abbrev μ-loop : tie.MeasureT-loop
-μ-loop out₀ t kind win₀ at₀ sorting₀ out win at sorting = length (left t sorting)
+μ-loop out₀ t win₀ kind at₀ sorting₀ out win at sorting = length (left t sorting)
 
 loop-holds : tie.Need-loop-holds Inv-loop μ-loop
-loop-holds c =
-    let a = c .before .before .before .before .args in
-    let all : List Record = sorted rowKey (rowsOf (a .kind) (now (a .t))) in
-    record {
-      same-kind = c .new .ensures .1;
-      window = refl;
-      puts = subst (λ (rows : List Record). Puts (map recordWords rows) (map recordWords all) (now (a .out)) (now (a .out)) 0) (sym (c .new .ensures .0)) (puts-begin (map recordWords all) (now (a .out)));
-    }
+loop-holds c = record { same-kind = refl; window = refl; puts = puts-begin _ _ }
 
 mul-put-window : tie.Need-mul-put-window Inv-loop μ-loop
 mul-put-window c = let p = c .before .before .before .before .loop .inv .puts in let h = p .inside in let k = p .long in search needs
@@ -49,8 +39,8 @@ put-window-requires c κs =
 puts : (c : tie.After-put-window Inv-loop μ-loop) →
     let w = c .before .before .before .before .before in
     let l = w .before .before .loop in
-    let a = w .before .before .before .before .before .before .before .args in
-    Puts (map recordWords (left (now (a .t)) (w .next-window .result .sorting))) (map recordWords (sorted rowKey (rowsOf (a .kind) (now (a .t))))) (now (a .out))
+    let a = w .before .before .before .before .before .before .args in
+    Puts (map recordWords (left (now (a .t)) (w .next-window .result .sorting))) (map recordWords (left (now (a .t)) (a .first))) (now (a .out))
     (putMid (l .at) (length (l .out) - l .at) (l .out) (c .put-window .last .0)) (l .at + c .put-window .result)
 puts c =
     let w = c .before .before .before .before .before in
@@ -80,7 +70,7 @@ loop-less c =
     let d = c .before .before .before .before in
     let w = d .before .before .before .before .before in
     let l = w .before .before .loop in
-    let s = w .before .before .before .before .before .before .before in
+    let s = w .before .before .before .before .before .before in
     walk-less _ _ _ _ _ _ (l .out) _ _ _ (l .out) (l .at) _ _ 0 (l .inv) (w .next-window .ensures .0) (w .next-window .kept .1 .1 .0) (c .before .if1 .left) (s .pre)
 
 loop-again : tie.Need-loop-again Inv-loop μ-loop
@@ -93,4 +83,4 @@ loop-again c =
 pub put-windows-spec : {M : Type 1} → statement M
 put-windows-spec =
     tie.close
-    (tie.spec Inv-loop μ-loop (λ c κs. search needs) loop-holds (λ c κs. search needs) mul-put-window sub-put-window part-put-window-start (λ c. search needs) put-window-requires add-at same-length same-length-2 returns loop-less loop-again)
+    (tie.spec Inv-loop μ-loop loop-holds (λ c κs. search needs) mul-put-window sub-put-window part-put-window-start (λ c. search needs) put-window-requires add-at same-length same-length-2 returns loop-less loop-again)

@@ -1,30 +1,20 @@
 use borrow.Author.Needs.{needs}
-use mathlib.Core.Path.{_≡_, refl, sym, ap, _∙_}
-use mathlib.Core.List.{List, map}
-use Prim.Native.Nat.{ℕ}
-use native.Mathlib.Omega.{arith}
+use mathlib.Core.Path.{refl, sym, ap, _∙_}
 use lib.ListN.{length}
-use denote.Ref.{now}
-use Rattle.format.specs.Records.{Record}
-use Rattle.format.specs.Sorted.{sorted}
-use Rattle.format.specs.Words.{recordWords}
-use Rattle.text_rows.specs.Rows.{rowKey, rowsOf}
 use Rattle.text_gather.specs.Order.{left}
-use Rattle.text_words.specs.Room.{roomOf, roomAfter}
+use Rattle.text_words.specs.Room.{roomOf}
 use Rattle.text_words.proofs.RoomLaws.{Rooms, rooms-fit, rooms-lack, rooms-next, rooms-end, rooms-less}
 use Rattle.text_words.proofs.windows_room.Statement.{statement}
 use Rattle.text_words.proofs.windows_room.Tie as tie
 
 abbrev Inv-loop : tie.InvT-loop
-Inv-loop t kind win₀ room room₀ sorting₀ win m sorting = Rooms kind t (left t sorting) (sorted rowKey (rowsOf kind t)) room m win₀ win (sorting .kind)
+Inv-loop t win₀ room kind room₀ sorting₀ win m sorting = Rooms kind t (left t sorting) (left t sorting₀) room m win₀ win (sorting .kind)
 
 abbrev μ-loop : tie.MeasureT-loop
-μ-loop t kind win₀ room room₀ sorting₀ win m sorting = length (left t sorting)
+μ-loop t win₀ room kind room₀ sorting₀ win m sorting = length (left t sorting)
 
 loop-holds : tie.Need-loop-holds Inv-loop μ-loop
-loop-holds c =
-    let a = c .before .before .before .args in
-    record { same-kind = c .new .ensures .1; window = refl; same = ap (λ (rows : List Record). roomAfter (map recordWords rows) (a .room)) (c .new .ensures .0) }
+loop-holds c = record { same-kind = refl; window = refl; same = refl }
 
 window-room-requires : tie.Need-window-room-requires Inv-loop μ-loop
 window-room-requires c κs =
@@ -62,7 +52,7 @@ loop-less c =
     let r = c .before .before .before .before .before in
     let w = r .before .before .before .before in
     let l = w .before .before .loop in
-    let s = w .before .before .before .before .before .before in
+    let s = w .before .before .before .before .before in
     rooms-less _ _ _ _ _ _ _ _ _ _ _ _ (l .inv) (w .next-window .ensures .0) (w .next-window .kept .1 .1 .0) (c .before .if1 .left) (s .pre)
 
 loop-again : tie.Need-loop-again Inv-loop μ-loop
@@ -76,4 +66,4 @@ loop-again c =
 pub windows-room-spec : {M : Type 1} → statement M
 windows-room-spec =
     tie.close
-    (tie.spec Inv-loop μ-loop (λ c κs. search needs) loop-holds (λ c κs. search needs) window-room-requires (λ c. search needs) (λ c. search needs) same-length returns same-length-2 returns-2 loop-less loop-again)
+    (tie.spec Inv-loop μ-loop loop-holds (λ c κs. search needs) window-room-requires (λ c. search needs) (λ c. search needs) same-length returns same-length-2 returns-2 loop-less loop-again)
