@@ -26,7 +26,7 @@ ghost use Rattle.format.specs.TextReader.{lines, splitn, sameCells, upToBar, pa
 ghost use Rattle.text_tables.specs.Debug.{FirstBar, NextIn, labelView, lineView};
 ghost use Rattle.text_tables.specs.Labels.{LabelIs, NextLabel, labelColumns};
 ghost use Rattle.text_tables.specs.LineRows.{lineIn, lineOf};
-ghost use Rattle.text_tables.specs.RowCells.{CellAt, DividerAt, Aligned};
+ghost use Rattle.text_tables.specs.RowCells.{CellAt, DividerAt, Aligned, IsSpace, Run, WrittenIs};
 ghost use Rattle.format.proofs.TrimLaws.{Visible};
 ghost use Rattle.text_lines.specs.Groups.{partsFrom};
 ghost use Rattle.text_tables.specs.Symbols.{SymIs, NextSymbol, SymbolsChecked, symbolColumns};
@@ -382,8 +382,69 @@ pub fn parse_label_header(l: &[u8]) -> bool
     cell_is(l, 1, 1, &index)
 }
 
-// What a row of the label table says.
-pub fn parse_label_row(l: &[u8]) -> LabelRow
+// Past the visible bytes from a place on.
+fn visible_end(l: &[u8], at: usize) -> usize
+    requires { ⌜ at ≤ length (now l) ⌝ }
+    ensures { λ r. ⌜ Run Visible (now (l .entry)) at r ⌝ }
+{
+    let mut i = at;
+    while i < l.len() {
+        if !is_visible(l[i]) {
+            return i;
+        }
+        i += 1;
+    }
+    i
+}
+
+// Past the spaces from a place on.
+fn spaces_end(l: &[u8], at: usize) -> usize
+    requires { ⌜ at ≤ length (now l) ⌝ }
+    ensures { λ r. ⌜ Run IsSpace (now (l .entry)) at r ⌝ }
+{
+    let mut i = at;
+    while i < l.len() {
+        if l[i] != 0x20 {
+            return i;
+        }
+        i += 1;
+    }
+    i
+}
+
+// Where the name of a row of the label table ends, and where its index begins; in a row that is as it is written.
+pub enum Written {
+    At(usize, usize),
+    Nothing,
+}
+
+// A row of visible bytes, spaces, a divider, spaces, and visible bytes.
+fn find_written(l: &[u8]) -> Written
+    ensures { λ r. ⌜ WrittenIs (now (l .entry)) r ⌝ }
+{
+    let n = visible_end(l, 0);
+    let p = spaces_end(l, n);
+    if p == n {
+        return Written::Nothing;
+    }
+    if l.len() - p < 2 {
+        return Written::Nothing;
+    }
+    if l[p] != 0x7C {
+        return Written::Nothing;
+    }
+    if l[p + 1] != 0x20 {
+        return Written::Nothing;
+    }
+    let d = spaces_end(l, p + 2);
+    if visible_end(l, d) != l.len() {
+        return Written::Nothing;
+    }
+    Written::At(n, d)
+}
+
+// What a row of the label table says, cell by cell.
+fn find_label_row(l: &[u8]) -> LabelRow
     ensures { λ r. ⌜ LabelIs (now (l .entry)) r ⌝ }
 {
     let n = next_cell(l, 0);
@@ -396,6 +457,23 @@ pub fn parse_label_row(l: &[u8]) -> LabelRow
     LabelRow::Row {
         start: n.start,
         end: n.end,
+        index: i,
+    }
+}
+
+// What a row of the label table says: in place where it is as it is written.
+pub fn parse_label_row(l: &[u8]) -> LabelRow
+    ensures { λ r. ⌜ LabelIs (now (l .entry)) r ⌝ }
+{
+    let Written::At(n, d) = find_written(l) else {
+        return find_label_row(l);
+    };
+    let Number::Value(i) = decimal(&l[d..], 0xFFFF_FFFF_FFFF_FFFF) else {
+        return LabelRow::Bad;
+    };
+    LabelRow::Row {
+        start: 0,
+        end: n,
         index: i,
     }
 }
