@@ -2,7 +2,7 @@
 -- Assumes nothing.
 use mathlib.Core.Path.{_≡_, refl, sym, ap, _∙_}
 use mathlib.Core.Bool.{true, false}
-use mathlib.Core.List.{List, [], _∷_}
+use mathlib.Core.List.{List, [], _∷_, _++_}
 use mathlib.Core.Option.{Option, none, some}
 use Prim.Native.Nat.{ℕ, suc, _+_, _-_, _≤_, _<_}
 use native.Mathlib.Omega.{arith}
@@ -16,7 +16,12 @@ use Rattle.trim.specs.declared.Span.{Span}
 use Rattle.text_lines.proofs.TestLaws.{by-test}
 use Rattle.text_lines.proofs.LineLaws.{to-end, length-part, part-inside}
 use Rattle.text_tables.specs.declared.Cell.{Cell}
-use Rattle.text_tables.specs.RowCells.{CellAt}
+use Rattle.format.specs.Basics.{All}
+use Rattle.format.specs.TextWriter.{spaces, tableDiv}
+use Rattle.format.proofs.TrimLaws.{Visible, Solid, visible-solid, trim-solid, trim-left}
+use Rattle.format.proofs.CellLaws.{cells-2, undivided-solid, undivided-left}
+use borrow.Author.Tests.{ne-eqb}
+use Rattle.text_tables.specs.RowCells.{CellAt, DividerAt, Aligned}
 
 -- what stands after the first divider begins three bytes after what stands before it
 RestIs : List ℕ → Option (List ℕ × List ℕ) → Type 0
@@ -136,3 +141,65 @@ module _ (l : List ℕ) (c : Cell) (x : CellAt l 0 c) where
           same = r .same
               ∙ ap trim (to-end l (d .next) ∙ y .rest ∙ ap (λ (bs : List ℕ). getD (splitn 1 bs) 1 []) (x .rest) ∙ sym (cells-two l .2));
         }
+
+-- A ROW OF .SYMBOL that has its cells where they are written
+spread : (l : List ℕ) → 13 ≤ length l
+    → l ≡ getD l 0 0 ∷ getD l 1 0 ∷ getD l 2 0 ∷ getD l 3 0 ∷ getD l 4 0 ∷ getD l 5 0 ∷ getD l 6 0 ∷ getD l 7 0 ∷ getD l 8 0 ∷ getD l 9 0 ∷ getD l 10 0 ∷ getD l 11 0 ∷ getD l 12 0 ∷ drop 13 l
+spread [] le = absurd (omega arith)
+spread (a ∷ []) le = absurd (omega arith)
+spread (a ∷ b ∷ []) le = absurd (omega arith)
+spread (a ∷ b ∷ c ∷ []) le = absurd (omega arith)
+spread (a ∷ b ∷ c ∷ d ∷ []) le = absurd (omega arith)
+spread (a ∷ b ∷ c ∷ d ∷ e ∷ []) le = absurd (omega arith)
+spread (a ∷ b ∷ c ∷ d ∷ e ∷ f ∷ []) le = absurd (omega arith)
+spread (a ∷ b ∷ c ∷ d ∷ e ∷ f ∷ g ∷ []) le = absurd (omega arith)
+spread (a ∷ b ∷ c ∷ d ∷ e ∷ f ∷ g ∷ h ∷ []) le = absurd (omega arith)
+spread (a ∷ b ∷ c ∷ d ∷ e ∷ f ∷ g ∷ h ∷ i ∷ []) le = absurd (omega arith)
+spread (a ∷ b ∷ c ∷ d ∷ e ∷ f ∷ g ∷ h ∷ i ∷ j ∷ []) le = absurd (omega arith)
+spread (a ∷ b ∷ c ∷ d ∷ e ∷ f ∷ g ∷ h ∷ i ∷ j ∷ k ∷ []) le = absurd (omega arith)
+spread (a ∷ b ∷ c ∷ d ∷ e ∷ f ∷ g ∷ h ∷ i ∷ j ∷ k ∷ l ∷ []) le = absurd (omega arith)
+spread (a ∷ b ∷ c ∷ d ∷ e ∷ f ∷ g ∷ h ∷ i ∷ j ∷ k ∷ l ∷ m ∷ xs) le = refl
+
+module _ (l : List ℕ) (n : 13 ≤ length l) (x : DividerAt l 4) (y : DividerAt l 10) (p : getD l 7 0 ≡ 0x20) (q : getD l 8 0 ≡ 0x20)
+    (d : 0x30 ≤ getD l 9 0) (e : getD l 9 0 ≤ 0x39)
+    (v : All Visible (getD l 0 0 ∷ getD l 1 0 ∷ getD l 2 0 ∷ getD l 3 0 ∷ [])) where
+  address : List ℕ
+  address = getD l 0 0 ∷ getD l 1 0 ∷ getD l 2 0 ∷ getD l 3 0 ∷ []
+
+  external : List ℕ
+  external = getD l 9 0 ∷ []
+
+  digit : Solid external
+  unfolding external
+  digit = visible-solid (getD l 9 0 ∷ []) ((omega (arith, d), omega (arith, e)), tt)
+
+  shape : l ≡ address ++ tableDiv ++ (spaces 2 ++ external) ++ tableDiv ++ drop 13 l
+  unfolding address external ascii
+  shape = spread l n ∙ rw (x .0, x .1, x .2, y .0, y .1, y .2, p, q) refl
+
+  cells : splitn 2 l ≡ address ∷ (spaces 2 ++ external) ∷ drop 13 l ∷ []
+  unfolding address external
+  cells =
+      ap (splitn 2) shape
+      ∙ cells-2 address (spaces 2 ++ external) (drop 13 l) (undivided-solid address (visible-solid address v))
+      (undivided-left 2 external (undivided-solid external digit) (ne-eqb 0x7C (getD l 9 0) (λ z. omega (arith, e))))
+
+  pub aligned : Aligned l
+  unfolding address external
+  aligned =
+      record {
+        first = record { ordered = omega arith; inside = omega (arith, n); same = ap (take 4) (spread l n) ∙ sym (ap (λ (cs : List (List ℕ)). trim (getD cs 0 [])) cells ∙ trim-solid address (visible-solid address v)) };
+        second =
+            record {
+              ordered = omega arith;
+              inside = omega (arith, n);
+              same = ap (λ (z : List ℕ). take 1 (drop 9 z)) (spread l n)
+                  ∙ sym (ap (λ (cs : List (List ℕ)). trim (getD cs 1 [])) cells ∙ trim-left 2 external digit);
+            };
+        inside = n;
+        third = sym (ap (λ (cs : List (List ℕ)). getD cs 2 []) cells);
+      }
+
+pub aligned-third : (l : List ℕ) → Aligned l → (u : Span) → Trimmed trim trimSpan l 13 (length l) u → Spans l (u .start) (u .end) (trim (getD (splitn 2 l) 2 []))
+aligned-third l c u s =
+    let r = s .1 in record { ordered = r .ordered; inside = r .inside; same = r .same ∙ ap trim (to-end l 13 ∙ c .third) }

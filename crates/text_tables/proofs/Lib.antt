@@ -4,4 +4,5 @@ pub mod DebugLaws
 pub mod LabelLaws
 pub mod LineRowLaws
 pub mod CellLaws
+pub mod WrittenLaws
 pub mod GroupLaws

@@ -16,8 +16,9 @@ use text_lines::has_row;
 use text_lines::next_row;
 use trim::trim;
 ghost use mathlib.Core.Path.{_≡_};
+ghost use mathlib.Core.Bool.{true};
 ghost use mathlib.Core.List.{map};
-ghost use Prim.Native.Nat.{_+_, _-_, _≤_};
+ghost use Prim.Native.Nat.{_+_, _-_, _≤_, _<_};
 ghost use lib.ListN.{length};
 ghost use Rattle.format.specs.Basics.{isSome};
 ghost use Rattle.format.specs.Records.{emptyObject};
@@ -26,7 +27,8 @@ ghost use Rattle.format.specs.TextReader.{lines, splitn, sameCells, upToBar, pa
 ghost use Rattle.text_tables.specs.Debug.{FirstBar, NextIn, labelView, lineView};
 ghost use Rattle.text_tables.specs.Labels.{LabelIs, NextLabel, labelColumns};
 ghost use Rattle.text_tables.specs.LineRows.{lineIn, lineOf};
-ghost use Rattle.text_tables.specs.RowCells.{CellAt};
+ghost use Rattle.text_tables.specs.RowCells.{CellAt, DividerAt, Aligned, IsSpace, Run, WrittenIs};
+ghost use Rattle.format.proofs.TrimLaws.{Visible};
 ghost use Rattle.text_lines.specs.Groups.{partsFrom};
 ghost use Rattle.text_tables.specs.Symbols.{SymIs, NextSymbol, SymbolsChecked, symbolColumns};
 ghost use Rattle.format.specs.Calls.{refusalOf};
@@ -106,8 +108,8 @@ fn next_cell(l: &[u8], at: usize) -> Cell
     }
 }
 
-// What a row of .SYMBOL says.
-pub fn parse_symbol_row(l: &[u8]) -> SymbolRow
+// What a row of .SYMBOL says, cell by cell.
+fn find_symbol_row(l: &[u8]) -> SymbolRow
     ensures { λ r. ⌜ SymIs (now (l .entry)) r ⌝ }
 {
     let c = next_cell(l, 0);
@@ -123,6 +125,89 @@ pub fn parse_symbol_row(l: &[u8]) -> SymbolRow
         return SymbolRow::Bad;
     };
     let n = trim(l, d.next, l.len());
+    SymbolRow::Row {
+        address: a as u16,
+        external: x != 0,
+        start: n.start,
+        end: n.end,
+    }
+}
+
+// From `!` up to `~`.
+fn is_visible(b: u8) -> bool
+    ensures { λ r. ⌜ (r ≡ true → Visible b) ⌝ }
+{
+    if b < 0x21 {
+        return false;
+    }
+    b < 0x7F
+}
+
+// A divider stands at a place.
+fn is_divider(l: &[u8], at: usize) -> bool
+    requires { ⌜ at + 2 < length (now l) ⌝ }
+    ensures { λ r. ⌜ (r ≡ true → DividerAt (now (l .entry)) at) ⌝ }
+{
+    if l[at] != 0x20 {
+        return false;
+    }
+    if l[at + 1] != 0x7C {
+        return false;
+    }
+    l[at + 2] == 0x20
+}
+
+// Whether a row of .SYMBOL has its cells where they are written: four visible bytes, and two spaces and a digit.
+fn is_aligned(l: &[u8]) -> bool
+    ensures { λ r. ⌜ (r ≡ true → Aligned (now (l .entry))) ⌝ }
+{
+    if l.len() < 13 {
+        return false;
+    }
+    if !is_divider(l, 4) {
+        return false;
+    }
+    if !is_divider(l, 10) {
+        return false;
+    }
+    if l[7] != 0x20 {
+        return false;
+    }
+    if l[8] != 0x20 {
+        return false;
+    }
+    if l[9] < 0x30 {
+        return false;
+    }
+    if 0x39 < l[9] {
+        return false;
+    }
+    if !is_visible(l[0]) {
+        return false;
+    }
+    if !is_visible(l[1]) {
+        return false;
+    }
+    if !is_visible(l[2]) {
+        return false;
+    }
+    is_visible(l[3])
+}
+
+// What a row of .SYMBOL says: in place where the cells are as wide as they are written.
+pub fn parse_symbol_row(l: &[u8]) -> SymbolRow
+    ensures { λ r. ⌜ SymIs (now (l .entry)) r ⌝ }
+{
+    if !is_aligned(l) {
+        return find_symbol_row(l);
+    }
+    let Number::Value(a) = hex2u16(&l[0..4]) else {
+        return SymbolRow::Bad;
+    };
+    let Number::Value(x) = decimal(&l[9..10], 255) else {
+        return SymbolRow::Bad;
+    };
+    let n = trim(l, 13, l.len());
     SymbolRow::Row {
         address: a as u16,
         external: x != 0,
@@ -298,8 +383,69 @@ pub fn parse_label_header(l: &[u8]) -> bool
     cell_is(l, 1, 1, &index)
 }
 
-// What a row of the label table says.
-pub fn parse_label_row(l: &[u8]) -> LabelRow
+// Past the visible bytes from a place on.
+fn visible_end(l: &[u8], at: usize) -> usize
+    requires { ⌜ at ≤ length (now l) ⌝ }
+    ensures { λ r. ⌜ Run Visible (now (l .entry)) at r ⌝ }
+{
+    let mut i = at;
+    while i < l.len() {
+        if !is_visible(l[i]) {
+            return i;
+        }
+        i += 1;
+    }
+    i
+}
+
+// Past the spaces from a place on.
+fn spaces_end(l: &[u8], at: usize) -> usize
+    requires { ⌜ at ≤ length (now l) ⌝ }
+    ensures { λ r. ⌜ Run IsSpace (now (l .entry)) at r ⌝ }
+{
+    let mut i = at;
+    while i < l.len() {
+        if l[i] != 0x20 {
+            return i;
+        }
+        i += 1;
+    }
+    i
+}
+
+// Where the name of a row of the label table ends, and where its index begins; in a row that is as it is written.
+pub enum Written {
+    At(usize, usize),
+    Nothing,
+}
+
+// A row of visible bytes, spaces, a divider, spaces, and visible bytes.
+fn find_written(l: &[u8]) -> Written
+    ensures { λ r. ⌜ WrittenIs (now (l .entry)) r ⌝ }
+{
+    let n = visible_end(l, 0);
+    let p = spaces_end(l, n);
+    if p == n {
+        return Written::Nothing;
+    }
+    if l.len() - p < 2 {
+        return Written::Nothing;
+    }
+    if l[p] != 0x7C {
+        return Written::Nothing;
+    }
+    if l[p + 1] != 0x20 {
+        return Written::Nothing;
+    }
+    let d = spaces_end(l, p + 2);
+    if visible_end(l, d) != l.len() {
+        return Written::Nothing;
+    }
+    Written::At(n, d)
+}
+
+// What a row of the label table says, cell by cell.
+fn find_label_row(l: &[u8]) -> LabelRow
     ensures { λ r. ⌜ LabelIs (now (l .entry)) r ⌝ }
 {
     let n = next_cell(l, 0);
@@ -312,6 +458,23 @@ pub fn parse_label_row(l: &[u8]) -> LabelRow
     LabelRow::Row {
         start: n.start,
         end: n.end,
+        index: i,
+    }
+}
+
+// What a row of the label table says: in place where it is as it is written.
+pub fn parse_label_row(l: &[u8]) -> LabelRow
+    ensures { λ r. ⌜ LabelIs (now (l .entry)) r ⌝ }
+{
+    let Written::At(n, d) = find_written(l) else {
+        return find_label_row(l);
+    };
+    let Number::Value(i) = decimal(&l[d..], 0xFFFF_FFFF_FFFF_FFFF) else {
+        return LabelRow::Bad;
+    };
+    LabelRow::Row {
+        start: 0,
+        end: n,
         index: i,
     }
 }

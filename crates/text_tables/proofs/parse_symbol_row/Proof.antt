@@ -1,4 +1,5 @@
 use borrow.Author.Needs.{needs}
+use borrow.Author.Tests.{not-false}
 use native.Mathlib.Omega.{arith}
 use mathlib.Core.Path.{_≡_, sym, ap, _∙_}
 use mathlib.Core.List.{[]}
@@ -7,71 +8,113 @@ use denote.Ref.{now}
 use lib.ListN.{getD}
 use Rattle.format.specs.Utf8.{trim}
 use Rattle.format.specs.TextReader.{splitn, hex2u16, parseNumber}
-use Rattle.trim.specs.Span.{Spans}
 use Rattle.text_cells.specs.Cells.{numberRead}
 use Rattle.text_cells.proofs.NumberLaws.{hex-small}
-use Rattle.text_tables.proofs.CellLaws.{first-of-three, second-of-three, third-of-three}
+use Rattle.text_tables.specs.RowCells.{Aligned}
+use Rattle.text_tables.proofs.CellLaws.{aligned-third}
 use Rattle.text_tables.proofs.SymbolLaws.{sym-bad0, sym-bad1, sym-row}
 use Rattle.text_tables.proofs.parse_symbol_row.Statement.{statement}
 use Rattle.text_tables.proofs.parse_symbol_row.Tie as tie
 
--- the ADDR cell, and its number
-first : (c : tie.After-next-cell) → let l = now (c .before .before .args .l) in
-    Spans l (c .next-cell .result .start) (c .next-cell .result .end) (trim (getD (splitn 2 l) 0 []))
-first c = first-of-three _ (c .next-cell .result) (c .next-cell .ensures)
+cells : (c : tie.Else1) → Aligned (now (c .before .before .before .args .l))
+cells c = c .before .is-aligned .ensures (not-false _ (c .if1 .left))
 
-abbrev cell : tie.After-known-told → tie.After-next-cell
-cell c = c .before .before .before .before .before
+abbrev plain : tie.After-known-told → tie.Else1
+plain c = c .before .before .before .before .before
 
-address : (c : tie.After-known-told) → some (c .before .a .given .0 .0) ≡ hex2u16 (trim (getD (splitn 2 (now (cell c .before .before .args .l))) 0 []))
-address c = sym (ap numberRead (c .before .a .given .1)) ∙ c .before .before .before .hex2u16 .ensures ∙ ap hex2u16 (first (cell c) .same)
+address : (c : tie.After-known-told) → some (c .before .a .given .0 .0) ≡ hex2u16 (trim (getD (splitn 2 (now (plain c .before .before .before .args .l))) 0 []))
+address c = sym (ap numberRead (c .before .a .given .1)) ∙ c .before .before .before .hex2u16 .ensures ∙ ap hex2u16 (cells (plain c) .first .same)
 
--- the EXT cell
-second : (c : tie.After-next-cell2) → let l = now (cell (c .before) .before .before .args .l) in
-    Spans l (c .next-cell2 .result .start) (c .next-cell2 .result .end) (trim (getD (splitn 2 l) 1 []))
-second c = second-of-three _ (cell (c .before) .next-cell .result) (cell (c .before) .next-cell .ensures) (c .next-cell2 .result) (c .next-cell2 .ensures)
+is-aligned-requires : tie.Need-is-aligned-requires
+is-aligned-requires c κs = search needs
 
-sub-hex2u16 : tie.Need-sub-hex2u16
-sub-hex2u16 c = omega (arith, first c .ordered)
-
-part-hex2u16-start : tie.Need-part-hex2u16-start
-part-hex2u16-start c = first c .ordered
-
-part-hex2u16-end : tie.Need-part-hex2u16-end
-part-hex2u16-end c = first c .inside
+find-symbol-row-requires : tie.Need-find-symbol-row-requires
+find-symbol-row-requires c κs = search needs
 
 returns : tie.Need-returns
-returns c =
-    let h = c .before .before in
-    sym-bad0 _ (sym (ap numberRead (c .enum-told .given .1)) ∙ h .hex2u16 .ensures ∙ ap hex2u16 (first (h .before .before) .same))
+returns c = search needs
 
-next-cell-requires-2 : tie.Need-next-cell-requires-2
-next-cell-requires-2 c κs = cell c .next-cell .ensures .inside
+sub-hex2u16 : tie.Need-sub-hex2u16
+sub-hex2u16 c = search needs
 
-sub-decimal : tie.Need-sub-decimal
-sub-decimal c = omega (arith, second c .ordered)
+part-hex2u16-start : tie.Need-part-hex2u16-start
+part-hex2u16-start c = search needs
 
-part-decimal-start : tie.Need-part-decimal-start
-part-decimal-start c = second c .ordered
+part-hex2u16-end : tie.Need-part-hex2u16-end
+part-hex2u16-end c = cells c .first .inside
 
-part-decimal-end : tie.Need-part-decimal-end
-part-decimal-end c = second c .inside
+hex2u16-requires : tie.Need-hex2u16-requires
+hex2u16-requires c κs = search needs
+
+enum-known-a : tie.Need-enum-known-a
+enum-known-a c = search needs
+
+enum-told : tie.Need-enum-told
+enum-told c = search needs
 
 returns-2 : tie.Need-returns-2
 returns-2 c =
-    let x = c .before .before in
-    let d = x .before .before in
-    sym-bad1 _ _ (address (d .before)) (sym (ap numberRead (c .enum-told2 .given .1)) ∙ x .decimal .ensures ∙ ap (parseNumber 10 256) (second d .same))
+    let h = c .before .before in
+    sym-bad0 _ (sym (ap numberRead (c .enum-told .given .1)) ∙ h .hex2u16 .ensures ∙ ap hex2u16 (cells (h .before .before) .first .same))
 
-cast-t20 : tie.Need-cast-t20
-cast-t20 c = record { fits = hex-small _ _ (address (c .before .before .before .before .before .before .before)) }
+sub-decimal : tie.Need-sub-decimal
+sub-decimal c = search needs
+
+part-decimal-start : tie.Need-part-decimal-start
+part-decimal-start c = search needs
+
+part-decimal-end : tie.Need-part-decimal-end
+part-decimal-end c = cells (plain c) .second .inside
+
+decimal-requires : tie.Need-decimal-requires
+decimal-requires c κs = search needs
+
+enum-known-x : tie.Need-enum-known-x
+enum-known-x c = search needs
+
+enum-told-2 : tie.Need-enum-told-2
+enum-told-2 c = search needs
 
 returns-3 : tie.Need-returns-3
 returns-3 c =
+    let x = c .before .before in
+    let k = x .before .before in
+    sym-bad1 _ _ (address k) (sym (ap numberRead (c .enum-told2 .given .1)) ∙ x .decimal .ensures ∙ ap (parseNumber 10 256) (cells (plain k) .second .same))
+
+trim-requires : tie.Need-trim-requires
+trim-requires c κs = search needs
+
+cast-t16 : tie.Need-cast-t16
+cast-t16 c = record { fits = hex-small _ _ (address (c .before .before .before .before .before .before)) }
+
+returns-4 : tie.Need-returns-4
+returns-4 c =
     let x = c .before .before .before .before in
-    let d = x .before .before in
-    let n = third-of-three _ (cell (d .before) .next-cell .result) (cell (d .before) .next-cell .ensures) (d .next-cell2 .result) (d .next-cell2 .ensures) (c .trim .result) (c .trim .ensures) in
-    (n .ordered, n .inside, sym-row _ _ _ (c .trim .result .start) (c .trim .result .end) (address (d .before)) (sym (ap numberRead (c .before .before .x .given .1)) ∙ x .decimal .ensures ∙ ap (parseNumber 10 256) (second d .same)) (n .same))
+    let k = x .before .before in
+    let n = aligned-third _ (cells (plain k)) (c .trim .result) (c .trim .ensures) in
+    (n .ordered, n .inside, sym-row _ _ _ (c .trim .result .start) (c .trim .result .end) (address k) (sym (ap numberRead (c .before .before .x .given .1)) ∙ x .decimal .ensures ∙ ap (parseNumber 10 256) (cells (plain k) .second .same)) (n .same))
 
 pub parse-symbol-row-spec : {M : Type 1} → statement M
-parse-symbol-row-spec = tie.close (tie.spec (λ c κs. search needs) sub-hex2u16 part-hex2u16-start part-hex2u16-end (λ c κs. search needs) (λ c. search needs) (λ c. search needs) returns next-cell-requires-2 sub-decimal part-decimal-start part-decimal-end (λ c κs. search needs) (λ c. search needs) (λ c. search needs) returns-2 (λ c κs. search needs) cast-t20 returns-3)
+parse-symbol-row-spec =
+    tie.close
+    (tie.spec
+    is-aligned-requires
+    find-symbol-row-requires
+    returns
+    sub-hex2u16
+    part-hex2u16-start
+    part-hex2u16-end
+    hex2u16-requires
+    enum-known-a
+    enum-told
+    returns-2
+    sub-decimal
+    part-decimal-start
+    part-decimal-end
+    decimal-requires
+    enum-known-x
+    enum-told-2
+    returns-3
+    trim-requires
+    cast-t16
+    returns-4)

@@ -1,0 +1,43 @@
+use borrow.Author.Needs.{needs}
+use borrow.Author.Tests.{eqb-true}
+use mathlib.Core.Path.{sym}
+use mathlib.Core.Bool.{true≢false}
+use Rattle.text_tables.proofs.is_divider.Statement.{statement}
+use Rattle.text_tables.proofs.is_divider.Tie as tie
+
+shared-slice-read-if1 : tie.Need-shared-slice-read-if1
+shared-slice-read-if1 c = search needs
+
+returns : tie.Need-returns
+returns c = λ e. absurd (true≢false (sym e))
+
+add-if2 : tie.Need-add-if2
+add-if2 c = search needs
+
+shared-slice-read-if2 : tie.Need-shared-slice-read-if2
+shared-slice-read-if2 c = search needs
+
+returns-2 : tie.Need-returns-2
+returns-2 c = λ e. absurd (true≢false (sym e))
+
+add-result : tie.Need-add-result
+add-result c = search needs
+
+shared-slice-read-result : tie.Need-shared-slice-read-result
+shared-slice-read-result c = search needs
+
+returns-3 : tie.Need-returns-3
+returns-3 c = λ e. (c .before .before .before .if1 .left, c .before .if2 .left, eqb-true _ _ e)
+
+pub is-divider-spec : {M : Type 1} → statement M
+is-divider-spec =
+    tie.close
+    (tie.spec
+    shared-slice-read-if1
+    returns
+    add-if2
+    shared-slice-read-if2
+    returns-2
+    add-result
+    shared-slice-read-result
+    returns-3)
