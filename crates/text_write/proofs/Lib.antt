@@ -4,3 +4,4 @@ pub mod PartLaws
 pub mod OnlyLaws
 pub mod GroupLaws
 pub mod FileLaws
+pub mod PlainLaws

@@ -10,7 +10,10 @@ use source_info::Place;
 use source_info::count_newlines;
 use source_info::source_at;
 use text_escape::measure_line_row;
+use text_escape::measure_plain_row;
+use text_escape::plain_line;
 use text_escape::put_line_row;
+use text_escape::put_plain_row;
 use text_lines_out::Passed;
 use text_lines_out::Plan;
 use text_lines_out::Progress;
@@ -69,8 +72,8 @@ fn next_line(ws: &[u32], at: usize, n: usize, start: usize) -> usize
     n + 1
 }
 
-// The room that a row leaves: a number, its address if it is known, and the line that starts at byte `start`.
-fn measure_row(
+// The room that a row leaves, whatever the bytes of its line.
+fn measure_any_row(
     room: usize,
     ws: &[u32],
     t: Table,
@@ -100,8 +103,32 @@ fn measure_row(
     }
 }
 
-// A row, written.
-fn put_row(
+// The room that a row leaves: a number, its address if it is known, and the line that starts at byte `start`. Most lines have only bytes
+// that stand for themselves: one walk finds where such a line ends, and how long it is.
+fn measure_row(
+    room: usize,
+    ws: &[u32],
+    t: Table,
+    number: u64,
+    known: bool,
+    address: u16,
+    start: usize,
+) -> Rows
+    requires { ⌜ (t .n ≤ 3 * length (now ws)) × At (sourceOf (now ws) t) number start ⌝ }
+    ensures { λ r. ⌜ Measured room (sourceOf (now (ws .entry)) t) (t .width) (row number (knownWord known address) ∷ []) (number + 1) r ⌝ }
+{
+    let end = plain_line(ws, t.text, t.n, start);
+    if t.n <= end {
+        return measure_any_row(room, ws, t, number, known, address, start);
+    }
+    match measure_plain_row(room, t.width, number, end - start) {
+        Room::Left(left) => Rows::Left(left, end + 1),
+        Room::Short => Rows::Short,
+    }
+}
+
+// A row, written, whatever the bytes of its line.
+fn put_any_row(
     out: &mut [u8],
     ws: &[u32],
     t: Table,
@@ -119,6 +146,32 @@ fn put_row(
     let end = smaller(next, t.n);
     let len = put_line_row(out, t.width, number, known, address, ws, t.text, start, end);
     Written { len, start: next }
+}
+
+// A row, written.
+fn put_row(
+    out: &mut [u8],
+    ws: &[u32],
+    t: Table,
+    number: u64,
+    known: bool,
+    address: u16,
+    start: usize,
+) -> Written
+    requires { ⌜ (t .n ≤ 3 * length (now ws)) × At (sourceOf (now ws) t) number start ⌝ }
+    ensures { λ r. ⌜ Put (rowsText (t .width) (sourceOf (now (ws .entry)) t) (row number (knownWord known address) ∷ []))
+        (now (out .entry)) (r .len) (now (out .exit))
+        × At (sourceOf (now (ws .entry)) t) (number + 1) (r .start) ⌝ }
+{
+    let end = plain_line(ws, t.text, t.n, start);
+    if t.n <= end {
+        return put_any_row(out, ws, t, number, known, address, start);
+    }
+    let len = put_plain_row(out, t.width, number, known, address, ws, t.text, start, end);
+    Written {
+        len,
+        start: end + 1,
+    }
 }
 
 // The room that a run of rows leaves.
