@@ -5,3 +5,4 @@ pub mod OnlyLaws
 pub mod GroupLaws
 pub mod FileLaws
 pub mod PlainLaws
+pub mod PastLaws
