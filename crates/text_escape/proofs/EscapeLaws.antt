@@ -196,6 +196,29 @@ module _ (ws : List ℕ) (at end : ℕ) where
   escaped-stretch i j h f =
       plain-each (j - i) i j (omega (arith, f .0)) (stretch-within Itself ws at end i j f h) (f .2)
 
+-- A LINE of bytes that stand for themselves and a newline
+newline-escaped : escapeChar 10 ≡ 0x5C ∷ 0x6E ∷ []
+unfolding escapeChar ascii
+newline-escaped = refl
+
+pub itself-other : (b : ℕ) → Itself b → b ≡ 10 → ⊥
+itself-other b p e =
+    let q : length (escapeChar 10) ≡ 1 = ap length (subst (λ (x : ℕ). escapeChar x ≡ x ∷ []) e (p .1)) in
+    omega (arith, q, ap length newline-escaped)
+
+pub escaped-line :
+    (ws : List ℕ) (at start j : ℕ) → start ≤ j → EachByte Itself ws at start j → textByte ws at j ≡ 10
+    → escapedIn ws at start (j + 1) ≡ spanBytes ws at start j ++ (0x5C ∷ 0x6E ∷ [])
+escaped-line ws at start j h f e =
+    let t = textBytes ws at (j + 1) in
+    let size : length t ≡ j + 1 = size-is ws at (j + 1) in
+    let there : j < length t = omega (arith, size) in
+    let b : textByte ws at j ≡ getD t j 0 = byte-is ws at (j + 1) j (omega arith) in
+    plain-each ws at (j + 1) (j - start) start j (omega arith) (omega arith) f
+    ∙ ap (λ (xs : List ℕ). spanBytes ws at start j ++ xs)
+    (escaped-char t j there 10 0 (char-low t j 10 there (sym e ∙ b) (omega arith))
+    ∙ ap₂ (λ (x y : List ℕ). x ++ y) newline-escaped (escaped-end t (j + (0 + 1)) (omega (arith, size))))
+
 -- NO CHARACTER TAKES MORE THAN TEN BYTES
 others-short : (t : Bool) (c : ℕ) → length (if t then c ∷ [] else ascii "\\u{" ++ numeral 5 16 c [] ++ ascii "}") ≤ 10
 unfolding ascii

@@ -13,23 +13,26 @@ use writing::put_bytes;
 use writing::put_u8;
 ghost use mathlib.Core.Path.{_≡_};
 ghost use mathlib.Core.Bool.{true};
-ghost use Prim.Native.Nat.{_+_, _≤_, _<_};
+ghost use Prim.Native.Nat.{_+_, _-_, _≤_, _<_};
 ghost use lib.ListN.{length};
 ghost use lib.Dec.{leb};
 ghost use Rattle.format.specs.TextWriter.{escapeChar, decimal, toRight};
 ghost use Rattle.writing.specs.Written.{Put};
-ghost use Rattle.measuring.specs.Room.{roomOf, lessPart};
+ghost use Rattle.measuring.specs.Room.{roomOf, less, lessPart};
 ghost use Rattle.text_numerals.specs.Memory.{knownWord};
 ghost use Rattle.object.specs.Texts.{EachIn};
 ghost use Rattle.word_chars.specs.Stretches.{Stretch};
 ghost use Rattle.text_escape.specs.Escaped.{letterOf, codeText, escapedIn, Itself, Plain};
-ghost use Rattle.text_escape.specs.Rows.{lineLine};
+ghost use Rattle.text_escape.specs.Rows.{lineLine, plainCell, PlainUpTo};
 
 // What a character is escaped with: \u{
 const UNICODE: [u8; 3] = [0x5C, 0x75, 0x7B];
 
 // 000's TABLE_DIV.
 const TABLE_DIV: [u8; 3] = [0x20, 0x7C, 0x20];
+
+// A newline, escaped, and the end of a row.
+const NEWLINE: [u8; 3] = [0x5C, 0x6E, 0x0A];
 
 // The letter after the backslash of a character that has one; 0 of others. Letters pass at the first test.
 fn letter(c: u32) -> u8
@@ -363,5 +366,75 @@ pub fn put_line_row(
     k += put_bytes(&mut out[k..], &div);
     k += put_chars(&mut out[k..], ws, at, start, end);
     k += put_u8(&mut out[k..], 0x0A);
+    k
+}
+
+// Where the newline is of the line that begins at byte `start` of a text of `n` bytes, if all bytes before it stand for themselves, as
+// those of most lines do; else `n`.
+pub fn plain_line(ws: &[u32], at: usize, n: usize, start: usize) -> usize
+    ensures { λ r. ⌜ PlainUpTo (now (ws .entry)) at n start r ⌝ }
+{
+    let j = plain_end(ws, at, n, start);
+    if word_chars::byte_in(ws, at, j, n) == 10 {
+        return j;
+    }
+    n
+}
+
+// The room that a row of so many bytes that stand for themselves leaves: the newline is two bytes more.
+pub fn measure_plain_row(room: usize, width: usize, number: u64, len: usize) -> Room
+    ensures { λ r. ⌜ roomOf r ≡ less room (13 + length (toRight width (decimal number)) + len) ⌝ }
+{
+    let head = column(width, number);
+    if room < 13 {
+        return Room::Short;
+    }
+    let left = room - 13;
+    if left < head {
+        return Room::Short;
+    }
+    if left - head < len {
+        return Room::Short;
+    }
+    Room::Left(left - head - len)
+}
+
+// How many bytes there are from `start` up to `end`.
+fn span_len(start: usize, end: usize) -> usize
+    ensures { λ r. ⌜ r ≡ end - start ⌝ }
+{
+    if end <= start {
+        return 0;
+    }
+    end - start
+}
+
+// The row of a line whose bytes stand for themselves from `start` up to its newline at `end`.
+pub fn put_plain_row(
+    out: &mut [u8],
+    width: usize,
+    number: u64,
+    known: bool,
+    address: u16,
+    ws: &[u32],
+    at: usize,
+    start: usize,
+    end: usize,
+) -> usize
+    ensures { λ r. ⌜ Put (lineLine width number (knownWord known address) (plainCell (now (ws .entry)) at start end))
+        (now (out .entry)) r (now (out .exit)) ⌝ }
+{
+    let Room::Left(_) = measure_plain_row(out.len(), width, number, span_len(start, end)) else {
+        return 0;
+    };
+    let div = TABLE_DIV;
+    let last = NEWLINE;
+    let mut k = 0;
+    k += put_right(&mut out[k..], width, number);
+    k += put_bytes(&mut out[k..], &div);
+    k += put_memory(&mut out[k..], known, address);
+    k += put_bytes(&mut out[k..], &div);
+    k += put_span(&mut out[k..], ws, at, start, end);
+    k += put_bytes(&mut out[k..], &last);
     k
 }

@@ -1,6 +1,6 @@
 -- The groups of the text form and their lengths, part by part. Assumes nothing.
 use mathlib.Core.Path.{_≡_, refl, sym, ap, _∙_}
-use mathlib.Core.Bool.{Bool, true, false, not}
+use mathlib.Core.Bool.{true, false}
 use mathlib.Core.List.{List, [], _∷_, _++_, flatMap, append-assoc}
 use mathlib.Core.Option.{none, some}
 use Prim.Native.Nat.{ℕ, _+_, _-_}
@@ -17,10 +17,6 @@ use Rattle.measuring.specs.Room.{less, lessPart}
 use Rattle.measuring.proofs.RoomLaws.{fits, short, less-none, less-nothing, part-fits}
 use Rattle.text_write.specs.Tables.{blockTable, relocationPart}
 use Rattle.text_write.specs.Groups.{headLines, linkerLines, debugLines, sourcePart, nameGroups, debugGroup, groups}
-
-pub not-not : (a : Bool) → not (not a) ≡ a
-not-not true = refl
-not-not false = refl
 
 -- THE LINKER TABLE
 abbrev rowsOf : List Relocation → List ℕ

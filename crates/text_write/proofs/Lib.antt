@@ -4,3 +4,5 @@ pub mod PartLaws
 pub mod OnlyLaws
 pub mod GroupLaws
 pub mod FileLaws
+pub mod PlainLaws
+pub mod PastLaws

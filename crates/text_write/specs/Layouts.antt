@@ -8,6 +8,8 @@ use Rattle.format.specs.Source.{lineCount}
 use Rattle.format.specs.TextWriter.{lineTable, lineWidth, addBlocks, plainRows, barLine, blocksOnly}
 use Rattle.format.specs.Utf8.{isUtf8}
 use Rattle.object.specs.Texts.{textBytes}
+use Rattle.object.specs.Access.{kindAt}
+use Rattle.source_info.proofs.RecordLaws.{Left}
 use Rattle.text_lines_out.specs.Merge.{wrapped}
 use Rattle.text_lines_out.specs.Walk.{lineBlocksIn, wrappedAt, Wraps, sourceTable}
 use Rattle.text_lines_out.specs.declared.Wrapped.{Wrapped}
@@ -26,6 +28,14 @@ plannedText ws p = textBytes ws (p .text) (p .n)
 abbrev pub plannedWraps : SourcePlan → Wrapped
 plannedWraps p = record { place = p .place; count = p .count }
 
+-- from a head on there are the object's line blocks and relocations
+abbrev pub Past : List ℕ → ℕ → Type 0
+Past ws at = Left ws at (λ h. h .lineBlocks) (lineBlocksIn ws) × Left ws at (λ h. h .relocations) (objectIn ws .relocations)
+
+-- the object's relocations begin at a head, or there are none
+abbrev pub Links : List ℕ → ℕ → Type 0
+Links ws at = Left ws at (λ h. h .relocations) (objectIn ws .relocations) × (at < length ws → kindAt ws at ≡ 5)
+
 -- a plan of an object that has a source
 pub record Tabled (ws : List ℕ) (p : SourcePlan) : Type 0 where
   pub short : p .n ≤ 3 * length ws
@@ -34,10 +44,12 @@ pub record Tabled (ws : List ℕ) (p : SourcePlan) : Type 0 where
   pub sound : isUtf8 (plannedText ws p) ≡ true
   pub wide : p .width ≡ lineWidth (addBlocks (lineBlocksIn ws) (plainRows 0 (p .lines)))
   pub wraps : Wraps ws (wrapped (lineBlocksIn ws)) (plannedWraps p)
+  pub past : Past ws (p .first)
   pub whole : sourceTable ws ≡ lineTable (plannedText ws p) (lineBlocksIn ws) ++ barLine
 
 -- a plan of an object
 pub record PlanOf (ws : List ℕ) (p : SourcePlan) : Type 0 where
   pub only : p .only ≡ blocksOnly (objectIn ws)
+  pub linked : p .only ≡ false → Links ws (p .links)
   pub nothing : p .bare ≡ true → sourceTable ws ≡ []
   pub tabled : p .bare ≡ false → Tabled ws p

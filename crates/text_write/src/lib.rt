@@ -32,7 +32,6 @@ ghost use mathlib.Core.Bool.{not, _||_};
 ghost use lib.Dec.{eqb};
 ghost use Prim.Native.Nat.{_+_, _≤_, _<_};
 ghost use lib.ListN.{length};
-ghost use Rattle.format.specs.Basics.{isEmpty};
 ghost use Rattle.format.specs.Calls.{checked, fill, writeText};
 ghost use Rattle.units.specs.Filled.{filledOf};
 ghost use Rattle.format.specs.TextWriter.{blocksOnly};
@@ -41,7 +40,7 @@ ghost use Rattle.object.specs.Bodies.{bodyAt, Text};
 ghost use Rattle.object.specs.Access.{kindAt};
 ghost use Rattle.measuring.specs.Room.{roomOf, lessPart};
 ghost use Rattle.text_write.specs.Groups.{linkerText, namesText, debugText, groupsText, fileText};
-ghost use Rattle.text_write.specs.Layouts.{PlanOf};
+ghost use Rattle.text_write.specs.Layouts.{Links, PlanOf};
 ghost use Rattle.text_write.specs.Tables.{objectIn, memoryLines, blockPart, blocksText, relocationPart, relocationsText};
 
 // The memory words that go on at a place, a line each.
@@ -96,7 +95,7 @@ fn put_block(out: &mut [u8], ws: &[u32], at: usize) -> usize
     n
 }
 
-// The room that .TEXT leaves.
+// The room that .TEXT leaves: blocks come first.
 fn measure_blocks(room: usize, ws: &[u32]) -> Room
     requires { ⌜ checked (now ws) ≡ 0 ⌝ }
     ensures { λ r. ⌜ roomOf r ≡ lessPart room (blocksText (now (ws .entry))) ⌝ }
@@ -104,6 +103,9 @@ fn measure_blocks(room: usize, ws: &[u32]) -> Room
     let mut left = room;
     let mut at = 0;
     while at < ws.len() {
+        if kind(ws[at]) != 0 {
+            return Room::Left(left);
+        }
         let Room::Left(rest) = measure_block(left, ws, at) else {
             return Room::Short;
         };
@@ -121,6 +123,9 @@ fn put_blocks(out: &mut [u8], ws: &[u32]) -> usize
     let mut n = 0;
     let mut at = 0;
     while at < ws.len() {
+        if kind(ws[at]) != 0 {
+            return n;
+        }
         n += put_block(&mut out[n..], ws, at);
         at = body_end(ws, at + 1);
     }
@@ -155,13 +160,13 @@ fn put_relocation(out: &mut [u8], ws: &[u32], at: usize) -> usize
     put_linker_row(out, (w % 0x1_0000) as u16, ws, body, n)
 }
 
-// The room that the rows of the linker table leave.
-fn measure_relocations(room: usize, ws: &[u32]) -> Room
-    requires { ⌜ checked (now ws) ≡ 0 ⌝ }
+// The room that the rows of the linker table leave, which begin at a place.
+fn measure_relocations(room: usize, ws: &[u32], from: usize) -> Room
+    requires { ⌜ Links (now ws) from ⌝ }
     ensures { λ r. ⌜ roomOf r ≡ lessPart room (relocationsText (now (ws .entry))) ⌝ }
 {
     let mut left = room;
-    let mut at = 0;
+    let mut at = from;
     while at < ws.len() {
         let Room::Left(rest) = measure_relocation(left, ws, at) else {
             return Room::Short;
@@ -173,12 +178,12 @@ fn measure_relocations(room: usize, ws: &[u32]) -> Room
 }
 
 // The rows of the linker table.
-fn put_relocations(out: &mut [u8], ws: &[u32]) -> usize
-    requires { ⌜ (checked (now ws) ≡ 0) × (length (relocationsText (now ws)) ≤ length (now out)) ⌝ }
+fn put_relocations(out: &mut [u8], ws: &[u32], from: usize) -> usize
+    requires { ⌜ Links (now ws) from × (length (relocationsText (now ws)) ≤ length (now out)) ⌝ }
     ensures { λ r. ⌜ Put (relocationsText (now (ws .entry))) (now (out .entry)) r (now (out .exit)) ⌝ }
 {
     let mut n = 0;
-    let mut at = 0;
+    let mut at = from;
     while at < ws.len() {
         n += put_relocation(&mut out[n..], ws, at);
         at = body_end(ws, at + 1);
@@ -186,27 +191,12 @@ fn put_relocations(out: &mut [u8], ws: &[u32]) -> usize
     n
 }
 
-// Whether an object has relocations.
-fn has_relocations(ws: &[u32]) -> bool
-    requires { ⌜ checked (now ws) ≡ 0 ⌝ }
-    ensures { λ r. ⌜ r ≡ not (isEmpty (relocationsText (now (ws .entry)))) ⌝ }
-{
-    let mut at = 0;
-    while at < ws.len() {
-        if kind(ws[at]) == 5 {
-            return true;
-        }
-        at = body_end(ws, at + 1);
-    }
-    false
-}
-
 // The room that the linker table leaves: its header needs room only if there are rows.
-fn measure_linker(room: usize, ws: &[u32]) -> Room
-    requires { ⌜ checked (now ws) ≡ 0 ⌝ }
+fn measure_linker(room: usize, ws: &[u32], from: usize) -> Room
+    requires { ⌜ Links (now ws) from ⌝ }
     ensures { λ r. ⌜ roomOf r ≡ lessPart room (linkerText (now (ws .entry))) ⌝ }
 {
-    let Room::Left(left) = measure_relocations(room, ws) else {
+    let Room::Left(left) = measure_relocations(room, ws, from) else {
         return Room::Short;
     };
     if left == room {
@@ -216,16 +206,16 @@ fn measure_linker(room: usize, ws: &[u32]) -> Room
 }
 
 // The linker table.
-fn put_linker(out: &mut [u8], ws: &[u32]) -> usize
-    requires { ⌜ (checked (now ws) ≡ 0) × (length (linkerText (now ws)) ≤ length (now out)) ⌝ }
+fn put_linker(out: &mut [u8], ws: &[u32], from: usize) -> usize
+    requires { ⌜ Links (now ws) from × (length (linkerText (now ws)) ≤ length (now out)) ⌝ }
     ensures { λ r. ⌜ Put (linkerText (now (ws .entry))) (now (out .entry)) r (now (out .exit)) ⌝ }
 {
-    if !has_relocations(ws) {
+    if ws.len() <= from {
         return 0;
     }
     let mut n = 0;
     n += put_bytes(&mut out[n..], b"ADDR | LABEL\n");
-    n += put_relocations(&mut out[n..], ws);
+    n += put_relocations(&mut out[n..], ws, from);
     n
 }
 
@@ -271,7 +261,7 @@ fn measure_groups(room: usize, ws: &[u32], p: SourcePlan) -> Room
     let Room::Left(b) = measure_symbols(ws, a) else {
         return Room::Short;
     };
-    let Room::Left(c) = measure_linker(b, ws) else {
+    let Room::Left(c) = measure_linker(b, ws, p.links) else {
         return Room::Short;
     };
     let Room::Left(d) = measure_labels(ws, c) else {
@@ -295,15 +285,15 @@ fn measure_file(room: usize, ws: &[u32], p: SourcePlan) -> Room
 }
 
 // .SYMBOL and .LINKER_INFO.
-fn put_names(out: &mut [u8], ws: &[u32]) -> usize
-    requires { ⌜ (checked (now ws) ≡ 0) × (length (namesText (now ws)) ≤ length (now out)) ⌝ }
+fn put_names(out: &mut [u8], ws: &[u32], from: usize) -> usize
+    requires { ⌜ (checked (now ws) ≡ 0) × (length (namesText (now ws)) ≤ length (now out)) × Links (now ws) from ⌝ }
     ensures { λ r. ⌜ Put (namesText (now (ws .entry))) (now (out .entry)) r (now (out .exit)) ⌝ }
 {
     let mut n = 0;
     n += put_bytes(&mut out[n..], b".SYMBOL\n");
     n += put_symbol_table(&mut out[n..], ws);
     n += put_bytes(&mut out[n..], b"\n.LINKER_INFO\n");
-    n += put_linker(&mut out[n..], ws);
+    n += put_linker(&mut out[n..], ws, from);
     n
 }
 
@@ -329,7 +319,7 @@ fn put_groups(out: &mut [u8], ws: &[u32], p: SourcePlan) -> usize
         return 0;
     }
     let mut n = 0;
-    n += put_names(&mut out[n..], ws);
+    n += put_names(&mut out[n..], ws, p.links);
     n += put_debug(&mut out[n..], ws, p);
     n
 }

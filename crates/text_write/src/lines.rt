@@ -10,7 +10,10 @@ use source_info::Place;
 use source_info::count_newlines;
 use source_info::source_at;
 use text_escape::measure_line_row;
+use text_escape::measure_plain_row;
+use text_escape::plain_line;
 use text_escape::put_line_row;
+use text_escape::put_plain_row;
 use text_lines_out::Passed;
 use text_lines_out::Plan;
 use text_lines_out::Progress;
@@ -51,7 +54,7 @@ ghost use Rattle.text_lines_out.specs.Runs.{row, Measured, Planned, sourceOf, r
 ghost use Rattle.text_lines_out.specs.Walk.{recordRows, recordText, recordDone, Follows, Passes, walkRows};
 ghost use Rattle.text_lines_out.specs.Walk.{lineBlocksIn, wrappedAt, Wraps, topAt, sourceTable};
 ghost use Rattle.text_write.specs.Tables.{objectIn};
-ghost use Rattle.text_write.specs.Layouts.{WrapsOn, plannedText, Tabled, PlanOf};
+ghost use Rattle.text_write.specs.Layouts.{WrapsOn, plannedText, Past, Links, Tabled, PlanOf};
 
 // Where the line after the one that starts at byte `start` of a source of `n` bytes starts; past the last line, one byte past the
 // source.
@@ -69,8 +72,8 @@ fn next_line(ws: &[u32], at: usize, n: usize, start: usize) -> usize
     n + 1
 }
 
-// The room that a row leaves: a number, its address if it is known, and the line that starts at byte `start`.
-fn measure_row(
+// The room that a row leaves, whatever the bytes of its line.
+fn measure_any_row(
     room: usize,
     ws: &[u32],
     t: Table,
@@ -100,8 +103,32 @@ fn measure_row(
     }
 }
 
-// A row, written.
-fn put_row(
+// The room that a row leaves: a number, its address if it is known, and the line that starts at byte `start`. Most lines have only bytes
+// that stand for themselves: one walk finds where such a line ends, and how long it is.
+fn measure_row(
+    room: usize,
+    ws: &[u32],
+    t: Table,
+    number: u64,
+    known: bool,
+    address: u16,
+    start: usize,
+) -> Rows
+    requires { ⌜ (t .n ≤ 3 * length (now ws)) × At (sourceOf (now ws) t) number start ⌝ }
+    ensures { λ r. ⌜ Measured room (sourceOf (now (ws .entry)) t) (t .width) (row number (knownWord known address) ∷ []) (number + 1) r ⌝ }
+{
+    let end = plain_line(ws, t.text, t.n, start);
+    if t.n <= end {
+        return measure_any_row(room, ws, t, number, known, address, start);
+    }
+    match measure_plain_row(room, t.width, number, end - start) {
+        Room::Left(left) => Rows::Left(left, end + 1),
+        Room::Short => Rows::Short,
+    }
+}
+
+// A row, written, whatever the bytes of its line.
+fn put_any_row(
     out: &mut [u8],
     ws: &[u32],
     t: Table,
@@ -119,6 +146,32 @@ fn put_row(
     let end = smaller(next, t.n);
     let len = put_line_row(out, t.width, number, known, address, ws, t.text, start, end);
     Written { len, start: next }
+}
+
+// A row, written.
+fn put_row(
+    out: &mut [u8],
+    ws: &[u32],
+    t: Table,
+    number: u64,
+    known: bool,
+    address: u16,
+    start: usize,
+) -> Written
+    requires { ⌜ (t .n ≤ 3 * length (now ws)) × At (sourceOf (now ws) t) number start ⌝ }
+    ensures { λ r. ⌜ Put (rowsText (t .width) (sourceOf (now (ws .entry)) t) (row number (knownWord known address) ∷ []))
+        (now (out .entry)) (r .len) (now (out .exit))
+        × At (sourceOf (now (ws .entry)) t) (number + 1) (r .start) ⌝ }
+{
+    let end = plain_line(ws, t.text, t.n, start);
+    if t.n <= end {
+        return put_any_row(out, ws, t, number, known, address, start);
+    }
+    let len = put_plain_row(out, t.width, number, known, address, ws, t.text, start, end);
+    Written {
+        len,
+        start: end + 1,
+    }
 }
 
 // The room that a run of rows leaves.
@@ -266,16 +319,17 @@ fn put_line_record(
 }
 
 // The room that the rows of all records leave, and of the source's lines past them.
-fn measure_line_records(room: usize, ws: &[u32], t: Table, start: usize) -> Room
+fn measure_line_records(room: usize, ws: &[u32], t: Table, start: usize, from: usize) -> Room
     requires { ⌜ (checked (now ws) ≡ 0) × (t .n ≤ 3 * length (now ws)) × (t .lines ≤ 3 * length (now ws) + 1)
-        × (t .lines ≡ lineCount (sourceOf (now ws) t)) × At (sourceOf (now ws) t) (smaller (t .wraps) (t .lines)) start ⌝ }
+        × (t .lines ≡ lineCount (sourceOf (now ws) t)) × At (sourceOf (now ws) t) (smaller (t .wraps) (t .lines)) start
+        × Past (now ws) from ⌝ }
     ensures { λ r. ⌜ roomOf r
         ≡ lessPart room (rowsText (t .width) (sourceOf (now (ws .entry)) t) (walkRows (now (ws .entry)) (t .lines) (t .wraps))) ⌝ }
 {
     let mut left = room;
     let mut next = start;
     let mut done = smaller_line(t.wraps, t.lines);
-    let mut at = 0;
+    let mut at = from;
     while at < ws.len() {
         let Passed::Left(rest, after, past) = measure_line_record(left, ws, at, t, done, next)
         else {
@@ -299,17 +353,18 @@ fn measure_line_records(room: usize, ws: &[u32], t: Table, start: usize) -> Room
 }
 
 // They, written into a room that suffices.
-fn put_line_records(out: &mut [u8], ws: &[u32], t: Table, start: usize) -> usize
+fn put_line_records(out: &mut [u8], ws: &[u32], t: Table, start: usize, from: usize) -> usize
     requires { ⌜ (checked (now ws) ≡ 0) × (t .n ≤ 3 * length (now ws)) × (t .lines ≤ 3 * length (now ws) + 1)
         × (t .lines ≡ lineCount (sourceOf (now ws) t)) × At (sourceOf (now ws) t) (smaller (t .wraps) (t .lines)) start
-        × (length (rowsText (t .width) (sourceOf (now ws) t) (walkRows (now ws) (t .lines) (t .wraps))) ≤ length (now out)) ⌝ }
+        × (length (rowsText (t .width) (sourceOf (now ws) t) (walkRows (now ws) (t .lines) (t .wraps))) ≤ length (now out))
+        × Past (now ws) from ⌝ }
     ensures { λ r. ⌜ Put (rowsText (t .width) (sourceOf (now (ws .entry)) t) (walkRows (now (ws .entry)) (t .lines) (t .wraps)))
         (now (out .entry)) r (now (out .exit)) ⌝ }
 {
     let mut len = 0;
     let mut next = start;
     let mut done = smaller_line(t.wraps, t.lines);
-    let mut at = 0;
+    let mut at = from;
     while at < ws.len() {
         let rows = put_line_record(&mut out[len..], ws, at, t, done, next);
         len += rows.len;
@@ -394,14 +449,14 @@ pub struct Layout {
 }
 
 // That for a source of so many lines, in one walk. Only the last line block can have lines that wrap.
-fn lay_out(ws: &[u32], lines: u64) -> Layout
-    requires { ⌜ (checked (now ws) ≡ 0) × (1 ≤ lines) ⌝ }
+fn lay_out(ws: &[u32], lines: u64, from: usize) -> Layout
+    requires { ⌜ (checked (now ws) ≡ 0) × (1 ≤ lines) × Past (now ws) from ⌝ }
     ensures { λ r. ⌜ (r .width ≡ lineWidth (addBlocks (lineBlocksIn (now (ws .entry))) (plainRows 0 lines)))
         × Wraps (now (ws .entry)) (wrapped (lineBlocksIn (now (ws .entry)))) (r .wrapped) ⌝ }
 {
     let mut top = lines - 1;
     let mut wrapped = Wrapped { place: 0, count: 0 };
-    let mut at = 0;
+    let mut at = from;
     while at < ws.len() {
         top = top_at(ws, at, top);
         wrapped = wrapped_on(ws, at, wrapped);
@@ -411,11 +466,13 @@ fn lay_out(ws: &[u32], lines: u64) -> Layout
     Layout { width, wrapped }
 }
 
-// What is found once of an object for measuring and writing: whether it has blocks only, and whether it has no source. Else the source of
-// `n` bytes and so many lines in the words from `text` on, the width of the column of line numbers, and the words whose lines wrap.
+// What is found once of an object for measuring and writing: whether it has blocks only, and whether it has no source; where it goes on
+// past its labels, and where its relocations begin. Else the source of `n` bytes and so many lines in the words from `text` on, the width of the column of line numbers, and the words whose lines wrap.
 pub struct SourcePlan {
     pub only: bool,
     pub bare: bool,
+    pub first: usize,
+    pub links: usize,
     pub text: usize,
     pub n: usize,
     pub lines: u64,
@@ -425,12 +482,14 @@ pub struct SourcePlan {
 }
 
 // That without a source.
-fn plan_bare(only: bool) -> SourcePlan
-    ensures { λ r. ⌜ (r .only ≡ only) × (r .bare ≡ true) ⌝ }
+fn plan_bare(only: bool, first: usize, links: usize) -> SourcePlan
+    ensures { λ r. ⌜ (r .only ≡ only) × (r .bare ≡ true) × (r .links ≡ links) ⌝ }
 {
     SourcePlan {
         only,
         bare: true,
+        first,
+        links,
         text: 0,
         n: 0,
         lines: 0,
@@ -440,25 +499,59 @@ fn plan_bare(only: bool) -> SourcePlan
     }
 }
 
+// Where a well formed object goes on past its blocks and labels.
+fn past_labels(ws: &[u32]) -> usize
+    requires { ⌜ checked (now ws) ≡ 0 ⌝ }
+    ensures { λ r. ⌜ Past (now (ws .entry)) r ⌝ }
+{
+    let mut at = 0;
+    while at < ws.len() {
+        if 2 < kind(ws[at]) {
+            return at;
+        }
+        at = body_end(ws, at + 1);
+    }
+    at
+}
+
+// Where its relocations begin, from there on.
+fn past_source(ws: &[u32], from: usize) -> usize
+    requires { ⌜ Past (now ws) from ⌝ }
+    ensures { λ r. ⌜ Links (now (ws .entry)) r ⌝ }
+{
+    let mut at = from;
+    while at < ws.len() {
+        if kind(ws[at]) == 5 {
+            return at;
+        }
+        at = body_end(ws, at + 1);
+    }
+    at
+}
+
 // That of a well formed object, of which it is known whether it has blocks only.
 pub(crate) fn plan_source(ws: &[u32], only: bool) -> SourcePlan
     requires { ⌜ (checked (now ws) ≡ 0) × (only ≡ blocksOnly (objectIn (now ws))) ⌝ }
     ensures { λ r. ⌜ PlanOf (now (ws .entry)) r ⌝ }
 {
     if only {
-        return plan_bare(only);
+        return plan_bare(only, 0, 0);
     }
+    let first = past_labels(ws);
+    let links = past_source(ws, first);
     let Place::At(at) = source_at(ws) else {
-        return plan_bare(only);
+        return plan_bare(only, first, links);
     };
     let end = body_end(ws, at);
     let n = text_len(ws, at, end);
     let lines = count_newlines(ws, at, n) + 1;
-    let layout = lay_out(ws, lines);
+    let layout = lay_out(ws, lines, first);
     let wrapped = layout.wrapped;
     SourcePlan {
         only,
         bare: false,
+        first,
+        links,
         text: at,
         n,
         lines,
@@ -493,7 +586,7 @@ fn measure_line_table(room: usize, ws: &[u32], p: SourcePlan) -> Room
     let Rows::Left(rest, next) = measure_run(left, ws, t, early, 0) else {
         return Room::Short;
     };
-    measure_line_records(rest, ws, t, next)
+    measure_line_records(rest, ws, t, next, p.first)
 }
 
 // It, written into a room that suffices.
@@ -520,7 +613,7 @@ fn put_line_table(out: &mut [u8], ws: &[u32], p: SourcePlan) -> usize
     len += put_line_header(&mut out[len..], p.width);
     let rows = put_run(&mut out[len..], ws, t, early, 0);
     len += rows.len;
-    len += put_line_records(&mut out[len..], ws, t, rows.start);
+    len += put_line_records(&mut out[len..], ws, t, rows.start, p.first);
     len
 }
 

@@ -151,7 +151,7 @@ measure-groups-spec =
     (λ c. search needs)
     (λ c. search needs)
     returns-3
-    (λ c κs. search needs)
+    (λ c κs. let k = k1 (c .before .before .before) in s k .pre .1 .linked (k .before .if1 .left))
     (λ c. search needs)
     (λ c. search needs)
     returns-4

@@ -48,7 +48,7 @@ pub measure-linker-spec : {M : Type 1} → statement M
 measure-linker-spec =
     tie.close
     (tie.spec
-    (λ c κs. search needs)
+    (λ c κs. c .before .pre)
     (λ c. search needs)
     (λ c. search needs)
     returns

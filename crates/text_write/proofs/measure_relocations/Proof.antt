@@ -11,15 +11,16 @@ use Rattle.measuring.specs.Room.{roomOf, lessPart}
 use Rattle.measuring.proofs.RoomLaws.{less-nothing, part-fits, part-short}
 use Rattle.text_write.specs.Tables.{relocationRows, relocationsText, relocationPart}
 use Rattle.text_write.proofs.PartLaws.{relocations-walk, relocation-name}
-use Rattle.text_write.proofs.WalkLaws.{past, walk-start, walk-end, walk-part, walk-on, walk-less}
+use Rattle.text_write.proofs.PastLaws.{links-rows}
+use Rattle.text_write.proofs.WalkLaws.{past, walk-end, walk-part, walk-on, walk-less}
 use Rattle.text_write.proofs.measure_relocations.Statement.{statement}
 use Rattle.text_write.proofs.measure_relocations.Tie as tie
 
 abbrev Inv-loop : tie.InvT-loop
-Inv-loop room ws left₀ at₀ left at = (v : List ℕ) × Left ws at relocationRows v × (lessPart left v ≡ lessPart room (relocationsText ws))
+Inv-loop room ws from left₀ at₀ left at = (v : List ℕ) × Left ws at relocationRows v × (lessPart left v ≡ lessPart room (relocationsText ws))
 
 abbrev μ-loop : tie.MeasureT-loop
-μ-loop room ws left₀ at₀ left at = length ws - at
+μ-loop room ws from left₀ at₀ left at = length ws - at
 
 -- the record at a head, and what is left past it
 module _ (c : tie.In-loop Inv-loop μ-loop) where
@@ -42,7 +43,7 @@ module _ (c : tie.In-loop Inv-loop μ-loop) where
   here = walk-part relocationRows relocationPart relocations-walk ws at old (c .loop-test .taken) (c .before .loop .inv .1)
 
 loop-holds : tie.Need-loop-holds Inv-loop μ-loop
-loop-holds c = (_, walk-start relocationRows relocationPart relocations-walk (now (c .before .args .ws)) (c .before .pre), refl)
+loop-holds c = (_, links-rows (now (c .before .args .ws)) (c .before .args .from) (c .before .pre .0), refl)
 
 measure-relocation-requires : tie.Need-measure-relocation-requires Inv-loop μ-loop
 measure-relocation-requires c κs =

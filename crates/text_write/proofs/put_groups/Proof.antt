@@ -59,7 +59,7 @@ module _ (c : tie.After-put-debug) where
 
 put-names-requires : tie.Need-put-names-requires
 put-names-requires c κs =
-    let k = c .before in (s k .pre .0, part-room (emits0 k) (namesText (ws k)) (debugText (ws k)) (whole k))
+    let k = c .before in (s k .pre .0, part-room (emits0 k) (namesText (ws k)) (debugText (ws k)) (whole k), s k .pre .2 .linked (k .if1 .left))
 
 put-debug-requires : tie.Need-put-debug-requires
 put-debug-requires c κs =

@@ -1,7 +1,6 @@
 -- The header, then the rows. Assumes nothing.
 use borrow.Author.Needs.{needs}
-use mathlib.Core.Path.{_≡_, refl, sym, ap, _∙_}
-use mathlib.Core.Bool.{not}
+use mathlib.Core.Path.{_≡_, refl, sym}
 use mathlib.Core.List.{List, [], _++_, append-nil}
 use Prim.Native.Nat.{ℕ, _^_, _<_}
 use lib.ListN.{length}
@@ -13,22 +12,22 @@ use Rattle.text_escape.proofs.EscapeLaws.{part-room}
 use Rattle.text_write.specs.Tables.{objectIn, relocationRows, relocationsText}
 use Rattle.text_write.specs.Groups.{linkerText}
 use Rattle.text_lines_out.proofs.BlockLaws.{nothing-put}
-use Rattle.text_write.proofs.GroupLaws.{not-not, linker-none, linker-some}
+use Rattle.text_write.proofs.GroupLaws.{linker-none, linker-some}
+use Rattle.text_write.proofs.PastLaws.{links-none, links-some}
 use Rattle.text_write.proofs.put_linker.Statement.{statement}
 use Rattle.text_write.proofs.put_linker.Tie as tie
 
 returns : tie.Need-returns
 unfolding relocationRows
 returns c =
-    let k = c .before in
-    let s = k .before .before .before in
+    let s = c .before .before .before in
     nothing-put (now (s .args .out)) (linker-none (objectIn (now (s .args .ws)) .relocations)
-    (sym (not-not _) ∙ sym (ap not (k .has-relocations .ensures)) ∙ c .if1 .taken))
+    (links-none (now (s .args .ws)) (s .args .from) (s .pre .0 .0) (c .if1 .taken)))
 
 -- the object
 module _ (c : tie.Else1) where
   abbrev s : tie.Start
-  s = c .before .before .before .before
+  s = c .before .before .before
 
   abbrev ws : List ℕ
   ws = now (s .args .ws)
@@ -40,7 +39,7 @@ module _ (c : tie.Else1) where
   unfolding relocationRows
   whole =
       linker-some (objectIn ws .relocations)
-      (sym (not-not _) ∙ sym (ap not (c .before .has-relocations .ensures)) ∙ c .if1 .left)
+      (links-some ws (s .args .from) (s .pre .0 .0) (c .if1 .left) (s .pre .0 .1 (c .if1 .left)))
 
   emits0 : Emits (linkerText ws) room (linkerText ws) (record { at = 0; out = room })
   emits0 = begin _ _ (s .pre .1)
@@ -79,7 +78,6 @@ pub put-linker-spec : {M : Type 1} → statement M
 put-linker-spec =
     tie.close
     (tie.spec
-    (λ c κs. search needs)
     returns
     (λ c. search needs)
     (λ c. search needs)

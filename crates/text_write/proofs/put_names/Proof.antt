@@ -99,7 +99,7 @@ put-symbol-table-requires c κs =
 put-linker-requires : tie.Need-put-linker-requires
 put-linker-requires c κs =
     let p = c .before .before .before in
-    let table = linkerText (ws (from p)) in (s (from p) .pre .0, part-room (emits3 p) table [] (sym (append-nil table)))
+    let table = linkerText (ws (from p)) in (s (from p) .pre .2, part-room (emits3 p) table [] (sym (append-nil table)))
 
 pub put-names-spec : {M : Type 1} → statement M
 put-names-spec =

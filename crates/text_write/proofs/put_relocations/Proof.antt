@@ -10,16 +10,17 @@ use Rattle.writing.proofs.Parts.{Emits, after, begin, emit, emitted, within, sm
 use Rattle.source_info.proofs.RecordLaws.{Left}
 use Rattle.text_write.specs.Tables.{relocationRows, relocationsText, relocationPart}
 use Rattle.text_write.proofs.PartLaws.{relocations-walk, relocation-name}
-use Rattle.text_write.proofs.WalkLaws.{past, walk-start, walk-end, walk-part, walk-on, walk-less}
+use Rattle.text_write.proofs.PastLaws.{links-rows}
+use Rattle.text_write.proofs.WalkLaws.{past, walk-end, walk-part, walk-on, walk-less}
 use Rattle.text_write.proofs.put_relocations.Statement.{statement}
 use Rattle.text_write.proofs.put_relocations.Tie as tie
 
 abbrev Inv-loop : tie.InvT-loop
-Inv-loop out₀ ws n₀ at₀ out n at =
+Inv-loop out₀ ws from n₀ at₀ out n at =
     (v : List ℕ) × Left ws at relocationRows v × Emits (relocationsText ws) out₀ v (record { at = n; out = out })
 
 abbrev μ-loop : tie.MeasureT-loop
-μ-loop out₀ ws n₀ at₀ out n at = length ws - at
+μ-loop out₀ ws from n₀ at₀ out n at = length ws - at
 
 -- the record at a head, and what is left past it
 module _ (c : tie.In-loop Inv-loop μ-loop) where
@@ -53,8 +54,7 @@ emits c =
 loop-holds : tie.Need-loop-holds Inv-loop μ-loop
 loop-holds c = (
   _,
-  walk-start relocationRows relocationPart relocations-walk (now (c .before .before .args .ws))
-      (c .before .before .pre .0),
+  links-rows (now (c .before .before .args .ws)) (c .before .before .args .from) (c .before .before .pre .0 .0),
   begin _ _ (c .before .before .pre .1),
 )
 

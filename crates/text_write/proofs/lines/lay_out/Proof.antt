@@ -18,12 +18,12 @@ use Rattle.text_write.proofs.lines.lay_out.Statement.{statement}
 use Rattle.text_write.proofs.lines.lay_out.Tie as tie
 
 abbrev Inv-loop : tie.InvT-loop
-Inv-loop ws lines top₀ wrapped₀ at₀ top wrapped at =
+Inv-loop ws lines from top₀ wrapped₀ at₀ top wrapped at =
     (e : ℕ) × (ls : List LineBlock) × Left ws at lineBlocksOf ls × Apart e ls
     × (blocksTop top ls ≡ blocksTop (lines - 1) (lineBlocksIn ws)) × Finds ws ls wrapped
 
 abbrev μ-loop : tie.MeasureT-loop
-μ-loop ws lines top₀ wrapped₀ at₀ top wrapped at = length ws - at
+μ-loop ws lines from top₀ wrapped₀ at₀ top wrapped at = length ws - at
 
 -- at a record
 module _ (c : tie.In-loop Inv-loop μ-loop) where
@@ -42,7 +42,7 @@ loop-holds : tie.Need-loop-holds Inv-loop μ-loop
 loop-holds c =
     let w = now (c .before .args .ws) in
     let b = blocks-start w (c .before .pre .0) in
-    (0, lineBlocksIn w, b .0, b .1, refl, record { none = λ z. refl; some = λ h. absurd (omega (arith, h)) })
+    (0, lineBlocksIn w, c .before .pre .2 .0, b .1, refl, record { none = λ z. refl; some = λ h. absurd (omega (arith, h)) })
 
 add-body-end : tie.Need-add-body-end Inv-loop μ-loop
 add-body-end c = omega (arith, c .before .before .loop-test .taken)

@@ -31,13 +31,13 @@ use Rattle.text_write.proofs.lines.measure_line_records.Statement.{stat
 use Rattle.text_write.proofs.lines.measure_line_records.Tie as tie
 
 abbrev Inv-loop : tie.InvT-loop
-Inv-loop room ws t start left₀ next₀ done₀ at₀ left next done at =
+Inv-loop room ws t start from left₀ next₀ done₀ at₀ left next done at =
     (ls : List LineBlock) × Walking ws (sourceOf ws t) (t .lines) (t .wraps) at done next ls
     × (lessPart left (rowsText (t .width) (sourceOf ws t) (walkFrom (t .lines) (t .wraps) done ls)) ≡ lessPart room
     (rowsText (t .width) (sourceOf ws t) (walkRows ws (t .lines) (t .wraps))))
 
 abbrev μ-loop : tie.MeasureT-loop
-μ-loop room ws t start left₀ next₀ done₀ at₀ left next done at = length ws - at
+μ-loop room ws t start from left₀ next₀ done₀ at₀ left next done at = length ws - at
 
 -- at a record
 module _ (c : tie.In-loop Inv-loop μ-loop) where
@@ -109,10 +109,11 @@ module _ (c : tie.After-minus Inv-loop μ-loop) where
 loop-holds : tie.Need-loop-holds Inv-loop μ-loop
 loop-holds c = let s = c .before .before in
     let a = s .args in
-    let t = textBytes (now (a .ws)) (a .t .text) (a .t .n) in (
+    let t = textBytes (now (a .ws)) (a .t .text) (a .t .n) in
+    let w = walking-start (now (a .ws)) t (a .t .lines) (a .t .wraps) (c .smaller-line .result) (a .start) (s .pre .0)
+    (c .smaller-line .ensures) (s .pre .4) in (
       lineBlocksIn (now (a .ws)),
-      walking-start (now (a .ws)) t (a .t .lines) (a .t .wraps) (c .smaller-line .result) (a .start) (s .pre .0) (c .smaller-line .ensures)
-          (s .pre .4),
+      record { past = w .past; left = s .pre .5 .0; apart = w .apart; done-is = w .done-is; here = w .here },
       ap (λ r. lessPart (a .room) (rowsText (a .t .width) t r))
           (walk-rows (now (a .ws)) (a .t .lines) (a .t .wraps) (c .smaller-line .result) (c .smaller-line .ensures)),
     )

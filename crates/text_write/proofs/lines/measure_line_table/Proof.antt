@@ -117,6 +117,7 @@ measure-line-records-requires c κs = let g = f (k c) in
       s g .pre .1 .counted,
       wrapped-passed (ws g) (text g) (a .p .lines) (width g) (r g) (s g .pre .0) (s g .pre .1 .counted) (few g) (short g)
           (s g .pre .1 .wraps) (s g .pre .1 .wide) (c .before .rest .given .0 .1 .0) (told c .1),
+      s g .pre .1 .past,
     )
 
 returns-3 : tie.Need-returns-3

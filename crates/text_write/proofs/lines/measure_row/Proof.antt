@@ -1,50 +1,72 @@
+-- A line of bytes that stand for themselves, or any other. Assumes nothing.
 use borrow.Author.Needs.{needs}
-use mathlib.Core.Path.{sym, ap, _∙_}
-use Prim.Native.Nat.{_-_}
+use native.Mathlib.Omega.{arith}
+use mathlib.Core.Path.{_≡_, sym, ap, _∙_}
+use mathlib.Core.List.{List, [], _∷_}
+use Prim.Native.Nat.{ℕ, _+_}
 use denote.Ref.{now}
 use Rattle.object.specs.Texts.{textBytes}
+use Rattle.measuring.specs.Room.{less, lessPart, roomOf}
 use Rattle.text_numerals.specs.Memory.{knownWord}
-use Rattle.measuring.specs.Room.{roomOf, lessPart}
-use Rattle.text_lines_out.proofs.LineLaws.{row-is, at-next}
+use Rattle.text_escape.specs.Rows.{PlainLine}
+use Rattle.text_lines_out.specs.Lines.{Next, rowsText}
+use Rattle.text_lines_out.specs.Runs.{row}
+use Rattle.text_lines_out.proofs.LineLaws.{at-next}
+use Rattle.text_write.proofs.PlainLaws.{plain-next, plain-size}
 use Rattle.text_write.proofs.lines.measure_row.Statement.{statement}
 use Rattle.text_write.proofs.lines.measure_row.Tie as tie
 
-next-line-requires : tie.Need-next-line-requires
-next-line-requires c κs = c .before .pre .0
+-- a line of bytes that stand for themselves
+module _ (c : tie.Else1) where
+  abbrev s : tie.Start
+  s = c .before .before .before .before
 
-returns : tie.Need-returns
-returns c = let d = c .before .before .before in
-    let e = d .before in
-    let l = e .before in
-    let a = l .before .before .args in
-    let s = textBytes (now (a .ws)) (a .t .text) (a .t .n) in
-    let h = l .before .before .pre .1 in (
-      sym (ap roomOf (c .before .left .given .1)) ∙ d .measure-line-row .ensures
-          ∙ ap (lessPart (a .room))
-          (row-is (now (a .ws)) (a .t .text) (a .t .n) (a .t .width) (a .number) (a .start) (l .next-line .result)
-          (e .smaller .result) (knownWord (a .known) (a .address)) h (l .next-line .ensures) (e .smaller .ensures)),
-      at-next s (a .number) (a .start) (l .next-line .result) h (l .next-line .ensures),
-    )
+  abbrev ws : List ℕ
+  ws = now (s .args .ws)
+
+  abbrev end : ℕ
+  end = c .before .before .plain-line .result
+
+  plain : PlainLine ws (s .args .t .text) (s .args .t .n) (s .args .start) end
+  plain = c .before .before .plain-line .ensures (c .if1 .left)
+
+  follows : Next (textBytes ws (s .args .t .text) (s .args .t .n)) (s .args .start) (end + 1)
+  follows = plain-next ws (s .args .t .text) (s .args .t .n) (s .args .start) end (c .if1 .left) plain
+
+measured : (c : tie.After-measure-plain-row) → let k = c .before in
+    let a = s k .args in
+    roomOf (c .measure-plain-row .result)
+    ≡ lessPart (a .room) (rowsText (a .t .width) (textBytes (ws k) (a .t .text) (a .t .n)) (row (a .number) (knownWord (a .known) (a .address)) ∷ []))
+measured c =
+    let k = c .before in
+    let a = s k .args in
+    c .measure-plain-row .ensures
+    ∙ ap (less (a .room)) (plain-size (ws k) (a .t .text) (a .t .n) (a .start) (end k) (k .if1 .left) (plain k) (a .t .width) (a .number)
+    (knownWord (a .known) (a .address)) (s k .pre .1))
 
 returns-2 : tie.Need-returns-2
-returns-2 c = let d = c .before .before in
-    let e = d .before in
-    let l = e .before in
-    let a = l .before .before .args in
-    let h = l .before .before .pre .1 in
-    sym (ap roomOf (c .enum-told .given .1)) ∙ d .measure-line-row .ensures
-    ∙ ap (lessPart (a .room))
-    (row-is (now (a .ws)) (a .t .text) (a .t .n) (a .t .width) (a .number) (a .start) (l .next-line .result) (e .smaller .result) (knownWord
-    (a .known) (a .address)) h (l .next-line .ensures) (e .smaller .ensures))
+returns-2 c =
+    let d = c .before .before .before in
+    let k = d .before in
+    let a = s k .args in (
+      sym (ap roomOf (c .before .left .given .1)) ∙ measured d,
+      at-next (textBytes (ws k) (a .t .text) (a .t .n)) (a .number) (a .start) (end k + 1) (s k .pre .1) (follows k),
+    )
+
+returns-3 : tie.Need-returns-3
+returns-3 c = sym (ap roomOf (c .enum-told .given .1)) ∙ measured (c .before .before)
 
 pub measure-row-spec : {M : Type 1} → statement M
 measure-row-spec =
     tie.close
     (tie.spec
-    next-line-requires
     (λ c κs. search needs)
+    (λ c κs. c .before .before .before .before .pre)
+    (λ c. c .measure-any-row .ensures)
+    (λ c. plain c .on)
     (λ c κs. search needs)
     (λ c. search needs)
+    (λ c. let k = c .before .before .before .before in omega (arith, k .if1 .left))
     (λ c. search needs)
-    returns
-    returns-2)
+    returns-2
+    returns-3)

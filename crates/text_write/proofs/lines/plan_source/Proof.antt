@@ -17,6 +17,7 @@ use Rattle.source_info.specs.declared.Place.the-variants as place
 use Rattle.text_lines_out.specs.Walk.{lineBlocksIn, sourceTable}
 use Rattle.text_lines_out.proofs.SourceLaws.{source-nothing, source-small, source-sound, source-table, source-lines}
 use Rattle.text_lines_out.proofs.TableLaws.{some-lines}
+use Rattle.text_write.specs.Layouts.{Links}
 use Rattle.text_write.proofs.OnlyLaws.{only-bare}
 use Rattle.text_write.proofs.lines.plan_source.Statement.{statement}
 use Rattle.text_write.proofs.lines.plan_source.Tie as tie
@@ -24,7 +25,7 @@ use Rattle.text_write.proofs.lines.plan_source.Tie as tie
 -- the source
 module _ (c : tie.After-count-newlines) where
   abbrev s : tie.Start
-  s = c .before .before .before .before .before .before .before .before .before
+  s = c .before .before .before .before .before .before .before .before .before .before .before
 
   abbrev ws : List ℕ
   ws = now (s .args .ws)
@@ -71,7 +72,9 @@ add-lines : tie.Need-add-lines
 add-lines c = let h = few c in search needs
 
 lay-out-requires : tie.Need-lay-out-requires
-lay-out-requires c κs = (s c .pre .0, some-lines (text c) (lines c) (counted c))
+lay-out-requires c κs =
+    let o = c .before .before .before .before .before .before .before .before in
+    (s c .pre .0, some-lines (text c) (lines c) (counted c), o .past-labels .ensures)
 
 returns : tie.Need-returns
 returns c =
@@ -79,6 +82,7 @@ returns c =
     let q = c .plan-bare .ensures in
     record {
       only = q .0 ∙ s .pre .1;
+      linked = λ z. absurd (true≢false (sym (q .0 ∙ c .before .if1 .taken) ∙ z));
       nothing = λ z. only-bare (now (s .args .ws)) (sym (s .pre .1) ∙ c .before .if1 .taken);
       tabled = λ z. absurd (true≢false (sym (q .1) ∙ z));
     }
@@ -86,11 +90,12 @@ returns c =
 returns-2 : tie.Need-returns-2
 returns-2 c =
     let k = c .before .before .before in
-    let s = k .before .before .before in
+    let s = k .before .before .before .before .before in
     let ws = now (s .args .ws) in
     let q = c .plan-bare2 .ensures in
     record {
       only = q .0 ∙ s .pre .1;
+      linked = λ z. subst (Links ws) (sym (q .2)) (k .before .past-source .ensures);
       nothing = λ z. source-nothing ws (s .pre .0) (subst (Sourced ws) (c .before .enum-told .given .1) (k .source-at .ensures));
       tabled = λ z. absurd (true≢false (sym (q .1) ∙ z));
     }
@@ -99,8 +104,10 @@ returns-3 : tie.Need-returns-3
 returns-3 c =
     let l = c .before in
     let k = l .before in
+    let o = k .before .before .before .before .before .before .before in
     record {
       only = s k .pre .1;
+      linked = λ z. o .past-source .ensures;
       nothing = λ z. absurd (true≢false (sym z));
       tabled = λ z. record {
         short = small-source k;
@@ -109,6 +116,7 @@ returns-3 c =
         sound = sound k;
         wide = l .lay-out .ensures .0;
         wraps = l .lay-out .ensures .1;
+        past = o .before .past-labels .ensures;
         whole = whole k;
       };
     }
@@ -119,6 +127,8 @@ plan-source-spec =
     (tie.spec
     (λ c κs. search needs)
     returns
+    (λ c κs. c .before .before .pre .0)
+    (λ c κs. c .past-labels .ensures)
     (λ c κs. search needs)
     (λ c. search needs)
     (λ c. search needs)

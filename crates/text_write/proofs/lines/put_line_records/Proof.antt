@@ -32,13 +32,13 @@ use Rattle.text_write.proofs.lines.put_line_records.Statement.{statemen
 use Rattle.text_write.proofs.lines.put_line_records.Tie as tie
 
 abbrev Inv-loop : tie.InvT-loop
-Inv-loop out₀ ws t start len₀ next₀ done₀ at₀ out len next done at =
+Inv-loop out₀ ws t start from len₀ next₀ done₀ at₀ out len next done at =
     (ls : List LineBlock) × Walking ws (sourceOf ws t) (t .lines) (t .wraps) at done next ls
     × Emits (rowsText (t .width) (sourceOf ws t) (walkRows ws (t .lines) (t .wraps))) out₀
     (rowsText (t .width) (sourceOf ws t) (walkFrom (t .lines) (t .wraps) done ls)) (record { at = len; out = out })
 
 abbrev μ-loop : tie.MeasureT-loop
-μ-loop out₀ ws t start len₀ next₀ done₀ at₀ out len next done at = length ws - at
+μ-loop out₀ ws t start from len₀ next₀ done₀ at₀ out len next done at = length ws - at
 
 -- at a record
 module _ (c : tie.In-loop Inv-loop μ-loop) where
@@ -137,10 +137,11 @@ emitted-all c = let m = c .before .before in emit (o m .loop .inv .2) (last m) [
 loop-holds : tie.Need-loop-holds Inv-loop μ-loop
 loop-holds c = let s = c .before .before .before in
     let a = s .args in
-    let t = textBytes (now (a .ws)) (a .t .text) (a .t .n) in (
+    let t = textBytes (now (a .ws)) (a .t .text) (a .t .n) in
+    let w = walking-start (now (a .ws)) t (a .t .lines) (a .t .wraps) (c .smaller-line .result) (a .start) (s .pre .0)
+    (c .smaller-line .ensures) (s .pre .4) in (
       lineBlocksIn (now (a .ws)),
-      walking-start (now (a .ws)) t (a .t .lines) (a .t .wraps) (c .smaller-line .result) (a .start) (s .pre .0) (c .smaller-line .ensures)
-          (s .pre .4),
+      record { past = w .past; left = s .pre .6 .0; apart = w .apart; done-is = w .done-is; here = w .here },
       subst (λ (r : List Row). Emits (rowsText (a .t .width) t (walkRows (now (a .ws)) (a .t .lines) (a .t .wraps))) (now (a .out))
           (rowsText (a .t .width) t r) (record { at = 0; out = now (a .out) }))
           (sym (walk-rows (now (a .ws)) (a .t .lines) (a .t .wraps) (c .smaller-line .result) (c .smaller-line .ensures)))

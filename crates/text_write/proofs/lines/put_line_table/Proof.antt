@@ -137,6 +137,7 @@ put-line-records-requires c κs = let e = c .before .before .before .before in
       wrapped-passed (ws g) (text g) (a .p .lines) (width g) (r g) (s g .pre .0) (s g .pre .1 .counted) (few g) (short g)
           (s g .pre .1 .wraps) (s g .pre .1 .wide) (e .put-run .result .start) (e .put-run .ensures .1),
       part-room (emits2 e) (late g) [] (sym (append-nil (late g))),
+      s g .pre .1 .past,
     )
 
 add-len-3 : tie.Need-add-len-3
