@@ -246,7 +246,7 @@ fn put_straight(out: &mut [u32], t: &[u8], kind: u8, from: usize) -> usize
     let mut at = 0;
     let mut row = from;
     loop {
-        let Found::At(p, next) = next_place(t, kind, row) else {
+        let Found::At(p, _, _, next) = next_place(t, kind, row) else {
             return at;
         };
         at += put_row(&mut out[at..], t, kind, p);
@@ -355,7 +355,7 @@ fn straight_room(t: &[u8], kind: u8, from: usize, room: usize) -> Room
     let mut left = room;
     let mut row = from;
     loop {
-        let Found::At(p, next) = next_place(t, kind, row) else {
+        let Found::At(p, _, _, next) = next_place(t, kind, row) else {
             return Room::Left(left);
         };
         let Room::Left(m) = row_room(t, kind, p, left) else {
