@@ -11,7 +11,7 @@ use Rattle.text_tables.specs.Debug.{Groups, lineView}
 use Rattle.text_source.specs.Stream.{sourceCell, sourceFrom, atMost}
 use lib.Seq.{take-all}
 use lib.Dec.{ltb}
-use borrow.Author.Tests.{ltb-true, ltb-false}
+use borrow.Author.Tests.{ltb-true, ltb-false, le-ltb}
 use Rattle.text_lines.proofs.TestLaws.{by-test, front}
 use Rattle.text_lines.proofs.LineLaws.{spans-inside, to-end}
 
@@ -38,6 +38,10 @@ part-most t a e =
     by-test (ltb (length t) e)
     (λ h. let k : length t < e = ltb-true (length t) e h in simp h (to-end t a ∙ sym (take-all (e - a) (drop a t) (omega (arith, length-drop a t)))))
     (λ h. simp h)
+
+pub most-same : (e most : ℕ) → e ≤ most → e ≡ atMost e most
+unfolding atMost
+most-same e most h = simp (le-ltb most e h)
 
 pub at-most : (e most : ℕ) → atMost e most ≤ most
 unfolding atMost

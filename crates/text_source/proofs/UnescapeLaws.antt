@@ -23,10 +23,12 @@ use Rattle.trim.specs.Span.{part}
 use Rattle.text_lines.proofs.LineLaws.{length-part}
 use Rattle.text_source.specs.Stream.{bytesLeft, sourceFrom, atMost}
 use Rattle.text_source.proofs.StreamLaws.{part-front, part-end, part-most, at-most}
-use Rattle.text_source.specs.Unescape.{escapeByte, EscapeAt, tokensLeft, Plain, TokenAt, NextDigits, NextEscape, UnescapedIs}
+use Rattle.text_source.specs.Unescape.{escapeByte, EscapeAt, tokensLeft, Plain, TokenAt, NextToken, NextDigits, NextEscape, UnescapedIs}
 use Rattle.text_source.specs.declared.Unicode.{Unicode}
 use Rattle.text_source.specs.declared.Unicode.the-variants as un
 use Rattle.text_source.specs.declared.Source.{Source}
+use Rattle.text_source.specs.declared.Token.{Token}
+use Rattle.text_source.specs.declared.Token.the-variants as tk
 use Rattle.text_source.specs.declared.Unescaped.{Unescaped}
 use Rattle.text_lines.proofs.TestLaws.{by-test, and-no, within-yes, within-low, within-high}
 
@@ -451,3 +453,16 @@ plain-more t a e h n i p q x =
 -- one stretch after another
 pub plain-join : (t : List ℕ) (a m e : ℕ) → Plain t a m → Plain t m e → Plain t a e
 plain-join t a m e f g i p q = by-test (ltb i m) (λ w. f i p (ltb-true i m w)) (λ w. g i (ltb-false i m w) q)
+
+-- what is said of a cursor is said of each with the same bytes left
+module _ (t : List ℕ) (c d : Source) (q : bytesLeft t c ≡ bytesLeft t d) where
+  token-at : (bs : List ℕ) (e : Source) → TokenAt t d bs e → TokenAt t c bs e
+  token-at bs e k =
+      record { less = rw q (k .less); parts = k .parts; bytes = k .bytes; same = ap (tokens unescapeAt 0) q ∙ k .same }
+
+  pub token-same : (r : Token) → NextToken t d r → NextToken t c r
+  token-same (tk.Stretch a e x) k = (k .0, k .1, token-at (part a e t) x (k .2))
+  token-same (tk.Plain b x) k = token-at (b ∷ []) x k
+  token-same (tk.Scalar v x) k = (token-at (encodeScalar v) x (k .0), k .1)
+  token-same tk.Bad k = ap (tokens unescapeAt 0) q ∙ k
+  token-same tk.Done k = q ∙ k

@@ -12,7 +12,7 @@ ghost use lib.ListN.{length, getD};
 ghost use Rattle.format.specs.Utf8.{encodeScalar};
 ghost use Rattle.format.specs.TextReader.{splitn, unescape};
 ghost use Rattle.trim.specs.Span.{Spans};
-ghost use Rattle.text_source.specs.Stream.{atMost, NextByte, bytesLeft};
+ghost use Rattle.text_source.specs.Stream.{atMost, NextPiece, NextByte, bytesLeft};
 ghost use Rattle.text_source.specs.Unescape.{NextEscape, NextDigits, NextToken, Plain, UnescapedIs, escapeByte};
 
 // A place in the source column: in a cell, and the place of the next line.
@@ -44,45 +44,26 @@ fn source_cell(l: &[u8]) -> Span
     third_cell(l)
 }
 
-// The next byte of the source column: the next one of a cell, or what is found in later cells.
-pub fn next_byte(t: &[u8], c: Source) -> Byte
-    ensures { λ r. ⌜ NextByte (now (t .entry)) c r ⌝ }
-{
-    let at = c.at;
-    let end = c.end;
-    if end <= at {
-        return find_byte(t, c);
-    }
-    if t.len() < end {
-        return find_byte(t, c);
-    }
-    Byte::Is(
-        t[at],
-        Source {
-            at: at + 1,
-            end: end,
-            next: c.next,
-        },
-    )
+// A cursor that is at a byte.
+pub enum Piece {
+    At(Source),
+    Done,
 }
 
-// The next byte of the source column, of whatever cell: a way that stays out of the fast one.
-fn find_byte(t: &[u8], c: Source) -> Byte
-    ensures { λ r. ⌜ NextByte (now (t .entry)) c r ⌝ }
+// The cursor at the next byte of the source column, of whatever cell: a way that stays out of the fast one.
+fn find_piece(t: &[u8], c: Source) -> Piece
+    ensures { λ r. ⌜ NextPiece (now (t .entry)) c r ⌝ }
 {
     let mut at = c.at;
     let mut end = at_most(c.end, t.len());
     let mut next = c.next;
     loop {
         if at < end {
-            return Byte::Is(
-                t[at],
-                Source {
-                    at: at + 1,
-                    end: end,
-                    next: next,
-                },
-            );
+            return Piece::At(Source {
+                at: at,
+                end: end,
+                next: next,
+            });
         }
         let Line::At {
             start,
@@ -90,13 +71,46 @@ fn find_byte(t: &[u8], c: Source) -> Byte
             next: n,
         } = next_source_line(t, next)
         else {
-            return Byte::Done;
+            return Piece::Done;
         };
         let cell = source_cell(&t[start..stop]);
         at = start + cell.start;
         end = start + cell.end;
         next = n;
     }
+}
+
+// The cursor at the next byte of the source column: as it is where it is at one of its cell, or what is found in later cells.
+fn next_piece(t: &[u8], c: Source) -> Piece
+    ensures { λ r. ⌜ NextPiece (now (t .entry)) c r ⌝ }
+{
+    let at = c.at;
+    let end = c.end;
+    if end <= at {
+        return find_piece(t, c);
+    }
+    if t.len() < end {
+        return find_piece(t, c);
+    }
+    Piece::At(c)
+}
+
+// The next byte of the source column.
+pub fn next_byte(t: &[u8], c: Source) -> Byte
+    ensures { λ r. ⌜ NextByte (now (t .entry)) c r ⌝ }
+{
+    let Piece::At(d) = next_piece(t, c) else {
+        return Byte::Done;
+    };
+    let at = d.at;
+    Byte::Is(
+        t[at],
+        Source {
+            at: at + 1,
+            end: d.end,
+            next: d.next,
+        },
+    )
 }
 
 // What `\u` escapes.
@@ -271,8 +285,11 @@ fn plain_end(t: &[u8], at: usize, end: usize) -> usize
 pub fn next_token(t: &[u8], c: Source) -> Token
     ensures { λ r. ⌜ NextToken (now (t .entry)) c r ⌝ }
 {
-    let at = c.at;
-    let end = at_most(c.end, t.len());
+    let Piece::At(d) = next_piece(t, c) else {
+        return Token::Done;
+    };
+    let at = d.at;
+    let end = d.end;
     let plain = plain_end(t, at, end);
     if at < plain {
         return Token::Stretch(
@@ -281,11 +298,11 @@ pub fn next_token(t: &[u8], c: Source) -> Token
             Source {
                 at: plain,
                 end: end,
-                next: c.next,
+                next: d.next,
             },
         );
     }
-    one_token(t, c)
+    one_token(t, d)
 }
 
 // How many bytes a scalar value has.

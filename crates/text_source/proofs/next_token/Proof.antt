@@ -1,23 +1,45 @@
+-- What stands at the byte that the cursor is then at. Assumes nothing.
 use borrow.Author.Needs.{needs}
-use native.Mathlib.Omega.{arith}
-use mathlib.Core.Path.{sym, subst}
-use Prim.Native.Nat.{ℕ, _≤_}
+use mathlib.Core.Path.{subst}
 use denote.Ref.{now}
 use lib.ListN.{length}
-use Rattle.text_source.proofs.StreamLaws.{at-most}
-use Rattle.text_source.proofs.UnescapeLaws.{token-stretch}
+use Rattle.text_source.specs.Stream.{NextPiece}
+use Rattle.text_source.specs.declared.Piece.the-variants as pc
+use Rattle.text_source.specs.declared.Source.{Source}
+use Rattle.text_source.specs.declared.Token.the-variants as tk
+use Rattle.text_source.proofs.StreamLaws.{most-same}
+use Rattle.text_source.proofs.UnescapeLaws.{token-stretch, token-same}
 use Rattle.text_source.proofs.next_token.Statement.{statement}
 use Rattle.text_source.proofs.next_token.Tie as tie
 
-plain-end-requires : tie.Need-plain-end-requires
-plain-end-requires c κs =
-    let a = c .before .before .args in
-    subst (λ (x : ℕ). x ≤ length (now (a .t))) (sym (c .at-most .ensures)) (at-most (a .c .end) (length (now (a .t))))
+piece : (c : tie.After-d) → NextPiece (now (c .before .before .before .before .args .t)) (c .before .before .before .before .args .c) (pc.At (c .d .given .0 .0))
+piece c =
+    let a = c .before .before .before .before .args in
+    subst (NextPiece (now (a .t)) (a .c)) (c .d .given .1) (c .before .before .next-piece .ensures)
 
 returns : tie.Need-returns
 returns c =
+    let a = c .before .before .before .before .args in
+    subst (NextPiece (now (a .t)) (a .c)) (c .enum-told .given .1) (c .before .before .next-piece .ensures)
+
+returns-2 : tie.Need-returns-2
+returns-2 c =
+    let k = c .before .before .before in
+    let t = now (k .before .before .before .before .args .t) in
+    let d : Source = k .d .given .0 .0 in
+    let q = piece k in
     let p = c .before .plain-end .ensures (c .if1 .taken) in
-    token-stretch _ _ _ _ (c .before .before .at-most .ensures) (c .if1 .taken) (p .0) (p .1)
+    token-same t (k .before .before .before .before .args .c) d (q .0)
+    (tk.Stretch (d .at) (c .before .plain-end .result) (record { at = c .before .plain-end .result; end = d .end; next = d .next }))
+    (token-stretch t d (d .end) (c .before .plain-end .result) (most-same (d .end) (length t) (q .2)) (c .if1 .taken) (p .0) (p .1))
+
+returns-3 : tie.Need-returns-3
+returns-3 c =
+    let k = c .before .before .before .before in
+    token-same (now (k .before .before .before .before .args .t)) (k .before .before .before .before .args .c) (k .d .given .0 .0) (piece k .0)
+    (c .one-token .result) (c .one-token .ensures)
 
 pub next-token-spec : {M : Type 1} → statement M
-next-token-spec = tie.close (tie.spec (λ c κs. search needs) plain-end-requires returns (λ c κs. search needs) (λ c. c .one-token .ensures))
+next-token-spec =
+    tie.close
+    (tie.spec (λ c κs. search needs) (λ c. search needs) (λ c. search needs) returns (λ c κs. piece (c .before) .2) returns-2 (λ c κs. search needs) returns-3)

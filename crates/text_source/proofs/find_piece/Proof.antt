@@ -9,9 +9,9 @@ use Rattle.trim.specs.Span.{part}
 use Rattle.text_lines.specs.Views.{StepAt}
 use Rattle.text_tables.specs.Debug.{NextIn, lineView}
 use Rattle.text_source.specs.Stream.{sourceFrom, atMost}
-use Rattle.text_source.proofs.StreamLaws.{byte-here, byte-none, byte-later, part-most, at-most}
-use Rattle.text_source.proofs.find_byte.Statement.{statement}
-use Rattle.text_source.proofs.find_byte.Tie as tie
+use Rattle.text_source.proofs.StreamLaws.{byte-none, byte-later, part-most, at-most}
+use Rattle.text_source.proofs.find_piece.Statement.{statement}
+use Rattle.text_source.proofs.find_piece.Tie as tie
 
 abbrev Inv-loop : tie.InvT-loop
 Inv-loop t at₀ end₀ next₀ at end next = (end ≤ length t) × (part at end t ++ sourceFrom t next ≡ part at₀ end₀ t ++ sourceFrom t next₀)
@@ -29,16 +29,11 @@ start t at end next e q = ap (λ (p : List ℕ). p ++ sourceFrom t next) (sym (p
 loop-holds : tie.Need-loop-holds Inv-loop μ-loop
 loop-holds c = (subst (λ (x : ℕ). x ≤ length (now (c .before .before .args .t))) (sym (c .at-most .ensures)) (at-most (c .before .before .args .c .end) (length (now (c .before .before .args .t)))), refl)
 
-shared-slice-read-t13 : tie.Need-shared-slice-read-t13 Inv-loop μ-loop
-shared-slice-read-t13 c = omega (arith, c .before .before .loop .inv .0)
-
-add-t14 : tie.Need-add-t14 Inv-loop μ-loop
-add-t14 c = omega (arith, c .before .before .loop .inv .0)
-
 returns : tie.Need-returns Inv-loop μ-loop
-returns c = let a = c .before .before .before .before .before .args in
-    let l = c .before .before .loop in
-    start (now (a .t)) (a .c .at) (a .c .end) (a .c .next) _ (c .before .before .before .at-most .ensures) ∙ byte-here _ _ _ _ _ (l .inv .1) (c .before .if1 .taken) (l .inv .0)
+returns c =
+    let a = c .before .before .before .before .args in
+    let l = c .before .loop in
+    (start (now (a .t)) (a .c .at) (a .c .end) (a .c .next) _ (c .before .before .at-most .ensures) ∙ sym (l .inv .1), c .if1 .taken, l .inv .0)
 
 returns-2 : tie.Need-returns-2 Inv-loop μ-loop
 returns-2 c = let a = c .before .before .before .before .before .before .before .args in
@@ -65,5 +60,5 @@ loop-less c = omega (arith, line (c .before .before .before .before .before) .on
 loop-again : tie.Need-loop-again Inv-loop μ-loop
 loop-again c = let r = byte-later _ _ _ _ _ (c .before .before .before .before .before .before .before .before .before .loop .inv .1) (c .before .before .before .before .before .before .before .before .if1 .left) _ _ _ _ _ (line (c .before .before .before .before .before)) (c .before .before .source-cell .ensures) in (r .1, r .2)
 
-pub find-byte-spec : {M : Type 1} → statement M
-find-byte-spec = tie.close (tie.spec Inv-loop μ-loop (λ c κs. search needs) loop-holds shared-slice-read-t13 add-t14 returns (λ c κs. search needs) (λ c. search needs) (λ c. search needs) returns-2 sub-source-cell part-source-cell-start part-source-cell-end (λ c κs. search needs) add-at add-end loop-less loop-again)
+pub find-piece-spec : {M : Type 1} → statement M
+find-piece-spec = tie.close (tie.spec Inv-loop μ-loop (λ c κs. search needs) loop-holds returns (λ c κs. search needs) (λ c. search needs) (λ c. search needs) returns-2 sub-source-cell part-source-cell-start part-source-cell-end (λ c κs. search needs) add-at add-end loop-less loop-again)
