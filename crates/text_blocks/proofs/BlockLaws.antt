@@ -2,25 +2,26 @@
 -- Assumes nothing.
 use mathlib.Core.Path.{_≡_, refl, sym, ap, _∙_, subst}
 use mathlib.Core.Bool.{Bool, true, false, true≢false, not}
-use mathlib.Core.List.{List, [], _∷_}
+use mathlib.Core.List.{List, [], _∷_, map, flatMap}
 use mathlib.Core.Option.{Option, none, some}
-use Prim.Native.Nat.{ℕ, zero, suc, _+_, _-_, _≤_, _<_, compare, Ordering, Ordering·lt, Ordering·eq, Ordering·gt}
+use Prim.Native.Nat.{ℕ, zero, suc, _+_, _-_, _^_, _%_, _≤_, _<_, compare, Ordering, Ordering·lt, Ordering·eq, Ordering·gt}
 use native.Mathlib.Omega.{arith}
-use lib.ListN.{length, take, drop, getD, set, length-set}
+use lib.ListN.{length, take, drop, getD, set, length-set, length-append, length-map}
 use lib.Seq.{getD-set-same, getD-set-other, drop-drop}
 use lib.Dec.{leb, eqb, isEq}
 use borrow.Author.Tests.{eq-eqb, ne-eqb, eqb-true, eqb-false, leb-true, leb-false}
 use Rattle.format.specs.Basics.{Outcome, refused, given, _>>=_, ask, need, andThen, allSome, if_then_else_, isSome}
 use Rattle.format.specs.Tokens.{Parts, scanTokens}
-use Rattle.format.specs.Sorted.{order, thenBy, atKey}
+use Rattle.format.specs.Sorted.{order, byOrdering, thenBy, upsert, atKey}
 use Rattle.format.proofs.SortedLaws.{atKey-upsert}
 use Rattle.format.specs.TextReader.{hex2u16, parseDecimal, parseNumber, maybeHex2u16, blockAt, parseTextGroup}
 use Rattle.format.specs.ObjectFile.{ObjectFile, Block, blockKey}
 use Rattle.format.specs.Records.{putRecord, block}
+use Rattle.format.specs.Words.{memoryWord, recordWords}
 use Rattle.trim.specs.Span.{part}
 use Rattle.text_lines.specs.Groups.{partsFrom, RowAt}
 use Rattle.text_lines.proofs.RowLaws.{rows-on, row-groups}
-use Rattle.text_blocks.specs.Blocks.{wordsIn, blockIn, EntriesAt, BlockFrom, NoBlock, Seen, Settles}
+use Rattle.text_blocks.specs.Blocks.{wordsIn, blockIn, EntriesAt, BlockFrom, NoBlock, Seen, blocksLength, Counts, Settles}
 use Rattle.text_lines.proofs.TestLaws.{by-test}
 
 enough : (n : ℕ) (ls : List (List ℕ)) → n ≤ length ls → allSome maybeHex2u16 (take n ls) ≡ wordsIn n ls
@@ -246,49 +247,95 @@ module _ (t : List ℕ) (at a e n : ℕ) (l : RowAt t at a e n) where
     pub block-yes : (x q : ℕ) → d < 65536 → some x ≡ parseNumber 10 65536 (part c f t) → EntriesAt t m x q → BlockFrom t at d x m q
     block-yes x q small g w = let ws = there-is (wordsIn x (partsFrom t m .before)) (w .read) in block-of x q small g w (ws .0) (ws .1)
 
+-- WORDS of blocks: one that is new has its own, beside those of the others
+words-count : (k : ℕ) (ls : List (List ℕ)) (ws : List (Option ℕ)) → wordsIn k ls ≡ some ws → length ws ≡ k
+unfolding wordsIn
+words-count zero ls ws e = let q : ws ≡ [] = cc in ap length q
+words-count (suc k) [] ws e = let z : _≡_ {A = ℕ} 0 1 = cc in absurd (omega arith)
+words-count (suc k) (l ∷ ls) ws e = go (maybeHex2u16 l) (wordsIn k ls) (words-count k ls) e
+  where
+    go : (o : Option (Option ℕ)) (p : Option (List (Option ℕ))) → ((vs : List (Option ℕ)) → p ≡ some vs → length vs ≡ k)
+        → (andThen o λ w. andThen p λ vs. some (w ∷ vs)) ≡ some ws → length ws ≡ suc k
+    go none p ih e = let z : _≡_ {A = ℕ} 0 1 = cc in absurd (omega arith)
+    go (some w) none ih e = let z : _≡_ {A = ℕ} 0 1 = cc in absurd (omega arith)
+    go (some w) (some vs) ih e = let q : ws ≡ w ∷ vs = cc in ap length q ∙ ap suc (ih vs refl)
+
+length-block : (b : Block) (bs : List Block) → blocksLength (b ∷ bs) ≡ 1 + length (b .words) + blocksLength bs
+unfolding blocksLength flatMap recordWords
+length-block b bs =
+    omega (arith, length-append (recordWords (block b)) (flatMap recordWords (map block bs)), length-map (b .words) memoryWord)
+
+length-new : (b : Block) (bs : List Block) → isSome (atKey blockKey ((b .address) ∷ []) bs) ≡ false
+    → blocksLength (upsert blockKey b bs) ≡ 1 + length (b .words) + blocksLength bs
+unfolding upsert atKey isSome
+length-new b [] n = length-block b []
+length-new b (x ∷ xs) n = go (order (blockKey b) (blockKey x)) n (length-new b xs)
+  where
+    go : (o : Ordering) → isSome (if isEq o then some x else atKey blockKey ((b .address) ∷ []) xs) ≡ false
+        → (isSome (atKey blockKey ((b .address) ∷ []) xs) ≡ false → blocksLength (upsert blockKey b xs) ≡ 1 + length (b .words) + blocksLength xs)
+        → blocksLength (byOrdering o (b ∷ x ∷ xs) (b ∷ xs) (x ∷ upsert blockKey b xs)) ≡ 1 + length (b .words) + blocksLength (x ∷ xs)
+    go Ordering·lt n ih = length-block b (x ∷ xs)
+    go Ordering·eq n ih = absurd (true≢false n)
+    go Ordering·gt n ih = omega (arith, length-block x (upsert blockKey b xs), length-block x xs, ih n)
+
+counts-put : (h : ObjectFile) (b : Block) (words n m : ℕ) → isSome (atKey blockKey ((b .address) ∷ []) (h .blocks)) ≡ false → Counts h words
+    → length (b .words) ≡ n → m ≡ (words + (1 + n)) % 2 ^ 64 → Counts (putRecord h (block b)) m
+unfolding putRecord
+counts-put h b words n m new c l e =
+    let k : ℕ = blocksLength (h .blocks) in
+    let g : blocksLength (upsert blockKey b (h .blocks)) ≡ 1 + length (b .words) + k = length-new b (h .blocks) new in
+    let z : m ≡ (1 + length (b .words) + k) % 2 ^ 64 = omega (arith, c, l, e) in
+    z ∙ ap (λ (x : ℕ). x % 2 ^ 64) (sym g)
+
 -- what the loop over blocks knows: the object that the definition's scan has by now, whichever stood at first
-pub record Marking (t : List ℕ) (at : ℕ) (seen₀ : List ℕ) (i : ℕ) (seen : List ℕ) : Type 0 where
+pub record Marking (t : List ℕ) (at words₀ : ℕ) (seen₀ : List ℕ) (i words : ℕ) (seen : List ℕ) : Type 0 where
   pub from : at ≤ i
   pub size : length seen ≡ length seen₀
   pub groups : partsFrom t i .groups ≡ partsFrom t at .groups
-  pub stands : (h₀ : ObjectFile) → Seen h₀ seen₀ → (h : ObjectFile) × Seen h seen × (parseTextGroup h (partsFrom t i .before) ≡ parseTextGroup h₀ (partsFrom t at .before))
+  pub stands : (h₀ : ObjectFile) → Seen h₀ seen₀ → Counts h₀ words₀
+      → (h : ObjectFile) × Seen h seen × Counts h words × (parseTextGroup h (partsFrom t i .before) ≡ parseTextGroup h₀ (partsFrom t at .before))
 
-pub marking-begin : (t : List ℕ) (at : ℕ) (seen : List ℕ) → Marking t at seen at seen
-marking-begin t at seen = record { from = omega arith; size = refl; groups = refl; stands = λ h₀ s. (h₀, s, refl) }
+pub marking-begin : (t : List ℕ) (at words : ℕ) (seen : List ℕ) → Marking t at words seen at words seen
+marking-begin t at words seen = record { from = omega arith; size = refl; groups = refl; stands = λ h₀ s n. (h₀, s, n, refl) }
 
-module _ (t : List ℕ) (at : ℕ) (seen₀ : List ℕ) (i : ℕ) (seen : List ℕ) (m : Marking t at seen₀ i seen) where
-  pub marking-on : (a n p q : ℕ) → BlockFrom t i a n p q → (getD seen a 0 ≡ 1 → ⊥) → a < length seen → Marking t at seen₀ q (set seen a 1)
-  marking-on a n p q b new l =
+module _ (t : List ℕ) (at words₀ : ℕ) (seen₀ : List ℕ) (i words : ℕ) (seen : List ℕ) (m : Marking t at words₀ seen₀ i words seen) where
+  pub marking-on : (a n p q : ℕ) → BlockFrom t i a n p q → (getD seen a 0 ≡ 1 → ⊥) → a < length seen → (words′ : ℕ) → words′ ≡ (words + (1 + n)) % 2 ^ 64
+      → Marking t at words₀ seen₀ q words′ (set seen a 1)
+  marking-on a n p q b new l words′ e =
       record {
         from = omega (arith, m .from, b .on);
         size = length-set seen a 1 ∙ m .size;
         groups = b .groups ∙ m .groups;
-        stands = λ h₀ s.
-            let w = m .stands h₀ s in (
+        stands = λ h₀ s c.
+            let w = m .stands h₀ s c in
+            let fresh = w .1 a ∙ ne-eqb (getD seen a 0) 1 new in (
               putRecord (w .0) (block (record { address = a; words = b .words })),
               seen-put (w .0) seen (record { address = a; words = b .words }) (w .1) l,
+              counts-put (w .0) (record { address = a; words = b .words }) words n words′ fresh (w .2) (words-count n (partsFrom t p .before) (b .words) (b .there)) e,
               ap (parseTextGroup (putRecord (w .0) (block (record { address = a; words = b .words })))) (b .rest)
-                  ∙ sym (text-on (w .0) (partsFrom t i .before) (b .first) (b .lines) (b .rows) (record { address = a; words = b .words }) n (b .read) (w .1 a ∙ ne-eqb (getD seen a 0) 1 new))
-                  ∙ w .2,
+                  ∙ sym (text-on (w .0) (partsFrom t i .before) (b .first) (b .lines) (b .rows) (record { address = a; words = b .words }) n (b .read) fresh)
+                  ∙ w .3,
             );
       }
 
-  settled-as : (o : Outcome ObjectFile) (number : ℕ) (h₀ : ObjectFile) → o ≡ parseTextGroup h₀ (partsFrom t at .before) → Settles o number seen → Settles (parseTextGroup h₀ (partsFrom t at .before)) number seen
-  settled-as o number h₀ e s = subst (λ (x : Outcome ObjectFile). Settles x number seen) e s
+  settled-as : (o : Outcome ObjectFile) (number : ℕ) (h₀ : ObjectFile) → o ≡ parseTextGroup h₀ (partsFrom t at .before) → Settles o number seen words
+      → Settles (parseTextGroup h₀ (partsFrom t at .before)) number seen words
+  settled-as o number h₀ e s = subst (λ (x : Outcome ObjectFile). Settles x number seen words) e s
 
-  pub marking-again : (a n p q : ℕ) → BlockFrom t i a n p q → getD seen a 0 ≡ 1 → (h₀ : ObjectFile) → Seen h₀ seen₀ → Settles (parseTextGroup h₀ (partsFrom t at .before)) 25 seen
-  marking-again a n p q b old h₀ s =
-      let w = m .stands h₀ s in
+  pub marking-again : (a n p q : ℕ) → BlockFrom t i a n p q → getD seen a 0 ≡ 1 → (h₀ : ObjectFile) → Seen h₀ seen₀ → Counts h₀ words₀
+      → Settles (parseTextGroup h₀ (partsFrom t at .before)) 25 seen words
+  marking-again a n p q b old h₀ s c =
+      let w = m .stands h₀ s c in
       settled-as (refused 25) 25 h₀
-      (sym (text-again (w .0) (partsFrom t i .before) (b .first) (b .lines) (b .rows) (record { address = a; words = b .words }) n (b .read) (w .1 a ∙ eq-eqb (getD seen a 0) 1 old)) ∙ w .2)
+      (sym (text-again (w .0) (partsFrom t i .before) (b .first) (b .lines) (b .rows) (record { address = a; words = b .words }) n (b .read) (w .1 a ∙ eq-eqb (getD seen a 0) 1 old)) ∙ w .3)
       refl
 
-  pub marking-bad : NoBlock t i → (h₀ : ObjectFile) → Seen h₀ seen₀ → Settles (parseTextGroup h₀ (partsFrom t at .before)) 24 seen
-  marking-bad b h₀ s =
-      let w = m .stands h₀ s in
-      settled-as (refused 24) 24 h₀ (sym (text-bad (w .0) (partsFrom t i .before) (b .first) (b .lines) (b .rows) (b .read)) ∙ w .2) refl
+  pub marking-bad : NoBlock t i → (h₀ : ObjectFile) → Seen h₀ seen₀ → Counts h₀ words₀ → Settles (parseTextGroup h₀ (partsFrom t at .before)) 24 seen words
+  marking-bad b h₀ s c =
+      let w = m .stands h₀ s c in
+      settled-as (refused 24) 24 h₀ (sym (text-bad (w .0) (partsFrom t i .before) (b .first) (b .lines) (b .rows) (b .read)) ∙ w .3) refl
 
-  pub marking-end : partsFrom t i .before ≡ [] → (h₀ : ObjectFile) → Seen h₀ seen₀ → Settles (parseTextGroup h₀ (partsFrom t at .before)) 0 seen
-  marking-end e h₀ s =
-      let w = m .stands h₀ s in
-      settled-as (given (w .0)) 0 h₀ (sym (text-end (w .0) (partsFrom t i .before) e) ∙ w .2) (refl, w .1)
+  pub marking-end : partsFrom t i .before ≡ [] → (h₀ : ObjectFile) → Seen h₀ seen₀ → Counts h₀ words₀ → Settles (parseTextGroup h₀ (partsFrom t at .before)) 0 seen words
+  marking-end e h₀ s c =
+      let w = m .stands h₀ s c in
+      settled-as (given (w .0)) 0 h₀ (sym (text-end (w .0) (partsFrom t i .before) e) ∙ w .3) (refl, w .1, w .2)

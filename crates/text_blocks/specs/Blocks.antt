@@ -2,9 +2,9 @@
 -- Assumes nothing.
 use mathlib.Core.Path.{_≡_}
 use mathlib.Core.Bool.{Bool, true, false, _&&_}
-use mathlib.Core.List.{List, [], _∷_}
+use mathlib.Core.List.{List, [], _∷_, map, flatMap}
 use mathlib.Core.Option.{Option, none, some}
-use Prim.Native.Nat.{ℕ, zero, suc, _+_, _≤_, _<_}
+use Prim.Native.Nat.{ℕ, zero, suc, _+_, _^_, _%_, _≤_, _<_}
 use lib.ListN.{length, drop, getD}
 use lib.Dec.{eqb, ltb}
 use Rattle.format.specs.Basics.{Outcome, refused, given, andThen, isSome, if_then_else_}
@@ -13,9 +13,11 @@ use Rattle.format.specs.TextReader.{hex2u16, parseDecimal, maybeHex2u16, parseT
 use Rattle.format.specs.ObjectFile.{ObjectFile, Block, blockKey}
 use Rattle.text_lines.specs.declared.Passed.{Passed}
 use Rattle.text_lines.specs.declared.Passed.the-variants as pa
+use Rattle.text_blocks.specs.declared.Text.{Text}
 use Rattle.text_blocks.specs.declared.BlockStep.{BlockStep}
 use Rattle.text_blocks.specs.declared.BlockStep.the-variants as bl
-use Rattle.format.specs.Words.{memoryWord}
+use Rattle.format.specs.Records.{block}
+use Rattle.format.specs.Words.{memoryWord, recordWords}
 use Rattle.trim.specs.Span.{part}
 use Rattle.text_cells.specs.Cells.{digitOr16}
 use Rattle.text_lines.specs.Groups.{partsFrom, RowAt}
@@ -96,15 +98,23 @@ NextBlock t at bl.Bad = NoBlock t at
 abbrev pub Seen : ObjectFile → List ℕ → Type 0
 Seen h seen = (a : ℕ) → isSome (atKey blockKey (a ∷ []) (h .blocks)) ≡ eqb (getD seen a 0) 1
 
--- an outcome has this number, and with 0 its addresses are marked
-abbrev pub Settles : Outcome ObjectFile → ℕ → List ℕ → Type 0
-Settles (refused n) number seen = number ≡ n
-Settles (given h) number seen = (number ≡ 0) × Seen h seen
+-- how many words blocks have
+unfoldable pub blocksLength : List Block → ℕ
+blocksLength bs = length (flatMap recordWords (map block bs))
 
--- What a check of .TEXT's lines comes to, from marks that stand for any object. With fewer than 65,536 marks nothing is marked: 3.
-pub record BlocksChecked (t : List ℕ) (at : ℕ) (seen seen′ : List ℕ) (number next : ℕ) : Type 0 where
-  pub from : at ≤ next
-  pub after : number ≡ 0 → partsFrom t next ≡ record { before = []; groups = partsFrom t at .groups }
-  pub short : length seen < 65536 → (number ≡ 3) × (seen′ ≡ seen)
-  pub settles : 65536 ≤ length seen → (h : ObjectFile) → Seen h seen
-      → Settles (parseTextGroup h (partsFrom t at .before)) number seen′
+-- and those of the object, as 64 bits count
+abbrev pub Counts : ObjectFile → ℕ → Type 0
+Counts h words = words ≡ blocksLength (h .blocks) % 2 ^ 64
+
+-- an outcome has this number, and with 0 its addresses are marked, and its words counted
+abbrev pub Settles : Outcome ObjectFile → ℕ → List ℕ → ℕ → Type 0
+Settles (refused n) number seen words = number ≡ n
+Settles (given h) number seen words = (number ≡ 0) × Seen h seen × Counts h words
+
+-- What a check of .TEXT's lines comes to, from marks and a count that stand for any object. With fewer than 65,536 marks nothing is marked: 3.
+pub record BlocksChecked (t : List ℕ) (at words : ℕ) (seen seen′ : List ℕ) (r : Text) : Type 0 where
+  pub from : at ≤ r .next
+  pub after : r .number ≡ 0 → partsFrom t (r .next) ≡ record { before = []; groups = partsFrom t at .groups }
+  pub short : length seen < 65536 → (r .number ≡ 3) × (seen′ ≡ seen)
+  pub settles : 65536 ≤ length seen → (h : ObjectFile) → Seen h seen → Counts h words
+      → Settles (parseTextGroup h (partsFrom t at .before)) (r .number) seen′ (r .words)

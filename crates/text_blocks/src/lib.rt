@@ -4,13 +4,12 @@ use text_cells::Number;
 use text_cells::decimal;
 use text_cells::hex2u16;
 use text_cells::maybe_hex2u16;
-use text_lines::Group;
 use text_lines::Line;
 use text_lines::Passed;
 use text_lines::next_row;
 ghost use mathlib.Core.Path.{_≡_};
 ghost use mathlib.Core.Bool.{true};
-ghost use Prim.Native.Nat.{_-_, _<_};
+ghost use Prim.Native.Nat.{_+_, _-_, _^_, _%_, _<_};
 ghost use lib.ListN.{getD};
 ghost use Rattle.format.specs.Basics.{isSome};
 ghost use Rattle.format.specs.TextReader.{lines, hex2u16, maybeHex2u16};
@@ -399,43 +398,72 @@ pub fn next_block(t: &[u8], at: usize) -> BlockStep
     }
 }
 
-// The lines of a .TEXT group, checked; the addresses of its blocks are marked.
-pub fn parse_text(t: &[u8], at: usize, seen: &mut [u8]) -> Group
-    ensures { λ r. ⌜ BlocksChecked (now (t .entry)) at (now (seen .entry)) (now (seen .exit)) (r .number) (r .next) ⌝ }
+// What the check of a .TEXT group comes to: its number, the place after the group, and how many words the blocks up to there have, as 64 bits
+// count.
+pub struct Text {
+    pub number: u8,
+    pub next: usize,
+    pub words: usize,
+}
+
+// How many words there are after a block of so many entries, as 64 bits count.
+fn words_after(words: usize, count: u16) -> usize
+    ensures { λ r. ⌜ r ≡ (words + (1 + count)) % 2 ^ 64 ⌝ }
+{
+    let n = 1 + count as usize;
+    let left = 0xFFFF_FFFF_FFFF_FFFF - words;
+    if left < n {
+        return n - left - 1;
+    }
+    words + n
+}
+
+// The lines of a .TEXT group, checked; the addresses of its blocks are marked, and their words counted.
+pub fn parse_text(t: &[u8], at: usize, words: usize, seen: &mut [u8]) -> Text
+    ensures { λ r. ⌜ BlocksChecked (now (t .entry)) at words (now (seen .entry)) (now (seen .exit)) r ⌝ }
 {
     if seen.len() < 65536 {
-        return Group {
+        return Text {
             number: 3,
             next: at,
+            words: words,
         };
     }
     let mut i = at;
+    let mut n = words;
     loop {
         let step = next_block(t, i);
         match step {
             BlockStep::At {
                 address,
-                count: _,
+                count,
                 entries: _,
                 next,
             } => {
                 let a = address as usize;
                 if seen[a] == 1 {
-                    return Group {
+                    return Text {
                         number: 25,
                         next: at,
+                        words: n,
                     };
                 }
                 seen[a] = 1;
+                n = words_after(n, count);
                 i = next;
             }
             BlockStep::Done => {
-                return Group { number: 0, next: i };
+                return Text {
+                    number: 0,
+                    next: i,
+                    words: n,
+                };
             }
             BlockStep::Bad => {
-                return Group {
+                return Text {
                     number: 24,
                     next: at,
+                    words: n,
                 };
             }
         }

@@ -14,7 +14,7 @@ use Rattle.text_words.specs.Room.{roomAfter}
 use Rattle.text_words.proofs.RoomLaws.{room-is, room-lacks}
 use Rattle.format.specs.Basics.{Outcome, refused, given, _>>=_, if_then_else_, isEmpty, isSome}
 use Rattle.format.specs.Utf8.{trim}
-use Rattle.format.specs.ObjectFile.{Label, LineBlock, ObjectFile, sourceText}
+use Rattle.format.specs.ObjectFile.{Block, Label, LineBlock, ObjectFile, sourceText}
 use Rattle.format.specs.Records.{Record, block, label, lineBlock, relocation, sourceRecords, recordsOf, dropStrayRelocations}
 use Rattle.format.specs.TextReader.{textObject}
 use Rattle.format.specs.Words.{recordWords, wordsOf}
@@ -23,6 +23,7 @@ use Rattle.format.proofs.Outcomes.{gives}
 use Rattle.text_bound.proofs.TextBound.{text-words-few, text-source-few}
 use Rattle.text_tables.specs.Debug.{lineView}
 use Rattle.text_source.specs.Stream.{sourceFrom}
+use Rattle.text_blocks.specs.Blocks.{blocksLength}
 use Rattle.text_scan.specs.declared.Scanned.{Scanned}
 use Rattle.text_scan.specs.Walk.{lineBlocksOf, sourceOf}
 use Rattle.text_scan.specs.Scan.{Read, Scans}
@@ -34,7 +35,7 @@ use Rattle.text_read.specs.Runs.{blockWords}
 use Rattle.text_read.proofs.RunLaws.{runs-words}
 use Rattle.text_read.specs.SourceText.{sourceAt, Unescapes, Counted}
 use Rattle.text_read.specs.Parts.{joined, rowParts, labelParts, lineParts, sourceParts, relocationParts, keepsRelocations, objectParts}
-use Rattle.text_read.proofs.PartLaws.{lines-some, from3, from4, joined-parts, joined1, joined2, joined3}
+use Rattle.text_read.proofs.PartLaws.{lines-some, from1, from3, from4, joined-parts, joined1, joined2, joined3}
 
 -- the words of records, one after the other
 records-joined : (rs : List Record) → flatMap recordWords rs ≡ joined (map recordWords rs)
@@ -44,7 +45,7 @@ records-joined rs = sym (flatMap-map (λ (p : List ℕ). p) recordWords rs)
 regroup : {A : Type 0} (a b c d e : List A) → a ++ b ++ c ++ d ++ e ≡ a ++ (b ++ (c ++ (d ++ e)))
 regroup a b c d e = append-assoc (a ++ b ++ c) d e ∙ append-assoc (a ++ b) c (d ++ e) ∙ append-assoc a b (c ++ (d ++ e))
 
--- dropping relocations leaves the line blocks and the source
+-- dropping relocations leaves the line blocks, the source and the blocks
 dropped-lines : (h : ObjectFile) → dropStrayRelocations h .lineBlocks ≡ h .lineBlocks
 unfolding dropStrayRelocations
 dropped-lines h = by-test (isEmpty (h .labels) && not (isSome (h .source))) (λ e. simp e) (λ e. simp e)
@@ -52,6 +53,10 @@ dropped-lines h = by-test (isEmpty (h .labels) && not (isSome (h .source))) (λ 
 dropped-source : (h : ObjectFile) → dropStrayRelocations h .source ≡ h .source
 unfolding dropStrayRelocations
 dropped-source h = by-test (isEmpty (h .labels) && not (isSome (h .source))) (λ e. simp e) (λ e. simp e)
+
+dropped-blocks : (h : ObjectFile) → dropStrayRelocations h .blocks ≡ h .blocks
+unfolding dropStrayRelocations
+dropped-blocks h = by-test (isEmpty (h .labels) && not (isSome (h .source))) (λ e. simp e) (λ e. simp e)
 
 some-source : (sourced : Bool) (ls : List (List ℕ)) → isSome (sourceOf sourced ls) ≡ sourced
 unfolding sourceOf isSome
@@ -113,6 +118,14 @@ module _ (s t : List ℕ) (r : Scanned) (h : ObjectFile) (e : textObject s ≡ g
       ∙ sym (joined2 u t (r .sourced) (r .rows)))
       ∙ sym (joined1 u t (r .sourced) (r .rows)))
       ∙ sym (joined-parts u t (r .sourced) (r .rows))
+
+  -- as many are of blocks as were counted
+  pub file-blocks : r .words ≡ length (joined (rowParts 0 u)) % 2 ^ 64
+  unfolding blocksLength
+  file-blocks =
+      x .words
+      ∙ ap (λ (bs : List Block). blocksLength bs % 2 ^ 64) (sym (ap (λ (o : ObjectFile). o .blocks) (x .whole) ∙ dropped-blocks (x .object)))
+      ∙ ap (λ (l : List ℕ). length l % 2 ^ 64) (text-words s h e .blocks)
 
   -- and its source unescapes
   pub file-unescapes : r .sourced ≡ true → Unescapes t (r .rows)
@@ -192,6 +205,21 @@ module _ (s t : List ℕ) (r : Scanned) (q : Scans t (textObject s) r) (z : r .n
       let words : n ≤ length s = few-lines y in
       (omega (arith, made .0, few), omega (arith, made .0, few), (let z : n % 2 ^ 64 ≡ n = omega arith in made .1 ∙ runs-words (lineView t (r .rows) .0) ∙ z))
 
+  pub read-words : length s < 2 ^ 63 → r .words ≡ length (joined (rowParts 0 (trim s)))
+  read-words l =
+      let x = read-given s t r q z in
+      let u = trim s in
+      let n : ℕ = length (joined (rowParts 0 u)) in
+      let few : n ≤ length s =
+      omega (
+        arith,
+        all-few,
+        ap length (joined-parts u t (r .sourced) (r .rows)),
+        length-append (joined (rowParts 0 u)) (joined (from1 u t (r .sourced) (r .rows))),
+      ) in
+      let m : n % 2 ^ 64 ≡ n = omega arith in
+      file-blocks s t r (x .0) (x .1) (x .2) ∙ m
+
   pub read-inside : r .end ≡ length t
   read-inside = let x = read-given s t r q z in x .2 .end
 
@@ -238,6 +266,9 @@ module _ (s : List ℕ) (r : Scanned) (q : Scans (take (r .end) s) (textObject s
 
   pub lent-counted : length s < 2 ^ 63 → r .sourced ≡ true → Counted (take (r .end - 0) s) (r .rows) (r .lines)
   lent-counted l y = subst (λ (t : List ℕ). Counted t (r .rows) (r .lines)) cut-is (read-counted s (take (r .end) s) r q z l y)
+
+  pub lent-words : length s < 2 ^ 63 → (u : List ℕ) → trim s ≡ u → r .words ≡ length (joined (rowParts 0 u))
+  lent-words l u w = read-words s (take (r .end) s) r q z l ∙ ap (λ (x : List ℕ). length (joined (rowParts 0 x))) w
 
   pub lent-parts : (u : List ℕ) → trim s ≡ u
       → objectParts u (take (r .end - 0) s) (r .sourced) (r .rows) ≡ objectParts (trim s) (take (r .end) s) (r .sourced) (r .rows)

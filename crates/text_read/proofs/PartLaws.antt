@@ -75,7 +75,7 @@ same-each ps qs room r after w e = w ∙ ap (λ (x : List (List ℕ)). putEach x
 pub same-room : (ps qs : List (List ℕ)) (room : ℕ) (o : Option ℕ) → o ≡ roomAfter ps room → ps ≡ qs → o ≡ roomAfter qs room
 same-room ps qs room o w e = w ∙ ap (λ (x : List (List ℕ)). roomAfter x room) e
 
--- THE LINE BLOCKS' ROOM
+-- THE BLOCKS' ROOM, AND THE LINE BLOCKS'
 room-all : (ps : List (List ℕ)) (room : ℕ) → roomFor (length (joined ps)) room ≡ roomAfter ps room
 unfolding roomFor
 room-all ps room = go (roomAfter ps room) refl
@@ -84,6 +84,10 @@ room-all ps room = go (roomAfter ps room) refl
     go none e = sym (room-short (length (joined ps)) room (room-lacks ps room e)) ∙ e
     go (some m) e =
         sym (room-left (length (joined ps)) room m (omega (arith, room-is ps room m e)) (omega (arith, room-is ps room m e))) ∙ e
+
+-- the blocks' room, of so many words
+pub blocks-room-is : (u : List ℕ) (words room : ℕ) → words ≡ length (joined (rowParts 0 u)) → roomFor words room ≡ roomAfter (rowParts 0 u) room
+blocks-room-is u words room q = ap (λ (n : ℕ). roomFor n room) q ∙ room-all (rowParts 0 u) room
 
 pub lines-room-none : (sourced : Bool) (words room : ℕ) → sourced ≡ false → some room ≡ linesRoom sourced words room
 unfolding linesRoom

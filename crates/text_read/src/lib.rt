@@ -41,7 +41,7 @@ ghost use Rattle.label_cache.specs.Caches.{HoldsLabels};
 ghost use Rattle.text_words.specs.Written.{PutEach};
 ghost use Rattle.text_words.specs.Room.{roomOf, roomFor, roomAfter};
 ghost use Rattle.text_read.specs.Runs.{addressesFrom, KeepsWord, Kept, NextRun, blockWords, runParts};
-ghost use Rattle.text_read.specs.Parts.{joined, labelParts, lineParts, linesRoom, sourceParts, sourceRoom, relocationParts, objectParts};
+ghost use Rattle.text_read.specs.Parts.{joined, rowParts, labelParts, lineParts, linesRoom, sourceParts, sourceRoom, relocationParts, objectParts};
 ghost use Rattle.text_read.specs.SourceText.{sourceAt, Unescapes, Counted, Ready, Pushes, Flushes};
 
 // A run of rows with an address: how many, and the place after the row without one that ends it; or one that reaches the last row.
@@ -439,13 +439,14 @@ fn put_known(
     put_labels(out, u)
 }
 
-// The room after the five parts.
+// The room after the five parts; the blocks have so many words.
 fn object_room(
     u: &[u8],
     t: &[u8],
     sourced: bool,
     rows: usize,
     lines: Lines,
+    words: usize,
     starts: &[usize],
     ends: &[usize],
     heads: &[u32],
@@ -453,10 +454,11 @@ fn object_room(
     cached: Cached,
     room: usize,
 ) -> Room
-    requires { ⌜ (sourced ≡ true → Counted (now t) rows lines) × HoldsLabels (now u) (now starts) (now ends) (now heads) (now indices) cached ⌝ }
+    requires { ⌜ (sourced ≡ true → Counted (now t) rows lines) × (words ≡ length (joined (rowParts 0 (now u))))
+        × HoldsLabels (now u) (now starts) (now ends) (now heads) (now indices) cached ⌝ }
     ensures { λ r. ⌜ roomOf r ≡ roomAfter (objectParts (now (u .entry)) (now (t .entry)) sourced rows) room ⌝ }
 {
-    let Room::Left(a) = rows_room(u, 0, room) else {
+    let Room::Left(a) = take_room(room, words) else {
         return Room::Short;
     };
     let Room::Left(b) = known_room(u, starts, ends, heads, indices, cached, a) else {
@@ -528,6 +530,7 @@ fn length_in(
         scanned.sourced,
         scanned.rows,
         lines,
+        scanned.words,
         starts,
         ends,
         heads,
@@ -601,6 +604,7 @@ fn read_in(
         scanned.sourced,
         scanned.rows,
         lines,
+        scanned.words,
         starts,
         ends,
         heads,

@@ -19,7 +19,7 @@ use Rattle.trim.specs.Span.{part, Spans}
 use Rattle.text_lines.specs.Lines.{kept, LineAt}
 use Rattle.text_lines.proofs.LineLaws.{kept-trimmed, to-end}
 use Rattle.text_lines.specs.Groups.{partsFrom}
-use Rattle.text_blocks.specs.Blocks.{Seen}
+use Rattle.text_blocks.specs.Blocks.{Seen, Counts}
 use Rattle.text_scan.specs.declared.Walked.{Walked}
 use Rattle.text_scan.specs.declared.Scanned.{Scanned}
 use Rattle.text_scan.specs.Walk.{blocksRise, Lined, Comes, groupsFrom, GroupsWalked}
@@ -86,21 +86,24 @@ module _ (t : List ℕ) (start a e n : ℕ) (l : LineAt kept t start a e n) wher
     from-groups o g = magic-yes ∙ ap (λ (x : Outcome ObjectFile). x >>= concluded textQuestions) g
 
     module _ (w : Walked) (c : GroupsWalked t n w) where
+      abbrev Agreed : ObjectFile → Type 0
+      Agreed h = Lined t (w .sourced) (w .rows) (w .lines) h × Counts h (w .words)
+
       -- 22 to 30
       pub scan-groups : (w .number ≡ 0 → ⊥) → trimmedObject t start ≡ refused (w .number)
       scan-groups ne = go (groupsFrom t n emptyObject) refl c
         where
-          go : (o : Outcome ObjectFile) → groupsFrom t n emptyObject ≡ o → Comes (Lined t (w .sourced) (w .rows) (w .lines)) (w .number) o
+          go : (o : Outcome ObjectFile) → groupsFrom t n emptyObject ≡ o → Comes Agreed (w .number) o
               → trimmedObject t start ≡ refused (w .number)
           go (refused m) g s = from-groups (refused m) g ∙ ap refused (sym (s .0))
           go (given h) g s = absurd (ne (s .0))
 
       module _ (z : w .number ≡ 0) where
-        groups-given : (h : ObjectFile) × (groupsFrom t n emptyObject ≡ given h) × Lined t (w .sourced) (w .rows) (w .lines) h
+        groups-given : (h : ObjectFile) × (groupsFrom t n emptyObject ≡ given h) × Agreed h
         groups-given = go (groupsFrom t n emptyObject) refl c
           where
-            go : (o : Outcome ObjectFile) → groupsFrom t n emptyObject ≡ o → Comes (Lined t (w .sourced) (w .rows) (w .lines)) (w .number) o
-                → (h : ObjectFile) × (groupsFrom t n emptyObject ≡ given h) × Lined t (w .sourced) (w .rows) (w .lines) h
+            go : (o : Outcome ObjectFile) → groupsFrom t n emptyObject ≡ o → Comes Agreed (w .number) o
+                → (h : ObjectFile) × (groupsFrom t n emptyObject ≡ given h) × Agreed h
             go (refused m) g s = absurd (omega (arith, s .0, s .1, z))
             go (given h) g s = (h, g, s .1)
 
@@ -119,16 +122,16 @@ module _ (t : List ℕ) (start a e n : ℕ) (l : LineAt kept t start a e n) wher
             → trimmedObject t start ≡ (ask 31 b >>= λ _. given (dropStrayRelocations (groups-given .0)))
         concludes b q =
             from-groups (given (groups-given .0)) (groups-given .1)
-            ∙ concluded-by (groups-given .0) b (sym (lined-rise t (w .sourced) (w .rows) (w .lines) (groups-given .0) (groups-given .2)) ∙ q)
+            ∙ concluded-by (groups-given .0) b (sym (lined-rise t (w .sourced) (w .rows) (w .lines) (groups-given .0) (groups-given .2 .0)) ∙ q)
 
         -- 31
         pub scan-fallen : (not (w .sourced) || w .lines .rise) ≡ false → trimmedObject t start ≡ refused 31
         scan-fallen q = concludes false q
 
         pub scan-read : (not (w .sourced) || w .lines .rise) ≡ true
-            → Scans t (trimmedObject t start) (record { number = 0; first = n; end = length t; sourced = w .sourced; rows = w .rows; lines = w .lines })
+            → Scans t (trimmedObject t start) (record { number = 0; first = n; end = length t; sourced = w .sourced; rows = w .rows; lines = w .lines; words = w .words })
         scan-read q =
-            let r : Scanned = record { number = 0; first = n; end = length t; sourced = w .sourced; rows = w .rows; lines = w .lines } in
+            let r : Scanned = record { number = 0; first = n; end = length t; sourced = w .sourced; rows = w .rows; lines = w .lines; words = w .words } in
             subst (λ (o : Outcome ObjectFile). Scans t o r) (sym (concludes true q))
             (record {
               yes = refl;
@@ -137,7 +140,8 @@ module _ (t : List ℕ) (start a e n : ℕ) (l : LineAt kept t start a e n) wher
               object = groups-given .0;
               before = groups-read t n emptyObject (groups-given .0) (groups-given .1) .0;
               groups = groups-read t n emptyObject (groups-given .0) (groups-given .1) .1;
-              lines = groups-given .2;
+              lines = groups-given .2 .0;
+              words = groups-given .2 .1;
               whole = refl;
             })
 

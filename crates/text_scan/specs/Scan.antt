@@ -11,6 +11,7 @@ use Rattle.format.specs.Records.{emptyObject, textQuestions, concluded, dropStr
 use Rattle.format.specs.TextReader.{afterMagic, parseGroup}
 use Rattle.text_lines.specs.Lines.{kept}
 use Rattle.text_lines.specs.Groups.{partsFrom}
+use Rattle.text_blocks.specs.Blocks.{Counts}
 use Rattle.text_debug.specs.LineTable.{noLines}
 use Rattle.text_scan.specs.Walk.{Lined}
 use Rattle.text_scan.specs.declared.Scanned.{Scanned}
@@ -26,10 +27,11 @@ trimmedObject t start = do
 
 -- a refusal: every other value is 0
 abbrev pub refusedScan : ℕ → Scanned
-refusedScan number = record { number = number; first = 0; end = 0; sourced = false; rows = 0; lines = noLines }
+refusedScan number = record { number = number; first = 0; end = 0; sourced = false; rows = 0; lines = noLines; words = 0 }
 
 -- A file that reads, where t is the file up to the end of what trimming leaves: the object that the groups from the place after the first
--- kept line come to, where no line stands before the first of them, and the place of the rows that its line blocks and source are from.
+-- kept line come to, where no line stands before the first of them, the place of the rows that its line blocks and source are from, and how
+-- many words its blocks have.
 -- The file's object is this one, less stray relocations.
 pub record Read (t : List ℕ) (r : Scanned) (h : ObjectFile) : Type 0 where
   pub yes : r .number ≡ 0
@@ -39,6 +41,7 @@ pub record Read (t : List ℕ) (r : Scanned) (h : ObjectFile) : Type 0 where
   pub before : isEmpty (partsFrom t (r .first) .before) ≡ true
   pub groups : foldOutcome parseGroup emptyObject (partsFrom t (r .first) .groups) ≡ given object
   pub lines : Lined t (r .sourced) (r .rows) (r .lines) object
+  pub words : Counts object (r .words)
   pub whole : h ≡ dropStrayRelocations object
 
 -- what a scan hands back for each outcome; no refusal has number 0

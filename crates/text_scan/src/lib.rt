@@ -1,9 +1,9 @@
 // The text reader's questions, 20 to 31, on a file's bytes in place; what it reads is not stored.
+use text_blocks::Text;
 use text_blocks::parse_text;
 use text_debug::Lines;
 use text_debug::no_lines;
 use text_debug::parse_debug;
-use text_lines::Group;
 use text_lines::Head;
 use text_lines::Line;
 use text_lines::equals;
@@ -24,19 +24,27 @@ ghost use Rattle.text_blocks.specs.Blocks.{Seen};
 ghost use Rattle.text_scan.specs.Walk.{DebugWalked, LinesChecked, GroupChecked, GroupsWalked};
 ghost use Rattle.text_scan.specs.Scan.{trimmedObject, refusedScan, Scans};
 
-// What the groups up to a place come to: their number, the place after them, whether there is a source, where its rows are, and what
-// they make.
+// What the groups up to a place come to: their number, the place after them, whether there is a source, where its rows are, what they make, and
+// how many words the blocks have.
 pub struct Walked {
     pub number: u8,
     pub next: usize,
     pub sourced: bool,
     pub rows: usize,
     pub lines: Lines,
+    pub words: usize,
 }
 
 // A .DEBUG group, after groups that had a source or none: 26 to 30.
-fn parse_debug_group(t: &[u8], at: usize, sourced: bool, rows: usize, lines: Lines) -> Walked
-    ensures { λ r. ⌜ DebugWalked (now (t .entry)) at sourced rows lines r ⌝ }
+fn parse_debug_group(
+    t: &[u8],
+    at: usize,
+    sourced: bool,
+    rows: usize,
+    lines: Lines,
+    words: usize,
+) -> Walked
+    ensures { λ r. ⌜ DebugWalked (now (t .entry)) at sourced rows lines words r ⌝ }
 {
     let g = parse_debug(t, at, sourced);
     if g.lined {
@@ -47,6 +55,7 @@ fn parse_debug_group(t: &[u8], at: usize, sourced: bool, rows: usize, lines: Lin
             sourced: true,
             rows: g.rows,
             lines: own,
+            words: words,
         };
     }
     Walked {
@@ -55,26 +64,38 @@ fn parse_debug_group(t: &[u8], at: usize, sourced: bool, rows: usize, lines: Lin
         sourced: sourced,
         rows: rows,
         lines: lines,
+        words: words,
     }
 }
 
-// A group of another kind, after groups that marked their blocks: 23 to 26.
-fn parse_lines(t: &[u8], kind: u8, at: usize, seen: &mut [u8]) -> Group
+// A group of another kind, after groups that marked their blocks, and counted their words: 23 to 26.
+fn parse_lines(t: &[u8], kind: u8, at: usize, words: usize, seen: &mut [u8]) -> Text
     requires { ⌜ (65536 ≤ length (now seen)) × (kind ≡ 3 → ⊥) ⌝ }
-    ensures { λ r. ⌜ LinesChecked (now (t .entry)) kind at (now (seen .entry)) (now (seen .exit)) r ⌝ }
+    ensures { λ r. ⌜ LinesChecked (now (t .entry)) kind at words (now (seen .entry)) (now (seen .exit)) r ⌝ }
 {
     if kind == 0 {
-        return parse_text(t, at, seen);
+        return parse_text(t, at, words, seen);
     }
     if kind == 1 {
-        return parse_symbol_table(t, at);
+        let g = parse_symbol_table(t, at);
+        return Text {
+            number: g.number,
+            next: g.next,
+            words: words,
+        };
     }
     if kind == 2 {
-        return parse_linker_table(t, at);
+        let g = parse_linker_table(t, at);
+        return Text {
+            number: g.number,
+            next: g.next,
+            words: words,
+        };
     }
-    Group {
+    Text {
         number: 23,
         next: at,
+        words: words,
     }
 }
 
@@ -86,21 +107,23 @@ fn parse_group(
     sourced: bool,
     rows: usize,
     lines: Lines,
+    words: usize,
     seen: &mut [u8],
 ) -> Walked
     requires { ⌜ 65536 ≤ length (now seen) ⌝ }
-    ensures { λ r. ⌜ GroupChecked (now (t .entry)) kind at sourced rows lines (now (seen .entry)) (now (seen .exit)) r ⌝ }
+    ensures { λ r. ⌜ GroupChecked (now (t .entry)) kind at sourced rows lines words (now (seen .entry)) (now (seen .exit)) r ⌝ }
 {
     if kind == 3 {
-        return parse_debug_group(t, at, sourced, rows, lines);
+        return parse_debug_group(t, at, sourced, rows, lines, words);
     }
-    let g = parse_lines(t, kind, at, seen);
+    let g = parse_lines(t, kind, at, words, seen);
     Walked {
         number: g.number,
         next: g.next,
         sourced: sourced,
         rows: rows,
         lines: lines,
+        words: g.words,
     }
 }
 
@@ -113,11 +136,12 @@ fn parse_groups(t: &[u8], first: usize, seen: &mut [u8]) -> Walked
     let mut sourced = false;
     let mut rows = 0;
     let mut lines = no_lines();
+    let mut words = 0;
     loop {
         let head = next_head(t, at);
         match head {
             Head::Opens { kind, next } => {
-                let g = parse_group(t, kind, next, sourced, rows, lines, seen);
+                let g = parse_group(t, kind, next, sourced, rows, lines, words, seen);
                 if g.number != 0 {
                     return g;
                 }
@@ -125,6 +149,7 @@ fn parse_groups(t: &[u8], first: usize, seen: &mut [u8]) -> Walked
                 sourced = g.sourced;
                 rows = g.rows;
                 lines = g.lines;
+                words = g.words;
             }
             Head::Loose => {
                 return Walked {
@@ -133,6 +158,7 @@ fn parse_groups(t: &[u8], first: usize, seen: &mut [u8]) -> Walked
                     sourced: sourced,
                     rows: rows,
                     lines: lines,
+                    words: words,
                 };
             }
             Head::Done => {
@@ -142,6 +168,7 @@ fn parse_groups(t: &[u8], first: usize, seen: &mut [u8]) -> Walked
                     sourced: sourced,
                     rows: rows,
                     lines: lines,
+                    words: words,
                 };
             }
         }
@@ -149,7 +176,7 @@ fn parse_groups(t: &[u8], first: usize, seen: &mut [u8]) -> Walked
 }
 
 // What a scan comes to. The places in a file that reads: after its first kept line, the end of what trimming leaves, and the rows that its
-// source is from, if there is one, with what they make.
+// source is from, if there is one, with what they make; and how many words its blocks have.
 pub struct Scanned {
     pub number: u8,
     pub first: usize,
@@ -157,6 +184,7 @@ pub struct Scanned {
     pub sourced: bool,
     pub rows: usize,
     pub lines: Lines,
+    pub words: usize,
 }
 
 const MAGIC: [u8; 13] = [
@@ -186,6 +214,7 @@ fn refuse(number: u8) -> Scanned
         sourced: false,
         rows: 0,
         lines: lines,
+        words: 0,
     }
 }
 
@@ -231,6 +260,7 @@ fn scan_trimmed(t: &[u8], start: usize) -> Scanned
         sourced: w.sourced,
         rows: w.rows,
         lines: lines,
+        words: w.words,
     }
 }
 

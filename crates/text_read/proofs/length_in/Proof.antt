@@ -12,7 +12,7 @@ use Rattle.text_lines.proofs.LineLaws.{to-end}
 use Rattle.text_words.specs.Room.{roomOf, roomAfter}
 use Rattle.text_read.specs.Parts.{objectParts}
 use Rattle.text_read.proofs.FileLaws.{length-refused, length-fits, length-left, length-given}
-use Rattle.text_read.proofs.FileLaws.{lent-inside, lent-counted, lent-parts}
+use Rattle.text_read.proofs.FileLaws.{lent-inside, lent-counted, lent-words, lent-parts}
 use Rattle.text_read.proofs.length_in.Statement.{statement}
 use Rattle.text_read.proofs.length_in.Tie as tie
 
@@ -58,7 +58,12 @@ object-room-requires : tie.Need-object-room-requires
 object-room-requires c κs =
     let g = c .before .before .before .before .before .before .before .before .before .before .before .before .before .before in
     let w = g .before .before .before .before .before .before .before in
-    (lent-counted (bytes w) (scan w .scan-text .result) (scan w .scan-text .ensures) (w .before .if1 .left) (short w), g .gather-labels .ensures)
+    let q = scan w .scan-text .ensures in
+    let z = w .before .if1 .left in (
+      lent-counted (bytes w) (scan w .scan-text .result) q z (short w),
+      lent-words (bytes w) (scan w .scan-text .result) q z (short w) _ (trimmed-is w),
+      g .gather-labels .ensures,
+    )
 
 returns : tie.Need-returns
 returns c = let d = c .before in length-refused _ _ (d .scan-text .result) (d .scan-text .ensures) (c .if1 .taken)

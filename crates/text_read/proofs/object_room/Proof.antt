@@ -5,7 +5,7 @@ use mathlib.Core.Option.{some}
 use denote.Ref.{now}
 use Rattle.text_words.specs.Room.{roomOf, roomAfter}
 use Rattle.text_read.specs.Parts.{rowParts, labelParts, lineParts, linesRoom, sourceParts, sourceRoom}
-use Rattle.text_read.proofs.PartLaws.{lines-room-is, source-room-is, short0, short1, short2, short3, below1, on3}
+use Rattle.text_read.proofs.PartLaws.{blocks-room-is, lines-room-is, source-room-is, short0, short1, short2, short3, below1, on3}
 use Rattle.text_read.proofs.object_room.Statement.{statement}
 use Rattle.text_read.proofs.object_room.Tie as tie
 
@@ -13,7 +13,9 @@ abbrev start : tie.After-a → tie.Start
 start c = c .before .before .before .before .before .before .before .before .before
 
 left0 : (c : tie.After-a) → some (c .a .given .0 .0) ≡ roomAfter (rowParts 0 (now (start c .args .u))) (start c .args .room)
-left0 c = sym (ap roomOf (c .a .given .1)) ∙ c .before .before .rows-room .ensures
+left0 c =
+    let k = start c in
+    sym (ap roomOf (c .a .given .1)) ∙ c .before .before .take-room .ensures ∙ blocks-room-is (now (k .args .u)) (k .args .words) (k .args .room) (k .pre .1)
 
 abbrev to-a : tie.After-b → tie.After-a
 to-a c = c .before .before .before .before
@@ -50,7 +52,11 @@ left3 : (c : tie.After-d) →
 left3 c = sym (ap roomOf (c .d .given .1)) ∙ c .before .before .source-room .ensures ∙ after-source (to-c c)
 
 returns : tie.Need-returns
-returns c = short0 _ _ _ _ _ (sym (ap roomOf (c .enum-told .given .1)) ∙ c .before .before .rows-room .ensures)
+returns c =
+    let k = c .before .before .before .before .before .before .before .before .before in
+    short0 _ _ _ _ _
+    (sym (ap roomOf (c .enum-told .given .1)) ∙ c .before .before .take-room .ensures
+    ∙ blocks-room-is (now (k .args .u)) (k .args .words) (k .args .room) (k .pre .1))
 
 returns-2 : tie.Need-returns-2
 returns-2 c =
@@ -65,7 +71,7 @@ returns-3 c =
     short2 _ _ _ _ _ _ (left0 (to-a b)) _ (left1 b) (sym (ap roomOf (c .enum-told3 .given .1)) ∙ l .lines-room .ensures ∙ after-lines b)
 
 known-room-requires : tie.Need-known-room-requires
-known-room-requires c κs = start (c .before) .pre .1
+known-room-requires c κs = start (c .before) .pre .2
 
 source-room-requires : tie.Need-source-room-requires
 source-room-requires c κs y = start (to-a (to-b (c .before))) .pre .0 y .1

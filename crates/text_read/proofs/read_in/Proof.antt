@@ -4,7 +4,7 @@ use native.Mathlib.Omega.{arith}
 use mathlib.Core.Path.{_≡_, sym, ap, _∙_, subst}
 use mathlib.Core.Bool.{true}
 use mathlib.Core.List.{List}
-use Prim.Native.Nat.{ℕ, _-_, _≤_}
+use Prim.Native.Nat.{ℕ, _-_, _^_, _<_, _≤_}
 use lib.ListN.{length, take, drop}
 use denote.Ref.{now}
 use Rattle.format.specs.Utf8.{trim}
@@ -13,8 +13,8 @@ use Rattle.writing.specs.Written.{Put}
 use Rattle.text_lines.proofs.LineLaws.{to-end}
 use Rattle.text_words.specs.Room.{roomOf, roomAfter}
 use Rattle.text_read.specs.SourceText.{Counted}
-use Rattle.text_read.specs.Parts.{joined, objectParts}
-use Rattle.text_read.proofs.FileLaws.{read-refused, read-short, read-fits, read-put, lent-inside, lent-unescapes, lent-counted, lent-parts}
+use Rattle.text_read.specs.Parts.{joined, rowParts, objectParts}
+use Rattle.text_read.proofs.FileLaws.{read-refused, read-short, read-fits, read-put, lent-inside, lent-unescapes, lent-counted, lent-words, lent-parts}
 use Rattle.text_read.proofs.read_in.Statement.{statement}
 use Rattle.text_read.proofs.read_in.Tie as tie
 
@@ -39,12 +39,19 @@ trimmed-is c = ap trim (sym (to-end (bytes c) 0)) ∙ sym (c .trim .ensures .1 .
 inside : (c : tie.After-trim) → scan c .scan-text .result .end ≤ length (bytes c)
 inside c = lent-inside (bytes c) (scan c .scan-text .result) (scan c .scan-text .ensures) (c .before .if1 .left)
 
+short : (c : tie.After-trim) → length (bytes c) < 2 ^ 63
+short c = let h = scan c .before .before .before .before .before .before .shared-slice-known .given in omega arith
+
 counted : (c : tie.After-trim) →
     let r = scan c .scan-text .result in
     (r .sourced ≡ true → Counted (take (r .end - 0) (bytes c)) (r .rows) (r .lines))
-counted c =
-    lent-counted (bytes c) (scan c .scan-text .result) (scan c .scan-text .ensures) (c .before .if1 .left)
-    (let h = scan c .before .before .before .before .before .before .shared-slice-known .given in omega arith)
+counted c = lent-counted (bytes c) (scan c .scan-text .result) (scan c .scan-text .ensures) (c .before .if1 .left) (short c)
+
+block-words : (c : tie.After-trim) →
+    let w = c .trim .result in
+    scan c .scan-text .result .words ≡ length (joined (rowParts 0 (take (w .end - w .start) (drop (w .start) (bytes c)))))
+block-words c =
+    lent-words (bytes c) (scan c .scan-text .result) (scan c .scan-text .ensures) (c .before .if1 .left) (short c) _ (trimmed-is c)
 
 abbrev parts : tie.After-trim → List (List ℕ)
 parts c = let r = scan c .scan-text .result in objectParts (trim (bytes c)) (take (r .end) (bytes c)) (r .sourced) (r .rows)
@@ -102,7 +109,10 @@ returns-3 c =
     (p .put-object .ensures))
 
 object-room-requires : tie.Need-object-room-requires
-object-room-requires c κs = let g = c .before .before .before .before .before .before .before .before .before .before .before .before .before .before in (counted (g .before .before .before .before .before .before .before), g .gather-labels .ensures)
+object-room-requires c κs =
+    let g = c .before .before .before .before .before .before .before .before .before .before .before .before .before .before in
+    let w = g .before .before .before .before .before .before .before in
+    (counted w, block-words w, g .gather-labels .ensures)
 
 pub read-in-spec : {M : Type 1} → statement M
 read-in-spec =

@@ -9,4 +9,4 @@ pub refuse-spec : {M : Type 1} → statement M
 refuse-spec =
     tie.close
     (tie.spec (λ c κs. search needs)
-    (λ c. ap (λ (l : Lines). record { number = c .before .args .number; first = 0; end = 0; sourced = false; rows = 0; lines = l }) (c .no-lines .ensures)))
+    (λ c. ap (λ (l : Lines). record { number = c .before .args .number; first = 0; end = 0; sourced = false; rows = 0; lines = l; words = 0 }) (c .no-lines .ensures)))
