@@ -20,8 +20,8 @@ use Rattle.trim.specs.Span.{part}
 use Rattle.text_lines.specs.Views.{StepAt}
 use Rattle.text_lines.specs.Groups.{partsFrom, RowAt}
 use Rattle.text_lines.proofs.RowLaws.{rows-on, parts-of}
-use Rattle.text_tables.specs.Debug.{butLast, lineView, labelView, BarAt}
-use Rattle.text_tables.specs.Labels.{labelColumns, labelIn, setLabel}
+use Rattle.text_tables.specs.Debug.{Groups, butLast, lineView, labelView, BarAt}
+use Rattle.text_tables.specs.Labels.{labelColumns, labelIn, setLabel, LabelsChecked}
 use Rattle.text_tables.specs.LineRows.{lineIn}
 use Rattle.text_tables.proofs.DebugLaws.{up-all}
 use Rattle.text_tables.proofs.ReadLaws.{foldl, through-parse, table-any}
@@ -315,6 +315,20 @@ module _ (h : ObjectFile) (ls : List (List ℕ)) (l : List ℕ) (ks : List (List
               )
 
 -- AT A PLACE
+-- the first bar, from where the label table ends
+module _ (t : List ℕ) (at number next : ℕ) (l : LabelsChecked t at number next) where
+  pub bar-from : (q : ℕ) → BarAt t next q → BarAt t at q
+  bar-from q b =
+      record {
+        on = omega (arith, l .from, b .on);
+        next = b .next;
+        groups = b .groups ∙ ap (λ (z : Option (List (List ℕ)) × Groups). z .1) (l .after);
+        after = sym (ap (λ (z : Option (List (List ℕ)) × Groups). z .0) (l .after)) ∙ b .after;
+      }
+
+  pub no-bar-from : splitAtBar (partsFrom t next .before) .after ≡ none → splitAtBar (partsFrom t at .before) .after ≡ none
+  no-bar-from e = sym (ap (λ (z : Option (List (List ℕ)) × Groups). z .0) (l .after)) ∙ e
+
 -- a refusal
 pub checked-no : (t : List ℕ) (at : ℕ) (b : Bool) (n : ℕ) → (n ≡ 0 → ⊥)
     → ((h : ObjectFile) → isSome (h .source) ≡ b → DebugSettles false (lineView t 0 .0) h n (parseDebugGroup h (partsFrom t at .before)))

@@ -332,7 +332,8 @@ fn without_rows(number: u8, next: usize) -> DebugGroup
     }
 }
 
-// The lines of a .DEBUG group, checked, where a source stands already or none does: 27, then 26, then 28, 29, 30.
+// The lines of a .DEBUG group, checked, where a source stands already or none does: 27, then 26, then 28, 29, 30. The label table is read
+// first all the same, since it ends at the first bar.
 pub fn parse_debug(t: &[u8], at: usize, sourced: bool) -> DebugGroup
     ensures { λ r. ⌜ DebugChecked (now (t .entry)) at sourced r ⌝ }
 {
@@ -344,15 +345,15 @@ pub fn parse_debug(t: &[u8], at: usize, sourced: bool) -> DebugGroup
     else {
         return without_rows(0, at);
     };
-    let Passed::To(bar) = first_bar(t, at) else {
+    let n = parse_label_table(t, at);
+    let Passed::To(bar) = first_bar(t, n.next) else {
         return without_rows(27, at);
     };
     let Passed::To(next) = last_bar(t, bar) else {
         return without_rows(27, at);
     };
-    let n = parse_label_table(t, at);
-    if n != 0 {
-        return without_rows(n, at);
+    if n.number != 0 {
+        return without_rows(n.number, at);
     }
     let m = parse_line_table(t, bar, sourced);
     if m.number != 0 {

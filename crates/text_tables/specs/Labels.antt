@@ -7,9 +7,10 @@ use Prim.Native.Nat.{ℕ, _≤_}
 use lib.ListN.{length, getD}
 use Rattle.format.specs.Basics.{andThen, ascii}
 use Rattle.format.specs.Utf8.{trim}
-use Rattle.format.specs.TextReader.{splitn, parseDecimal}
+use Rattle.format.specs.TextReader.{splitn, parseDecimal, parseLabelTable}
+use Rattle.format.specs.Calls.{refusalOf}
 use Rattle.format.specs.ObjectFile.{ObjectFile}
-use Rattle.format.specs.Records.{putRecord, label, labelNamed}
+use Rattle.format.specs.Records.{emptyObject, putRecord, label, labelNamed}
 use Rattle.text_tables.specs.declared.LabelRow.{LabelRow}
 use Rattle.text_tables.specs.declared.LabelRow.the-variants as ix
 use Rattle.text_tables.specs.declared.LabelStep.{LabelStep}
@@ -39,6 +40,12 @@ setLabel h s =
 abbrev pub LabelIs : List ℕ → LabelRow → Type 0
 LabelIs l (ix.Row s e i) = (s ≤ e) × (e ≤ length l) × (labelIn l ≡ some (record { name = part s e l; start = i }))
 LabelIs l ix.Bad = labelIn l ≡ none
+
+-- the label table, checked: its number, and a place of the same group, from which the same line is its first =
+pub record LabelsChecked (t : List ℕ) (at number next : ℕ) : Type 0 where
+  pub same : number ≡ refusalOf (parseLabelTable emptyObject (labelView t at .0))
+  pub from : at ≤ next
+  pub after : labelView t next .1 ≡ labelView t at .1
 
 abbrev pub NextLabel : List ℕ → ℕ → LabelStep → Type 0
 NextLabel t at (is.Row s e i n) =

@@ -21,17 +21,15 @@ ghost use mathlib.Core.List.{map};
 ghost use Prim.Native.Nat.{_+_, _-_, _≤_, _<_};
 ghost use lib.ListN.{length};
 ghost use Rattle.format.specs.Basics.{isSome};
-ghost use Rattle.format.specs.Records.{emptyObject};
 ghost use Rattle.format.specs.Utf8.{trim};
-ghost use Rattle.format.specs.TextReader.{lines, splitn, sameCells, upToBar, parseLabelTable};
+ghost use Rattle.format.specs.TextReader.{lines, splitn, sameCells, upToBar};
 ghost use Rattle.text_tables.specs.Debug.{FirstBar, NextIn, labelView, lineView};
-ghost use Rattle.text_tables.specs.Labels.{LabelIs, NextLabel, labelColumns};
+ghost use Rattle.text_tables.specs.Labels.{LabelIs, NextLabel, LabelsChecked, labelColumns};
 ghost use Rattle.text_tables.specs.LineRows.{lineIn, lineOf};
 ghost use Rattle.text_tables.specs.RowCells.{CellAt, DividerAt, Aligned, IsSpace, Run, WrittenIs};
 ghost use Rattle.format.proofs.TrimLaws.{Visible};
 ghost use Rattle.text_lines.specs.Groups.{partsFrom};
 ghost use Rattle.text_tables.specs.Symbols.{SymIs, NextSymbol, SymbolsChecked, symbolColumns};
-ghost use Rattle.format.specs.Calls.{refusalOf};
 
 // A row of .SYMBOL, and where its name stands.
 pub enum SymbolRow {
@@ -502,15 +500,21 @@ pub fn next_label(t: &[u8], at: usize) -> LabelStep
     }
 }
 
-// The label table, checked.
-pub fn parse_label_table(t: &[u8], at: usize) -> u8
-    ensures { λ r. ⌜ r ≡ refusalOf (parseLabelTable emptyObject (labelView (now (t .entry)) at .0)) ⌝ }
+// The label table, checked, and the place where it ends, if it reads.
+pub fn parse_label_table(t: &[u8], at: usize) -> Group
+    ensures { λ r. ⌜ LabelsChecked (now (t .entry)) at (r .number) (r .next) ⌝ }
 {
     let Line::At { start, end, next } = next_label_line(t, at) else {
-        return 0;
+        return Group {
+            number: 0,
+            next: at,
+        };
     };
     if !parse_label_header(&t[start..end]) {
-        return 26;
+        return Group {
+            number: 26,
+            next: at,
+        };
     }
     let mut i = next;
     loop {
@@ -525,10 +529,13 @@ pub fn parse_label_table(t: &[u8], at: usize) -> u8
                 i = n;
             }
             LabelStep::Done => {
-                return 0;
+                return Group { number: 0, next: i };
             }
             LabelStep::Bad => {
-                return 26;
+                return Group {
+                    number: 26,
+                    next: at,
+                };
             }
         }
     }
