@@ -13,6 +13,7 @@ use Rattle.source_info.proofs.RecordLaws.{Left}
 use Rattle.text_lines_out.specs.Merge.{wrapped}
 use Rattle.text_lines_out.specs.Walk.{lineBlocksIn, wrappedAt, Wraps, sourceTable}
 use Rattle.text_lines_out.specs.declared.Wrapped.{Wrapped}
+use Rattle.label_tables.specs.Tables.{namesWidth, indicesWidth}
 use Rattle.text_write.specs.Tables.{objectIn}
 use Rattle.text_write.specs.declared.lines.SourcePlan.{SourcePlan}
 
@@ -51,5 +52,6 @@ pub record Tabled (ws : List ℕ) (p : SourcePlan) : Type 0 where
 pub record PlanOf (ws : List ℕ) (p : SourcePlan) : Type 0 where
   pub only : p .only ≡ blocksOnly (objectIn ws)
   pub linked : p .only ≡ false → Links ws (p .links)
+  pub wide : p .only ≡ false → (p .names ≡ namesWidth ws) × (p .indices ≡ indicesWidth ws)
   pub nothing : p .bare ≡ true → sourceTable ws ≡ []
   pub tabled : p .bare ≡ false → Tabled ws p
