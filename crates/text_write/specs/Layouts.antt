@@ -29,9 +29,11 @@ plannedText ws p = textBytes ws (p .text) (p .n)
 abbrev pub plannedWraps : SourcePlan → Wrapped
 plannedWraps p = record { place = p .place; count = p .count }
 
--- from a head on there are the object's line blocks and relocations
+-- from a head on there are the object's line blocks, relocations and source
 abbrev pub Past : List ℕ → ℕ → Type 0
-Past ws at = Left ws at (λ h. h .lineBlocks) (lineBlocksIn ws) × Left ws at (λ h. h .relocations) (objectIn ws .relocations)
+Past ws at =
+    Left ws at (λ h. h .lineBlocks) (lineBlocksIn ws) × Left ws at (λ h. h .relocations) (objectIn ws .relocations)
+    × Left ws at (λ h. h .source) (objectIn ws .source)
 
 -- the object's relocations begin at a head, or there are none
 abbrev pub Links : List ℕ → ℕ → Type 0

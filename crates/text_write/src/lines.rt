@@ -9,7 +9,6 @@ use object::text_byte;
 use object::text_len;
 use source_info::Place;
 use source_info::count_newlines;
-use source_info::source_at;
 use text_escape::measure_line_row;
 use text_escape::measure_plain_row;
 use text_escape::plain_line;
@@ -47,6 +46,7 @@ ghost use Rattle.format.specs.Calls.{checked};
 ghost use Rattle.format.specs.TextWriter.{lineTable, decimal, lineWidth, addBlocks, plainRows, blocksOnly};
 ghost use Rattle.writing.specs.Written.{Put};
 ghost use Rattle.object.specs.Texts.{textBytes};
+ghost use Rattle.source_info.specs.Sources.{Sourced};
 ghost use Rattle.text_numerals.specs.Memory.{knownWord};
 ghost use Rattle.measuring.specs.Room.{roomOf, lessPart};
 ghost use Rattle.text_lines_out.specs.Lines.{At, Next, rowsText};
@@ -534,6 +534,22 @@ fn past_source(ws: &[u32], from: usize) -> usize
     at
 }
 
+// Where the words of its source begin, from there on.
+fn find_source(ws: &[u32], from: usize) -> Place
+    requires { ⌜ Past (now ws) from ⌝ }
+    ensures { λ r. ⌜ Sourced (now (ws .entry)) r ⌝ }
+{
+    let mut at = from;
+    while at < ws.len() {
+        let body = at + 1;
+        if kind(ws[at]) == 4 {
+            return Place::At(body);
+        }
+        at = body_end(ws, body);
+    }
+    Place::Nothing
+}
+
 // That of a well formed object, of which it is known whether it has blocks only.
 pub(crate) fn plan_source(ws: &[u32], only: bool) -> SourcePlan
     requires { ⌜ (checked (now ws) ≡ 0) × (only ≡ blocksOnly (objectIn (now ws))) ⌝ }
@@ -547,7 +563,7 @@ pub(crate) fn plan_source(ws: &[u32], only: bool) -> SourcePlan
     let widths = column_widths(ws);
     let names = widths.names;
     let indices = widths.indices;
-    let Place::At(at) = source_at(ws) else {
+    let Place::At(at) = find_source(ws, first) else {
         return plan_bare(only, links, names, indices);
     };
     let end = body_end(ws, at);

@@ -39,7 +39,7 @@ module _ (c : tie.After-count-newlines) where
   good : Sourced ws (place.At at)
   good =
       subst (Sourced ws) (c .before .before .before .before .at .given .1)
-      (c .before .before .before .before .before .before .source-at .ensures)
+      (c .before .before .before .before .before .before .find-source .ensures)
 
   size : n ≡ textLen ws at (at + length (bodyAt ws at))
   size = c .before .text-len .ensures ∙ ap (textLen ws at) (c .before .before .body-end .ensures)
@@ -99,7 +99,7 @@ returns-2 c =
       only = q .0 ∙ s .pre .1;
       linked = λ z. subst (Links ws) (sym (q .2)) (k .before .before .past-source .ensures);
       wide = λ z. (q .3 ∙ wide .0, q .4 ∙ wide .1);
-      nothing = λ z. source-nothing ws (s .pre .0) (subst (Sourced ws) (c .before .enum-told .given .1) (k .source-at .ensures));
+      nothing = λ z. source-nothing ws (s .pre .0) (subst (Sourced ws) (c .before .enum-told .given .1) (k .find-source .ensures));
       tabled = λ z. absurd (true≢false (sym (q .1) ∙ z));
     }
 
@@ -135,7 +135,7 @@ plan-source-spec =
     (λ c κs. c .before .before .pre .0)
     (λ c κs. c .past-labels .ensures)
     (λ c κs. search needs)
-    (λ c κs. search needs)
+    (λ c κs. c .before .before .past-labels .ensures)
     (λ c. search needs)
     (λ c. search needs)
     (λ c κs. search needs)
