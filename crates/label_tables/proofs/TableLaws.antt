@@ -30,7 +30,7 @@ use Rattle.label_order.specs.declared.By.the-variants as by
 use Rattle.label_order.proofs.KeyLaws.{all-sorted}
 use Rattle.label_order.proofs.ObjectLaws.{Named, labels-are, labels-named, labels-by-address, labels-by-start}
 use Rattle.label_tables.specs.Rows.{bytesAt, nameAt, rowLabel, symbolLine, labelLine}
-use Rattle.label_tables.specs.Tables.{namesWidth, indicesWidth, tableOf, symbolsOf, labelsOf, symbolsLength, labelsLength}
+use Rattle.label_tables.specs.Tables.{namesWidth, indicesWidth, tableOf, symbolsOf, labelsOf, symbolsLength, columnsLength, labelsLength}
 
 -- A LABEL whose name is a text
 module _ (ws : List ℕ) (p : ℕ) (named : Named ws p) where
@@ -193,8 +193,9 @@ module _ (ws : List ℕ) (z : checked ws ≡ 0) where
   pub symbols-room : (room : ℕ) (r : Room) → roomOf r ≡ less room (symbolsLength ws) → roomOf r ≡ lessPart room (symbolTable labels)
   symbols-room room r e = e ∙ ap (less room) symbols-size
 
-  pub labels-room : (room : ℕ) (r : Room) → roomOf r ≡ less room (labelsLength ws) → roomOf r ≡ lessPart room (labelTable labels)
-  labels-room room r e = e ∙ ap (less room) labels-size
+  pub labels-room : (names indices room : ℕ) (r : Room) → (names ≡ namesWidth ws) × (indices ≡ indicesWidth ws)
+      → roomOf r ≡ less room (columnsLength names indices ws) → roomOf r ≡ lessPart room (labelTable labels)
+  labels-room names indices room r q e = e ∙ ap₂ (λ x y. less room (columnsLength x y ws)) (q .0) (q .1) ∙ ap (less room) labels-size
 
   -- what they are
   pub symbols-text : symbolsOf ws ≡ symbolTable labels

@@ -27,7 +27,7 @@ ghost use Rattle.object.specs.Bodies.{numberAt};
 ghost use Rattle.object.specs.Texts.{textBytes};
 ghost use Rattle.label_tables.specs.Rows.{nameAt, symbolLine, labelLine, Ascii};
 ghost use Rattle.measuring.specs.Room.{roomOf, less, lessPart};
-ghost use Rattle.label_tables.specs.Tables.{namesWidth, indicesWidth, symbolsLength, columnsLength, labelsLength};
+ghost use Rattle.label_tables.specs.Tables.{namesWidth, indicesWidth, symbolsLength, columnsLength};
 ghost use Rattle.label_order.specs.Labels.{labelPlaces};
 
 // 000's TABLE_DIV.
@@ -350,7 +350,7 @@ fn past_header(width: usize) -> usize
 }
 
 // The room that the label table leaves, in columns of these widths.
-fn label_room(ws: &[u32], names: usize, indices: usize, room: usize) -> Room
+pub fn measure_labels(ws: &[u32], names: usize, indices: usize, room: usize) -> Room
     ensures { λ r. ⌜ roomOf r ≡ less room (columnsLength names indices (now (ws .entry))) ⌝ }
 {
     let Found::At(_, _) = next_label(ws, 0) else {
@@ -362,14 +362,6 @@ fn label_room(ws: &[u32], names: usize, indices: usize, room: usize) -> Room
         return Room::Short;
     }
     label_rows_room(ws, names, indices, room - 14 - a - b)
-}
-
-// The room that the label table leaves.
-pub fn measure_labels(ws: &[u32], room: usize) -> Room
-    ensures { λ r. ⌜ roomOf r ≡ less room (labelsLength (now (ws .entry))) ⌝ }
-{
-    let w = column_widths(ws);
-    label_room(ws, w.names, w.indices, room)
 }
 
 // The header of the label table, in columns of these widths.

@@ -25,7 +25,7 @@ use Rattle.object.proofs.Formed.{formed, held}
 use Rattle.object.proofs.BodyLaws.{head-at}
 use Rattle.object.proofs.WordLaws.{head-kind}
 use Rattle.object.proofs.AccessLaws.{next, record-is}
-use Rattle.source_info.proofs.RecordLaws.{Left, start, here, on, lines-other}
+use Rattle.source_info.proofs.RecordLaws.{Left, start, here, on, lines-other, source-other}
 use Rattle.text_lines_out.specs.Walk.{lineBlocksIn}
 use Rattle.text_lines_out.proofs.TableLaws.{blocks-start}
 use Rattle.text_write.specs.Tables.{objectIn, blockTable, relocationRows, relocationPart, relocationsText}
@@ -36,6 +36,9 @@ use Rattle.text_write.proofs.WalkLaws.{past, walk-end, walk-part}
 
 abbrev linksOf : ObjectFile → List Relocation
 linksOf h = h .relocations
+
+abbrev sourceOf : ObjectFile → Option (List ℕ)
+sourceOf h = h .source
 
 abbrev linesOf : ObjectFile → List LineBlock
 linesOf h = h .lineBlocks
@@ -56,7 +59,11 @@ module _ (ws : List ℕ) where
   past-start e =
       let f = formed ws e in
       let q : objectIn ws .relocations ≡ f .object .relocations = ap (λ o. givenOr o emptyObject .relocations) (f .is) in
-      (blocks-start ws e .0, subst (λ (v : List Relocation). Left ws 0 linksOf v) (sym q) (start ws linksOf (f .object) (f .is)))
+      let p : objectIn ws .source ≡ f .object .source = ap (λ o. givenOr o emptyObject .source) (f .is) in (
+        blocks-start ws e .0,
+        subst (λ (v : List Relocation). Left ws 0 linksOf v) (sym q) (start ws linksOf (f .object) (f .is)),
+        subst (λ (v : Option (List ℕ)). Left ws 0 sourceOf v) (sym p) (start ws sourceOf (f .object) (f .is)),
+      )
 
   -- past a record
   module _ (at n : ℕ) (h : at < length ws) (e : n ≡ at + 1 + length (bodyAt ws (at + 1))) where
@@ -68,9 +75,12 @@ module _ (ws : List ℕ) where
     pub past-on : kindAt ws at ≤ 2 → Past ws at → Past ws n
     past-on k p =
         let v = lineBlocksIn ws in
-        let g = here ws linesOf at v h (p .0) in (
+        let g = here ws linesOf at v h (p .0) in
+        let s = objectIn ws .source in
+        let b = here ws sourceOf at s h (p .2) in (
           on ws linesOf linesOf at n v g e (lines-other ws at (g .rest) (λ z. omega (arith, k, z))),
           linked-on (objectIn ws .relocations) (λ z. omega (arith, k, z)) (p .1),
+          on ws sourceOf sourceOf at n s b e (source-other ws at (b .rest) (λ z. omega (arith, k, z))),
         )
 
   -- the rows of relocations

@@ -13,6 +13,7 @@ use Rattle.source_info.proofs.RecordLaws.{Left}
 use Rattle.text_lines_out.specs.Merge.{wrapped}
 use Rattle.text_lines_out.specs.Walk.{lineBlocksIn, wrappedAt, Wraps, sourceTable}
 use Rattle.text_lines_out.specs.declared.Wrapped.{Wrapped}
+use Rattle.label_tables.specs.Tables.{namesWidth, indicesWidth}
 use Rattle.text_write.specs.Tables.{objectIn}
 use Rattle.text_write.specs.declared.lines.SourcePlan.{SourcePlan}
 
@@ -28,9 +29,11 @@ plannedText ws p = textBytes ws (p .text) (p .n)
 abbrev pub plannedWraps : SourcePlan → Wrapped
 plannedWraps p = record { place = p .place; count = p .count }
 
--- from a head on there are the object's line blocks and relocations
+-- from a head on there are the object's line blocks, relocations and source
 abbrev pub Past : List ℕ → ℕ → Type 0
-Past ws at = Left ws at (λ h. h .lineBlocks) (lineBlocksIn ws) × Left ws at (λ h. h .relocations) (objectIn ws .relocations)
+Past ws at =
+    Left ws at (λ h. h .lineBlocks) (lineBlocksIn ws) × Left ws at (λ h. h .relocations) (objectIn ws .relocations)
+    × Left ws at (λ h. h .source) (objectIn ws .source)
 
 -- the object's relocations begin at a head, or there are none
 abbrev pub Links : List ℕ → ℕ → Type 0
@@ -51,5 +54,6 @@ pub record Tabled (ws : List ℕ) (p : SourcePlan) : Type 0 where
 pub record PlanOf (ws : List ℕ) (p : SourcePlan) : Type 0 where
   pub only : p .only ≡ blocksOnly (objectIn ws)
   pub linked : p .only ≡ false → Links ws (p .links)
+  pub wide : p .only ≡ false → (p .names ≡ namesWidth ws) × (p .indices ≡ indicesWidth ws)
   pub nothing : p .bare ≡ true → sourceTable ws ≡ []
   pub tabled : p .bare ≡ false → Tabled ws p

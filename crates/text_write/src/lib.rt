@@ -28,7 +28,7 @@ use units::Filled;
 use writing::put_bytes;
 use writing::put_u8;
 ghost use mathlib.Core.Path.{_≡_};
-ghost use mathlib.Core.Bool.{not, _||_};
+ghost use mathlib.Core.Bool.{false, not, _||_};
 ghost use lib.Dec.{eqb};
 ghost use Prim.Native.Nat.{_+_, _≤_, _<_};
 ghost use lib.ListN.{length};
@@ -264,7 +264,7 @@ fn measure_groups(room: usize, ws: &[u32], p: SourcePlan) -> Room
     let Room::Left(c) = measure_linker(b, ws, p.links) else {
         return Room::Short;
     };
-    let Room::Left(d) = measure_labels(ws, c) else {
+    let Room::Left(d) = measure_labels(ws, p.names, p.indices, c) else {
         return Room::Short;
     };
     measure_source(d, ws, p)
@@ -299,12 +299,13 @@ fn put_names(out: &mut [u8], ws: &[u32], from: usize) -> usize
 
 // .DEBUG, after an empty line.
 fn put_debug(out: &mut [u8], ws: &[u32], p: SourcePlan) -> usize
-    requires { ⌜ (checked (now ws) ≡ 0) × (length (debugText (now ws)) ≤ length (now out)) × PlanOf (now ws) p ⌝ }
+    requires { ⌜ (checked (now ws) ≡ 0) × (length (debugText (now ws)) ≤ length (now out)) × PlanOf (now ws) p
+        × (p .only ≡ false) ⌝ }
     ensures { λ r. ⌜ Put (debugText (now (ws .entry))) (now (out .entry)) r (now (out .exit)) ⌝ }
 {
     let mut n = 0;
     n += put_bytes(&mut out[n..], b"\n.DEBUG\n# DEBUG SYMBOLS FOR LC3TOOLS\n\n");
-    n += put_label_table(&mut out[n..], ws);
+    n += put_label_table(&mut out[n..], ws, p.names, p.indices);
     n += put_bytes(&mut out[n..], b"====================\n");
     n += put_source(&mut out[n..], ws, p);
     n

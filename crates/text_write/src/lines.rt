@@ -1,4 +1,5 @@
 // The line table of the text form: rows in the order of their numbers, found in one walk along the line blocks and one along the source.
+use label_tables::column_widths;
 use measuring::Room;
 use object::body_end;
 use object::body_len;
@@ -8,7 +9,6 @@ use object::text_byte;
 use object::text_len;
 use source_info::Place;
 use source_info::count_newlines;
-use source_info::source_at;
 use text_escape::measure_line_row;
 use text_escape::measure_plain_row;
 use text_escape::plain_line;
@@ -46,6 +46,7 @@ ghost use Rattle.format.specs.Calls.{checked};
 ghost use Rattle.format.specs.TextWriter.{lineTable, decimal, lineWidth, addBlocks, plainRows, blocksOnly};
 ghost use Rattle.writing.specs.Written.{Put};
 ghost use Rattle.object.specs.Texts.{textBytes};
+ghost use Rattle.source_info.specs.Sources.{Sourced};
 ghost use Rattle.text_numerals.specs.Memory.{knownWord};
 ghost use Rattle.measuring.specs.Room.{roomOf, lessPart};
 ghost use Rattle.text_lines_out.specs.Lines.{At, Next, rowsText};
@@ -467,12 +468,14 @@ fn lay_out(ws: &[u32], lines: u64, from: usize) -> Layout
 }
 
 // What is found once of an object for measuring and writing: whether it has blocks only, and whether it has no source; where it goes on
-// past its labels, and where its relocations begin. Else the source of `n` bytes and so many lines in the words from `text` on, the width of the column of line numbers, and the words whose lines wrap.
+// past its labels, where its relocations begin, and the widths of its label table. Else the source of `n` bytes and so many lines in the words from `text` on, the width of the column of line numbers, and the words whose lines wrap.
 pub struct SourcePlan {
     pub only: bool,
     pub bare: bool,
     pub first: usize,
     pub links: usize,
+    pub names: usize,
+    pub indices: usize,
     pub text: usize,
     pub n: usize,
     pub lines: u64,
@@ -482,14 +485,16 @@ pub struct SourcePlan {
 }
 
 // That without a source.
-fn plan_bare(only: bool, first: usize, links: usize) -> SourcePlan
-    ensures { λ r. ⌜ (r .only ≡ only) × (r .bare ≡ true) × (r .links ≡ links) ⌝ }
+fn plan_bare(only: bool, links: usize, names: usize, indices: usize) -> SourcePlan
+    ensures { λ r. ⌜ (r .only ≡ only) × (r .bare ≡ true) × (r .links ≡ links) × (r .names ≡ names) × (r .indices ≡ indices) ⌝ }
 {
     SourcePlan {
         only,
         bare: true,
-        first,
+        first: 0,
         links,
+        names,
+        indices,
         text: 0,
         n: 0,
         lines: 0,
@@ -529,18 +534,37 @@ fn past_source(ws: &[u32], from: usize) -> usize
     at
 }
 
+// Where the words of its source begin, from there on.
+fn find_source(ws: &[u32], from: usize) -> Place
+    requires { ⌜ Past (now ws) from ⌝ }
+    ensures { λ r. ⌜ Sourced (now (ws .entry)) r ⌝ }
+{
+    let mut at = from;
+    while at < ws.len() {
+        let body = at + 1;
+        if kind(ws[at]) == 4 {
+            return Place::At(body);
+        }
+        at = body_end(ws, body);
+    }
+    Place::Nothing
+}
+
 // That of a well formed object, of which it is known whether it has blocks only.
 pub(crate) fn plan_source(ws: &[u32], only: bool) -> SourcePlan
     requires { ⌜ (checked (now ws) ≡ 0) × (only ≡ blocksOnly (objectIn (now ws))) ⌝ }
     ensures { λ r. ⌜ PlanOf (now (ws .entry)) r ⌝ }
 {
     if only {
-        return plan_bare(only, 0, 0);
+        return plan_bare(only, 0, 0, 0);
     }
     let first = past_labels(ws);
     let links = past_source(ws, first);
-    let Place::At(at) = source_at(ws) else {
-        return plan_bare(only, first, links);
+    let widths = column_widths(ws);
+    let names = widths.names;
+    let indices = widths.indices;
+    let Place::At(at) = find_source(ws, first) else {
+        return plan_bare(only, links, names, indices);
     };
     let end = body_end(ws, at);
     let n = text_len(ws, at, end);
@@ -552,6 +576,8 @@ pub(crate) fn plan_source(ws: &[u32], only: bool) -> SourcePlan
         bare: false,
         first,
         links,
+        names,
+        indices,
         text: at,
         n,
         lines,

@@ -3,7 +3,6 @@ use gather::Found;
 use label_order::By;
 use label_order::Labels;
 use label_order::next_label;
-use label_tables::column_widths;
 use label_tables::put_label_header;
 use label_tables::put_label_row;
 use label_tables::put_symbol_row;
@@ -14,7 +13,7 @@ ghost use mathlib.Core.List.{flatMap};
 ghost use lib.ListN.{length, take};
 ghost use Rattle.writing.specs.Written.{Put};
 ghost use Rattle.label_tables.specs.Rows.{symbolLine, labelLine};
-ghost use Rattle.label_tables.specs.Tables.{byAddress, byStart, symbolsOf, labelsOf};
+ghost use Rattle.label_tables.specs.Tables.{byAddress, byStart, symbolsOf, labelsOf, namesWidth, indicesWidth};
 
 // .SYMBOL's header: ADDR | EXT | LABEL, and a newline.
 const SYMBOL_HEADER: [u8; 19] = [
@@ -134,14 +133,11 @@ pub(crate) fn put_symbol_table(out: &mut [u8], ws: &[u32]) -> usize
     at
 }
 
-// The label table.
-pub(crate) fn put_label_table(out: &mut [u8], ws: &[u32]) -> usize
-    requires { ⌜ length (labelsOf (now ws)) ≤ length (now out) ⌝ }
+// The label table, in columns of its widths.
+pub(crate) fn put_label_table(out: &mut [u8], ws: &[u32], names: usize, indices: usize) -> usize
+    requires { ⌜ (length (labelsOf (now ws)) ≤ length (now out)) × (names ≡ namesWidth (now ws)) × (indices ≡ indicesWidth (now ws)) ⌝ }
     ensures { λ r. ⌜ Put (labelsOf (now (ws .entry))) (now (out .entry)) r (now (out .exit)) ⌝ }
 {
-    let w = column_widths(ws);
-    let names = w.names;
-    let indices = w.indices;
     let Found::At(_, _) = next_label(ws, 0) else {
         return 0;
     };

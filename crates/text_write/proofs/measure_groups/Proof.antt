@@ -122,7 +122,8 @@ module _ (c : tie.After-measure-labels) where
       (sym (ap roomOf (c .before .before .c .given .1)) ∙ m2 .measure-linker .ensures) ∙ fits2 m2
 
   labels-left : roomOf (c .measure-labels .result) ≡ lessPart left3 (labels k3)
-  labels-left = labels-room (ws k3) (s k3 .pre .0) left3 (c .measure-labels .result) (c .measure-labels .ensures)
+  labels-left = labels-room (ws k3) (s k3 .pre .0) (s k3 .args .p .names) (s k3 .args .p .indices) left3 (c .measure-labels .result)
+      (s k3 .pre .1 .wide (k3 .before .if1 .left)) (c .measure-labels .ensures)
 
 returns-5 : tie.Need-returns-5
 returns-5 c =

@@ -95,7 +95,8 @@ put-label-table-requires c κs =
     let p = c .before .before .before in
     let k = start p in
     let table = labelTable (object k .labels) in
-    omega (arith, ap length (labels-text (ws k) (s k .pre .0)), part-room (emits1 p) table (barLine ++ sourcePart (object k)) refl)
+    let w = s k .pre .2 .wide (s k .pre .3) in
+    (omega (arith, ap length (labels-text (ws k) (s k .pre .0)), part-room (emits1 p) table (barLine ++ sourcePart (object k)) refl), w .0, w .1)
 
 put-source-requires : tie.Need-put-source-requires
 put-source-requires c κs =

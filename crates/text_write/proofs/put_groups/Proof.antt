@@ -64,7 +64,7 @@ put-names-requires c κs =
 put-debug-requires : tie.Need-put-debug-requires
 put-debug-requires c κs =
     let p = c .before .before .before in
-    let group = debugText (ws (start p)) in (s (start p) .pre .0, part-room (emits1 p) group [] (sym (append-nil group)), s (start p) .pre .2)
+    let group = debugText (ws (start p)) in (s (start p) .pre .0, part-room (emits1 p) group [] (sym (append-nil group)), s (start p) .pre .2, start p .if1 .left)
 
 pub put-groups-spec : {M : Type 1} → statement M
 put-groups-spec =

@@ -25,7 +25,7 @@ use Rattle.text_write.proofs.lines.plan_source.Tie as tie
 -- the source
 module _ (c : tie.After-count-newlines) where
   abbrev s : tie.Start
-  s = c .before .before .before .before .before .before .before .before .before .before .before
+  s = c .before .before .before .before .before .before .before .before .before .before .before .before
 
   abbrev ws : List ℕ
   ws = now (s .args .ws)
@@ -39,7 +39,7 @@ module _ (c : tie.After-count-newlines) where
   good : Sourced ws (place.At at)
   good =
       subst (Sourced ws) (c .before .before .before .before .at .given .1)
-      (c .before .before .before .before .before .before .source-at .ensures)
+      (c .before .before .before .before .before .before .find-source .ensures)
 
   size : n ≡ textLen ws at (at + length (bodyAt ws at))
   size = c .before .text-len .ensures ∙ ap (textLen ws at) (c .before .before .body-end .ensures)
@@ -73,7 +73,7 @@ add-lines c = let h = few c in search needs
 
 lay-out-requires : tie.Need-lay-out-requires
 lay-out-requires c κs =
-    let o = c .before .before .before .before .before .before .before .before in
+    let o = c .before .before .before .before .before .before .before .before .before in
     (s c .pre .0, some-lines (text c) (lines c) (counted c), o .past-labels .ensures)
 
 returns : tie.Need-returns
@@ -83,6 +83,7 @@ returns c =
     record {
       only = q .0 ∙ s .pre .1;
       linked = λ z. absurd (true≢false (sym (q .0 ∙ c .before .if1 .taken) ∙ z));
+      wide = λ z. absurd (true≢false (sym (q .0 ∙ c .before .if1 .taken) ∙ z));
       nothing = λ z. only-bare (now (s .args .ws)) (sym (s .pre .1) ∙ c .before .if1 .taken);
       tabled = λ z. absurd (true≢false (sym (q .1) ∙ z));
     }
@@ -90,13 +91,15 @@ returns c =
 returns-2 : tie.Need-returns-2
 returns-2 c =
     let k = c .before .before .before in
-    let s = k .before .before .before .before .before in
+    let s = k .before .before .before .before .before .before in
+    let wide = k .before .column-widths .ensures in
     let ws = now (s .args .ws) in
     let q = c .plan-bare2 .ensures in
     record {
       only = q .0 ∙ s .pre .1;
-      linked = λ z. subst (Links ws) (sym (q .2)) (k .before .past-source .ensures);
-      nothing = λ z. source-nothing ws (s .pre .0) (subst (Sourced ws) (c .before .enum-told .given .1) (k .source-at .ensures));
+      linked = λ z. subst (Links ws) (sym (q .2)) (k .before .before .past-source .ensures);
+      wide = λ z. (q .3 ∙ wide .0, q .4 ∙ wide .1);
+      nothing = λ z. source-nothing ws (s .pre .0) (subst (Sourced ws) (c .before .enum-told .given .1) (k .find-source .ensures));
       tabled = λ z. absurd (true≢false (sym (q .1) ∙ z));
     }
 
@@ -104,10 +107,12 @@ returns-3 : tie.Need-returns-3
 returns-3 c =
     let l = c .before in
     let k = l .before in
-    let o = k .before .before .before .before .before .before .before in
+    let g = k .before .before .before .before .before .before .before in
+    let o = g .before in
     record {
       only = s k .pre .1;
       linked = λ z. o .past-source .ensures;
+      wide = λ z. (g .column-widths .ensures .0, g .column-widths .ensures .1);
       nothing = λ z. absurd (true≢false (sym z));
       tabled = λ z. record {
         short = small-source k;
@@ -130,6 +135,7 @@ plan-source-spec =
     (λ c κs. c .before .before .pre .0)
     (λ c κs. c .past-labels .ensures)
     (λ c κs. search needs)
+    (λ c κs. c .before .before .past-labels .ensures)
     (λ c. search needs)
     (λ c. search needs)
     (λ c κs. search needs)

@@ -28,11 +28,8 @@ module _ (ws : List ℕ) where
 
 -- there are labels
 module _ (t : tie.After-enum-told) where
-  abbrev wide : tie.After-column-widths
-  wide = t .before .before .before
-
   abbrev start : tie.Start
-  start = wide .before .before .before
+  start = t .before .before .before .before .before
 
   abbrev ws : List ℕ
   ws = now (start .args .ws)
@@ -44,10 +41,10 @@ module _ (t : tie.After-enum-told) where
   tight = omega arith
 
   abbrev names : ℕ
-  names = wide .column-widths .result .names
+  names = start .args .names
 
   abbrev indices : ℕ
-  indices = wide .column-widths .result .indices
+  indices = start .args .indices
 
   abbrev head : List ℕ
   head = textLine (labelHeader names indices)
@@ -65,12 +62,11 @@ module _ (t : tie.After-enum-told) where
   is-table : head ++ rows ≡ labelsOf ws
   is-table =
       let g = t .enum-told .given in
-      ap₂ (λ x y. textLine (labelHeader x y) ++ flatMap (labelLine x y ws) (byStart ws)) (wide .column-widths .ensures .0)
-      (wide .column-widths .ensures .1)
+      ap₂ (λ x y. textLine (labelHeader x y) ++ flatMap (labelLine x y ws) (byStart ws)) (start .pre .1) (start .pre .2)
       ∙ sym (table-some (header ws) (line ws) (labelPlaces ws) (byStart ws) (g .0 .0) (placesFrom ws (g .0 .1 .0)) found)
 
   short : length (head ++ rows) ≤ length room
-  short = omega (arith, ap length is-table, start .pre)
+  short = omega (arith, ap length is-table, start .pre .0)
 
 emits1 : (c : tie.After-put-label-header) → let t = c .before .before in
     Emits (head t ++ rows t) (room t)
@@ -97,7 +93,7 @@ returns : tie.Need-returns
 unfolding labelPlaces
 returns c =
     let m = c .before .before in
-    let s = m .before .before .before .before in
+    let s = m .before .before .before in
     let ws = now (s .args .ws) in
     let space = now (s .args .out) in
     let e = found-none ws 0 (m .next-label .result) (m .next-label .ensures .0) (c .enum-told2 .given .1) in
@@ -118,7 +114,6 @@ pub put-label-table-spec : {M : Type 1} → statement M
 put-label-table-spec =
     tie.close
     (tie.spec
-    (λ c κs. search needs)
     (λ c κs. search needs)
     (λ c. search needs)
     (λ c. search needs)
