@@ -12,6 +12,7 @@ use borrow.Author.Tests.{leb-true, leb-false}
 use borrow.Rule.Slice.PartAt.{part-to-end}
 use borrow.Rule.Slice.PartMut.{midOf, postOf, putMid}
 use Rattle.format.specs.Basics.{if_then_else_}
+use Rattle.format.specs.Sorted.{upsert, upsertAll, sorted}
 use Rattle.format.specs.Records.{Record}
 use Rattle.format.specs.Words.{recordWords}
 use Rattle.format.proofs.ListLaws.{by-test, map-append}
@@ -20,8 +21,8 @@ use Rattle.writing.proofs.WriteLaws.{length-into}
 use Rattle.writing.proofs.Parts.{State, Emits, rest, after, begin, emit, emitted, within}
 use Rattle.gather.specs.Window.{HoldsWindow}
 use Rattle.gather.proofs.OrderLaws.{held-front}
-use Rattle.text_rows.specs.Rows.{rowsFrom, rowAt}
-use Rattle.text_rows.specs.Steps.{FoundAt}
+use Rattle.text_rows.specs.Rows.{rowKey, rowsFrom, rowsOf, rowAt}
+use Rattle.text_rows.specs.Steps.{FoundAt, BeginsAt}
 use Rattle.text_gather.specs.declared.Sorting.{Sorting}
 use Rattle.text_gather.specs.Order.{left, HandsOut}
 use Rattle.text_words.specs.Written.{wordsAt, putEach, PutEach}
@@ -174,6 +175,18 @@ pub found-words : (kind : ℕ) (t : List ℕ) (at p next : ℕ) → FoundAt kind
     → map recordWords (rowsFrom kind t at) ≡ (wordsAt kind t p ∷ []) ++ map recordWords (rowsFrom kind t next)
 unfolding wordsAt
 found-words kind t at p next f = ap (map recordWords) (f .same)
+
+-- none, and one alone, are in order
+module _ (kind : ℕ) (t : List ℕ) (from : ℕ) (b : BeginsAt t from) where
+  pub no-rows : rowsFrom kind t from ≡ [] → map recordWords (sorted rowKey (rowsOf kind t)) ≡ []
+  unfolding upsertAll
+  no-rows e = ap (λ (rs : List Record). map recordWords (sorted rowKey rs)) (sym (b kind) ∙ e)
+
+  pub one-row : (p next : ℕ) → FoundAt kind t from p next → rowsFrom kind t next ≡ []
+      → map recordWords (sorted rowKey (rowsOf kind t)) ≡ wordsAt kind t p ∷ []
+  unfolding upsertAll upsert wordsAt
+  one-row p next f e =
+      ap (λ (rs : List Record). map recordWords (sorted rowKey rs)) (sym (b kind) ∙ f .same ∙ ap (λ (rs : List Record). rowAt kind t p ∷ rs) e)
 
 -- where the keys rise, they are the rows in order
 pub straight-rows : (t : List ℕ) (o : Sorting) → o .rising ≡ true → rowsFrom (o .kind) t (o .at) ≡ left t o

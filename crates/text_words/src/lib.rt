@@ -15,6 +15,7 @@ use text_lines::Passed;
 use text_lines::next_row;
 use text_rows::Found;
 use text_rows::count_of;
+use text_rows::first_place;
 use text_rows::next_place;
 use writing::put_number_words;
 use writing::put_text_words;
@@ -282,7 +283,7 @@ fn put_sorted(out: &mut [u32], t: &[u8], sorting: Sorting) -> usize
 }
 
 // The rows of a kind in the order of their keys: without an array where they come in it.
-pub fn put_rows(out: &mut [u32], t: &[u8], kind: u8) -> usize
+fn put_ordered(out: &mut [u32], t: &[u8], kind: u8) -> usize
     ensures { λ r. ⌜ PutEach (map recordWords (sorted rowKey (rowsOf kind (now (t .entry))))) (now (out .entry)) r (now (out .exit)) ⌝ }
 {
     let sorting = Sorting::new(t, kind);
@@ -290,6 +291,19 @@ pub fn put_rows(out: &mut [u32], t: &[u8], kind: u8) -> usize
         return put_straight(out, t, sorting.kind, sorting.at);
     }
     put_sorted(out, t, sorting)
+}
+
+// The rows of a kind in the order of their keys. None are in order, and so is one, as most files have one block, without a walk that asks.
+pub fn put_rows(out: &mut [u32], t: &[u8], kind: u8) -> usize
+    ensures { λ r. ⌜ PutEach (map recordWords (sorted rowKey (rowsOf kind (now (t .entry))))) (now (out .entry)) r (now (out .exit)) ⌝ }
+{
+    let Found::At(p, next) = next_place(t, kind, first_place(t)) else {
+        return 0;
+    };
+    match next_place(t, kind, next) {
+        Found::At(_, _) => put_ordered(out, t, kind),
+        Found::Nothing => put_row(out, t, kind, p),
+    }
 }
 
 // The room that is left.
@@ -396,8 +410,8 @@ fn sorted_room(t: &[u8], sorting: Sorting, room: usize) -> Room
     windows_room(t, sorting, &mut win, room)
 }
 
-// The room after the rows of a kind, a later row with the same key replacing.
-pub fn rows_room(t: &[u8], kind: u8, room: usize) -> Room
+// The room after the rows of a kind in the order of their keys.
+fn ordered_room(t: &[u8], kind: u8, room: usize) -> Room
     ensures { λ r. ⌜ roomOf r ≡ roomAfter (map recordWords (sorted rowKey (rowsOf kind (now (t .entry))))) room ⌝ }
 {
     let sorting = Sorting::new(t, kind);
@@ -405,4 +419,14 @@ pub fn rows_room(t: &[u8], kind: u8, room: usize) -> Room
         return straight_room(t, sorting.kind, sorting.at, room);
     }
     sorted_room(t, sorting, room)
+}
+
+// The room after the rows of a kind, a later row with the same key replacing. Many files have none of a kind.
+pub fn rows_room(t: &[u8], kind: u8, room: usize) -> Room
+    ensures { λ r. ⌜ roomOf r ≡ roomAfter (map recordWords (sorted rowKey (rowsOf kind (now (t .entry))))) room ⌝ }
+{
+    match next_place(t, kind, first_place(t)) {
+        Found::At(_, _) => ordered_room(t, kind, room),
+        Found::Nothing => Room::Left(room),
+    }
 }

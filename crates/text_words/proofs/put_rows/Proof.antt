@@ -1,32 +1,42 @@
--- As they come where they rise, or by windows. Assumes nothing.
+-- No row, one row, or the rows in order. Assumes nothing.
 use borrow.Author.Needs.{needs}
-use mathlib.Core.Path.{ap, _∙_}
-use mathlib.Core.List.{List, map}
+use mathlib.Core.Path.{sym, ap, _∙_, subst}
+use mathlib.Core.List.{List}
+use Prim.Native.Nat.{ℕ}
 use denote.Ref.{now}
-use Rattle.format.specs.Records.{Record}
-use Rattle.format.specs.Words.{recordWords}
+use Rattle.text_rows.specs.Steps.{NextPlace}
 use Rattle.text_words.specs.Written.{putEach}
-use Rattle.text_words.proofs.PutLaws.{straight-rows}
+use Rattle.text_words.proofs.PutLaws.{put-one, no-rows, one-row}
 use Rattle.text_words.proofs.put_rows.Statement.{statement}
 use Rattle.text_words.proofs.put_rows.Tie as tie
 
 returns : tie.Need-returns
+unfolding putEach
 returns c =
-    let p = c .before .before in
-    let i = p .before .before in
-    let n = i .before in
-    let a = n .before .before .before .args in
-    p .put-straight .ensures
-    ∙ ap (λ (rs : List Record). putEach (map recordWords rs) 0 (now (a .out))) (straight-rows (now (a .t)) (n .new .result) (i .if1 .taken) ∙ n .new .ensures .0)
+    let n = c .before .before in
+    let f = n .before in
+    let a = f .before .before .before .args in
+    sym (ap (λ (ps : List (List ℕ)). putEach ps 0 (now (a .out)))
+    (no-rows (a .kind) (now (a .t)) (f .first-place .result) (f .first-place .ensures)
+    (subst (NextPlace (a .kind) (now (a .t)) (f .first-place .result)) (c .enum-told .given .1) (n .next-place .ensures))))
 
-returns-2 : tie.Need-returns-2
-returns-2 c =
-    let p = c .before .before in
-    let n = p .before .before .before in
-    let a = n .before .before .before .args in
-    p .put-sorted .ensures ∙ ap (λ (rs : List Record). putEach (map recordWords rs) 0 (now (a .out))) (n .new .ensures .0)
+returns-3 : tie.Need-returns-3
+returns-3 c =
+    let r = c .before .before in
+    let e = r .before .before in
+    let m = e .before .before in
+    let p = m .before .before in
+    let n = p .before .before in
+    let f = n .before in
+    let a = f .before .before .before .args in
+    put-one _ _ _ _ (r .put-row .ensures)
+    ∙ sym (ap (λ (ps : List (List ℕ)). putEach ps 0 (now (a .out)))
+    (one-row (a .kind) (now (a .t)) (f .first-place .result) (f .first-place .ensures) (p .p .given .0 .0) (p .p .given .0 .1 .0)
+    (subst (NextPlace (a .kind) (now (a .t)) (f .first-place .result)) (p .p .given .1) (n .next-place .ensures))
+    (subst (NextPlace (a .kind) (now (a .t)) (p .p .given .0 .1 .0)) (e .enum-told3 .given .1) (m .next-place2 .ensures))))
 
 pub put-rows-spec : {M : Type 1} → statement M
 put-rows-spec =
     tie.close
-    (tie.spec (λ c κs. search needs) (λ c κs. search needs) (λ c. search needs) returns (λ c κs. search needs) (λ c. search needs) returns-2)
+    (tie.spec (λ c κs. search needs) (λ c κs. search needs) (λ c. search needs) (λ c. search needs) returns (λ c κs. search needs) (λ c. search needs)
+    (λ c κs. search needs) (λ c. search needs) (λ c κs. search needs) (λ c. search needs) (λ c. search needs) (λ c. search needs) returns-3)
