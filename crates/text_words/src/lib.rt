@@ -297,11 +297,11 @@ fn put_ordered(out: &mut [u32], t: &[u8], kind: u8) -> usize
 pub fn put_rows(out: &mut [u32], t: &[u8], kind: u8) -> usize
     ensures { λ r. ⌜ PutEach (map recordWords (sorted rowKey (rowsOf kind (now (t .entry))))) (now (out .entry)) r (now (out .exit)) ⌝ }
 {
-    let Found::At(p, next) = next_place(t, kind, first_place(t)) else {
+    let Found::At(p, _, _, next) = next_place(t, kind, first_place(t)) else {
         return 0;
     };
     match next_place(t, kind, next) {
-        Found::At(_, _) => put_ordered(out, t, kind),
+        Found::At(_, _, _, _) => put_ordered(out, t, kind),
         Found::Nothing => put_row(out, t, kind, p),
     }
 }
@@ -426,7 +426,7 @@ pub fn rows_room(t: &[u8], kind: u8, room: usize) -> Room
     ensures { λ r. ⌜ roomOf r ≡ roomAfter (map recordWords (sorted rowKey (rowsOf kind (now (t .entry))))) room ⌝ }
 {
     match next_place(t, kind, first_place(t)) {
-        Found::At(_, _) => ordered_room(t, kind, room),
+        Found::At(_, _, _, _) => ordered_room(t, kind, room),
         Found::Nothing => Room::Left(room),
     }
 }

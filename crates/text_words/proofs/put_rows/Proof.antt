@@ -31,9 +31,9 @@ returns-3 c =
     let a = f .before .before .before .args in
     put-one _ _ _ _ (r .put-row .ensures)
     ∙ sym (ap (λ (ps : List (List ℕ)). putEach ps 0 (now (a .out)))
-    (one-row (a .kind) (now (a .t)) (f .first-place .result) (f .first-place .ensures) (p .p .given .0 .0) (p .p .given .0 .1 .0)
-    (subst (NextPlace (a .kind) (now (a .t)) (f .first-place .result)) (p .p .given .1) (n .next-place .ensures))
-    (subst (NextPlace (a .kind) (now (a .t)) (p .p .given .0 .1 .0)) (e .enum-told3 .given .1) (m .next-place2 .ensures))))
+    (one-row (a .kind) (now (a .t)) (f .first-place .result) (f .first-place .ensures) (p .p .given .0 .0) (p .p .given .0 .1 .1 .1 .0)
+    ((subst (NextPlace (a .kind) (now (a .t)) (f .first-place .result)) (p .p .given .1) (n .next-place .ensures)) .0)
+    (subst (NextPlace (a .kind) (now (a .t)) (p .p .given .0 .1 .1 .1 .0)) (e .enum-told3 .given .1) (m .next-place2 .ensures))))
 
 pub put-rows-spec : {M : Type 1} → statement M
 put-rows-spec =

@@ -22,11 +22,11 @@ abbrev μ-loop : tie.MeasureT-loop
 μ-loop out₀ t kind from at₀ row₀ out at row = length t - row
 
 found : (c : tie.After-p Inv-loop μ-loop) → let l = c .before .before .before in let a = l .before .before .before .args in
-    FoundAt (a .kind) (now (a .t)) (l .loop .row) (c .p .given .0 .0) (c .p .given .0 .1 .0)
+    FoundAt (a .kind) (now (a .t)) (l .loop .row) (c .p .given .0 .0) (c .p .given .0 .1 .1 .1 .0)
 found c =
     let l = c .before .before .before in
     let a = l .before .before .before .args in
-    subst (NextPlace (a .kind) (now (a .t)) (l .loop .row)) (c .p .given .1) (c .before .before .next-place .ensures)
+    (subst (NextPlace (a .kind) (now (a .t)) (l .loop .row)) (c .p .given .1) (c .before .before .next-place .ensures)) .0
 
 returns : tie.Need-returns Inv-loop μ-loop
 returns c =
@@ -39,7 +39,7 @@ next : (c : tie.After-put-row Inv-loop μ-loop) →
     let f = c .before .before .before in
     let l = f .before .before .before in
     let a = l .before .before .before .args in
-    Puts (map recordWords (rowsFrom (a .kind) (now (a .t)) (f .p .given .0 .1 .0))) (map recordWords (rowsFrom (a .kind) (now (a .t)) (a .from)))
+    Puts (map recordWords (rowsFrom (a .kind) (now (a .t)) (f .p .given .0 .1 .1 .1 .0))) (map recordWords (rowsFrom (a .kind) (now (a .t)) (a .from)))
     (now (a .out)) (putMid (l .loop .at) (length (l .loop .out) - l .loop .at) (l .loop .out) (c .put-row .last .0)) (l .loop .at + c .put-row .result)
 next c =
     let f = c .before .before .before in

@@ -25,11 +25,11 @@ abbrev μ-loop : tie.MeasureT-loop
 μ-loop t kind from room left₀ row₀ left row = length t - row
 
 found : (c : tie.After-p Inv-loop μ-loop) → let l = c .before .before .before in let a = l .before .before .args in
-    FoundAt (a .kind) (now (a .t)) (l .loop .row) (c .p .given .0 .0) (c .p .given .0 .1 .0)
+    FoundAt (a .kind) (now (a .t)) (l .loop .row) (c .p .given .0 .0) (c .p .given .0 .1 .1 .1 .0)
 found c =
     let l = c .before .before .before in
     let a = l .before .before .args in
-    subst (NextPlace (a .kind) (now (a .t)) (l .loop .row)) (c .p .given .1) (c .before .before .next-place .ensures)
+    (subst (NextPlace (a .kind) (now (a .t)) (l .loop .row)) (c .p .given .1) (c .before .before .next-place .ensures)) .0
 
 returns : tie.Need-returns Inv-loop μ-loop
 returns c =
