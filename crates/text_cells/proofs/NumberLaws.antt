@@ -4,9 +4,10 @@ use mathlib.Core.Path.{_≡_, refl, sym, ap, _∙_}
 use mathlib.Core.Bool.{true, false}
 use mathlib.Core.List.{List, [], _∷_}
 use mathlib.Core.Option.{Option, none, some}
-use Prim.Native.Nat.{ℕ, _+_, _-_, _*_, _/_, _≤_, _<_}
+use Prim.Native.Nat.{ℕ, _+_, _-_, _*_, _/_, _^_, _≤_, _<_}
 use native.Mathlib.Omega.{arith}
-use native.Mathlib.Nat.{div-lt-iff-lt-mul, mul-le-mul-left, mul-one}
+use native.Mathlib.Nat.{div-lt-iff-lt-mul, mul-le-mul-left, mul-one, pow-suc, pow-le-pow-right}
+use native.Mathlib.Numerals.{add-one}
 use lib.ListN.{length, drop, getD, drop-of-length-le}
 use lib.Dec.{ltb, eqb}
 use borrow.Author.Tests.{lt-ltb, le-ltb, eq-eqb, ne-eqb, ltb-true, ltb-false, eqb-true, eqb-false}
@@ -100,14 +101,20 @@ module _ (v : ℕ) (s : List ℕ) (i : ℕ) where
       let d : digitOr16 (getD s i 0) ≡ getD s i 0 - 48 = simp (within-yes 48 57 (getD s i 0) l u) in
       ap (λ (x : ℕ). digitsFrom 10 (v * 10 + x) (drop (i + 1) s)) (sym d) ∙ sym (from-on 10 v s i h (omega (arith, d)))
 
-pub digits-alone : (s : List ℕ) (v limit : ℕ) → 0 < length s → digitsFrom 10 0 s ≡ some v → parseNumber 10 limit s ≡ belowLimit limit (some v)
-unfolding parseNumber isEmpty withoutPlus digitsFrom digitValue
-digits-alone [] v limit h e = absurd (omega arith)
-digits-alone (b ∷ bs) v limit h e =
+pub digits-alone : (base : ℕ) → digitValue base 0x2B ≡ none → (s : List ℕ) (v limit : ℕ) → 0 < length s → digitsFrom base 0 s ≡ some v
+    → parseNumber base limit s ≡ belowLimit limit (some v)
+unfolding parseNumber isEmpty withoutPlus digitsFrom
+digits-alone base p [] v limit h e = absurd (omega arith)
+digits-alone base p (b ∷ bs) v limit h e =
     by-test (eqb b 0x2B)
-    (λ t. let z : none ≡ some v = sym (ap (λ (x : ℕ). digitsFrom 10 0 (x ∷ bs)) (eqb-true b 0x2B t)) ∙ e in
-    let y : _≡_ {A = ℕ} 0 1 = cc in absurd (omega arith))
+    (λ t. let y : digitsFrom base 0 (0x2B ∷ bs) ≡ none = rw p in
+    let z : none ≡ some v = sym y ∙ sym (ap (λ (x : ℕ). digitsFrom base 0 (x ∷ bs)) (eqb-true b 0x2B t)) ∙ e in
+    let w : _≡_ {A = ℕ} 0 1 = cc in absurd (omega arith))
     (λ t. simp t (ap (belowLimit limit) e))
+
+pub decimal-alone : (s : List ℕ) (v limit : ℕ) → 0 < length s → digitsFrom 10 0 s ≡ some v → parseNumber 10 limit s ≡ belowLimit limit (some v)
+unfolding digitValue
+decimal-alone = digits-alone 10 refl
 
 pub hex-no : (s : List ℕ) → (length s ≡ 4 → ⊥) → none ≡ hex2u16 s
 unfolding hex2u16
@@ -117,24 +124,20 @@ pub hex-yes : (s : List ℕ) → length s ≡ 4 → parseNumber 16 65536 s ≡ h
 unfolding hex2u16
 hex-yes s h = rw (eq-eqb (length s) 4 h)
 
--- four digits
-module _ (s : List ℕ) (l : length s ≡ 4) (a b c d : ℕ) (ea : a ≡ digitOr16 (getD s 0 0)) (eb : b ≡ digitOr16 (getD s 1 0)) (ec : c ≡ digitOr16 (getD s 2 0))
-    (ed : d ≡ digitOr16 (getD s 3 0)) (la : a < 16) (lb : b < 16) (lc : c < 16) (ld : d < 16) where
-  no-plus : getD s 0 0 ≡ 0x2B → ⊥
-  unfolding digitOr16
-  no-plus e = let z : a ≡ 16 = ea ∙ ap digitOr16 e in omega arith
+-- four digits, one after the other
+pub hex-bound : (i : ℕ) → i < 4 → 16 ^ i ≤ 65536
+hex-bound i h = pow-le-pow-right {n = 16} (omega arith) {i = i} {j = 4} (omega arith)
 
-  read-four : digitsFrom 16 0 (drop 0 s) ≡ some (((a * 16 + b) * 16 + c) * 16 + d)
-  read-four =
-      let v : (((0 * 16 + digitOr16 (getD s 0 0)) * 16 + digitOr16 (getD s 1 0)) * 16 + digitOr16 (getD s 2 0)) * 16 + digitOr16 (getD s 3 0)
-      ≡ ((a * 16 + b) * 16 + c) * 16 + d = omega arith in
-      from-on 16 0 s 0 (omega arith) (omega arith) ∙ from-on 16 _ s 1 (omega arith) (omega arith) ∙ from-on 16 _ s 2 (omega arith) (omega arith)
-      ∙ from-on 16 _ s 3 (omega arith) (omega arith) ∙ from-end 16 _ s 4 (omega arith) ∙ ap (λ (n : ℕ). some n) v
+pub hex-small-on : (i v d : ℕ) → v < 16 ^ i → d < 16 → v * 16 + d < 16 ^ (i + 1)
+hex-small-on i v d h l = let p : 16 ^ (i + 1) ≡ 16 ^ i * 16 = rw add-one (pow-suc 16 i) in rw p (omega arith)
 
-  pub hex-four : some (((a * 16 + b) * 16 + c) * 16 + d) ≡ hex2u16 s
-  hex-four =
-      sym (ap (belowLimit 65536) read-four ∙ below-some 65536 (((a * 16 + b) * 16 + c) * 16 + d) (omega arith))
-      ∙ number-from 16 65536 s 0 (plus-no s (omega arith) no-plus) (omega arith) ∙ hex-yes s l
+pub hex-room-on : (i v d : ℕ) → v + 2 ≤ 2 * 16 ^ i → d ≤ 16 → v * 16 + d + 2 ≤ 2 * 16 ^ (i + 1)
+hex-room-on i v d h l = let p : 16 ^ (i + 1) ≡ 16 ^ i * 16 = rw add-one (pow-suc 16 i) in rw p (omega arith)
+
+pub hex-four : (s : List ℕ) (v : ℕ) → length s ≡ 4 → v < 16 ^ 4 → digitsFrom 16 v (drop 4 s) ≡ digitsFrom 16 0 s → some v ≡ hex2u16 s
+unfolding digitValue
+hex-four s v l h e =
+    sym (digits-alone 16 refl s v 65536 (omega arith) (sym e ∙ from-end 16 v s 4 (omega arith)) ∙ below-some 65536 v h) ∙ hex-yes s l
 
 -- a number that was read is below the limit
 below-small : (limit v : ℕ) (o : Option ℕ) → belowLimit limit o ≡ some v → v < limit

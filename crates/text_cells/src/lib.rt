@@ -33,8 +33,30 @@ pub enum Divider {
     Nothing,
 }
 
-// The value of a digit; 16 if it is none.
+// The value of a digit; 16 if it is none. By sums, since no branch foresees the digits of a word: from `0` up to `?` the digits end in 0 to 9
+// of 16, and past that the letters in 1 to 6 of 32, which is 9 less than their value.
 pub fn digit(b: u8) -> u64
+    ensures { λ r. ⌜ (r ≡ digitOr16 b) × (r ≤ 16) ⌝ }
+{
+    if b < 48 {
+        return 16;
+    }
+    if 102 < b {
+        return 16;
+    }
+    let letter = b / 64;
+    let place = b % 32;
+    if place < 16 - 15 * letter {
+        return 16;
+    }
+    if 25 - 19 * letter < place {
+        return 16;
+    }
+    (b % 16 + 9 * letter) as u64
+}
+
+// The same by a table: called from one place only, it is put there whole.
+fn hex_digit(b: u8) -> u64
     ensures { λ r. ⌜ (r ≡ digitOr16 b) × (r ≤ 16) ⌝ }
 {
     match b {
@@ -137,25 +159,24 @@ pub fn decimal(s: &[u8], max: u64) -> Number
     Number::Value(v)
 }
 
-// Four hexadecimal digits, or three after a `+`: the former without a loop.
+// Four hexadecimal digits, or three after a `+`: the former without a branch that a digit decides.
 pub fn hex2u16(s: &[u8]) -> Number
     ensures { λ r. ⌜ numberRead r ≡ hex2u16 (now (s .entry)) ⌝ }
 {
     if s.len() != 4 {
         return Number::Nothing;
     }
-    let a = digit(s[0]);
-    let b = digit(s[1]);
-    let c = digit(s[2]);
-    let d = digit(s[3]);
-    if a < 16 {
-        if b < 16 {
-            if c < 16 {
-                if d < 16 {
-                    return Number::Value(((a * 16 + b) * 16 + c) * 16 + d);
-                }
-            }
-        }
+    let mut v = 0;
+    let mut bad = 0;
+    let mut i = 0;
+    while i < 4 {
+        let d = hex_digit(s[i]);
+        bad = bad + d / 16;
+        v = v * 16 + d;
+        i += 1;
+    }
+    if bad == 0 {
+        return Number::Value(v);
     }
     read_number(s, 16, 0xFFFF)
 }

@@ -5,7 +5,7 @@ use Prim.Native.Nat.{ℕ, _-_, _≤_}
 use denote.Ref.{now}
 use lib.ListN.{length, drop}
 use Rattle.format.specs.TextReader.{digitsFrom}
-use Rattle.text_cells.proofs.NumberLaws.{decimal-on, digits-alone, from-end}
+use Rattle.text_cells.proofs.NumberLaws.{decimal-on, decimal-alone, from-end}
 use Rattle.text_cells.proofs.plain_decimal.Statement.{statement}
 use Rattle.text_cells.proofs.plain_decimal.Tie as tie
 
@@ -24,7 +24,7 @@ returns-5 : tie.Need-returns-5 Inv-loop μ-loop
 returns-5 c =
     let l = c .before in
     let s = now (l .before .before .args .s) in
-    λ limit. digits-alone s (l .loop .v) limit (omega (arith, l .before .if1 .left)) (sym (l .loop .inv .1) ∙ from-end 10 (l .loop .v) s (l .loop .i) (c .loop-test .left))
+    λ limit. decimal-alone s (l .loop .v) limit (omega (arith, l .before .if1 .left)) (sym (l .loop .inv .1) ∙ from-end 10 (l .loop .v) s (l .loop .i) (c .loop-test .left))
 
 pub plain-decimal-spec : {M : Type 1} → statement M
 plain-decimal-spec =
