@@ -26,7 +26,7 @@ fn show_in_six(file: &[u8]) {
 }
 
 // All of these cases, one after the other.
-pub fn show_all() {
+pub(crate) fn show_all() {
     let header = [0x6Fu8, 0x62, 0x6A, 0x21, 0x10, 0x00, 0x01];
     let text = b"LC-3 OBJ FILE";
     show_text(&header[..6]);

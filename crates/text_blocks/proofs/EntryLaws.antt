@@ -11,11 +11,11 @@ use lib.Seq.{drop-cons}
 use lib.Dec.{eqb, ltb}
 use borrow.Author.Tests.{ne-eqb, eqb-true, ltb-true, ltb-false}
 use Rattle.format.specs.Basics.{eqs, if_then_else_}
-use Rattle.format.specs.TextReader.{hex2u16, maybeHex2u16}
+use Rattle.format.specs.TextReader.{digitsFrom, hex2u16, maybeHex2u16}
 use Rattle.format.specs.Words.{memoryWord}
 use Rattle.trim.specs.Span.{part}
 use Rattle.text_cells.specs.Cells.{digitOr16}
-use Rattle.text_cells.proofs.NumberLaws.{hex-four, entry-unknown, entry-hex}
+use Rattle.text_cells.proofs.NumberLaws.{from-on, hex-four, entry-unknown, entry-hex}
 use Rattle.text_lines.proofs.ShortLaws.{short-row}
 use Rattle.text_lines.proofs.TestLaws.{by-test, front, within-low, within-high}
 use Rattle.text_blocks.specs.Blocks.{entryDigit, tableFrom, isTable, EntryAt}
@@ -105,9 +105,14 @@ read-digits : (p q r s a b c d : ℕ) → a ≡ digitOr16 p → b ≡ digitOr16 
     → a < 16 → b < 16 → c < 16 → d < 16 → some (some (((a * 16 + b) * 16 + c) * 16 + d)) ≡ maybeHex2u16 (p ∷ q ∷ r ∷ s ∷ [])
 unfolding eqs
 read-digits p q r s a b c d ea eb ec ed la lb lc ld =
-    entry-hex (p ∷ q ∷ r ∷ s ∷ []) (some (((a * 16 + b) * 16 + c) * 16 + d))
+    let l : List ℕ = p ∷ q ∷ r ∷ s ∷ [] in
+    let v : (((0 * 16 + digitOr16 p) * 16 + digitOr16 q) * 16 + digitOr16 r) * 16 + digitOr16 s ≡ ((a * 16 + b) * 16 + c) * 16 + d = omega arith in
+    let e : digitsFrom 16 0 l ≡ digitsFrom 16 (((a * 16 + b) * 16 + c) * 16 + d) (drop 4 l) =
+    from-on 16 0 l 0 (omega arith) (omega arith) ∙ from-on 16 _ l 1 (omega arith) (omega arith) ∙ from-on 16 _ l 2 (omega arith) (omega arith)
+    ∙ from-on 16 _ l 3 (omega arith) (omega arith) ∙ ap (λ (n : ℕ). digitsFrom 16 n (drop 4 l)) v in
+    entry-hex l (some (((a * 16 + b) * 16 + c) * 16 + d))
     (simp (ne-eqb p 63 (digit-from p (omega arith) .2)))
-    (hex-four (p ∷ q ∷ r ∷ s ∷ []) refl a b c d ea eb ec ed la lb lc ld)
+    (hex-four l (((a * 16 + b) * 16 + c) * 16 + d) refl (omega arith) (sym e))
 
 module _ (t : List ℕ) (at : ℕ) (l : at + 5 ≤ length t) (lf : getD t (at + 4) 0 ≡ 0x0A) (a b c d : ℕ)
     (ea : a ≡ entryDigit (getD t at 0)) (eb : b ≡ entryDigit (getD t (at + 1) 0)) (ec : c ≡ entryDigit (getD t (at + 2) 0))
