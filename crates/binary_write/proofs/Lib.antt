@@ -1,4 +1,5 @@
 pub mod PartLaws
 pub mod RoomLaws
 pub mod PlaceLaws
+pub mod StartLaws
 pub mod FileLaws

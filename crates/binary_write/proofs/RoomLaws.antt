@@ -5,8 +5,6 @@ use Prim.Native.Nat.{ℕ, _+_, _-_, _≤_}
 use native.Mathlib.Omega.{arith}
 use lib.ListN.{length, length-append, length-drop}
 use borrow.Rule.Slice.PartAt.{part-to-end}
-use Rattle.format.specs.Records.{Record}
-use Rattle.format.specs.Binary.{recordBytes}
 use Rattle.writing.specs.Written.{Put}
 use Rattle.writing.proofs.Parts.{State, Emits, rest, has-room}
 
@@ -21,9 +19,10 @@ module _ {A : Type 0} {whole room left : List A} {s : State A} (f : Emits whole 
   pub lent-part : (part left′ : List A) → left ≡ part ++ left′ → length part ≤ length (rest s)
   lent-part part left′ e = omega (arith, lent, ap length e ∙ length-append part left′)
 
--- a record by another name
-pub fits-as : {q r : Record} (n : ℕ) → q ≡ r → length (recordBytes q) ≤ n → length (recordBytes r) ≤ n
-fits-as n e h = subst (λ r. length (recordBytes r) ≤ n) e h
+-- a part by another name
+module _ {part whole : List ℕ} (room : List ℕ) (e : whole ≡ part) where
+  pub fits-as : length whole ≤ length room → length part ≤ length room
+  fits-as h = subst (λ p. length p ≤ length room) e h
 
-pub put-as : {q r : Record} (room : List ℕ) (n : ℕ) (ys : List ℕ) → q ≡ r → Put (recordBytes r) room n ys → Put (recordBytes q) room n ys
-put-as room n ys e p = subst (λ r. Put (recordBytes r) room n ys) (sym e) p
+  pub put-as : (r : ℕ) (ys : List ℕ) → Put part room r ys → Put whole room r ys
+  put-as r ys p = subst (λ q. Put q room r ys) (sym e) p

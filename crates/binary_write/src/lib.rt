@@ -1,18 +1,19 @@
 // The writer of the binary form (document 01, "Binary form"). It asks, measures, and then writes record by record.
 ghost use mathlib.Core.Path.{_≡_};
-ghost use mathlib.Core.List.{[], _∷_};
-ghost use Prim.Native.Nat.{_+_, _%_, _^_, _≤_, _<_};
+ghost use mathlib.Core.List.{[], _∷_, _++_, reverse};
+ghost use Prim.Native.Nat.{_+_, _-_, _%_, _^_, _≤_, _<_};
 ghost use lib.ListN.{length};
 ghost use lib.Dec.{leb};
-ghost use Rattle.format.specs.Records.{block, label, lineBlock, source, relocation};
+ghost use Rattle.format.specs.Digits.{digitsOf};
 ghost use Rattle.format.specs.Words.{flagBit};
 ghost use Rattle.format.specs.Calls.{checked};
 ghost use Rattle.units.specs.Filled.{filledOf};
 ghost use Rattle.writing.specs.Written.{Put};
-ghost use Rattle.object.specs.Bodies.{textAt, Text};
-ghost use Rattle.object.specs.Access.{blockAt, labelAt, lineBlockAt, relocationAt, recordAt};
-ghost use Rattle.binary_measure.specs.Measured.{Ends, TextEnds, Stands, textOf, bytesIn};
+ghost use Rattle.object.specs.Bodies.{Text};
+ghost use Rattle.object.specs.Access.{recordAt};
+ghost use Rattle.binary_measure.specs.Measured.{Stands, textOf, bytesIn};
 ghost use Rattle.binary_write.specs.Files.{WritesAfter, flagOf, memoryPart, addressPart, sized, RoomFor, PutRecord};
+ghost use Rattle.binary_write.specs.Files.{startBytes, contentOf, contentPlace, Content};
 use binary_measure::record_end;
 use binary_measure::write_number;
 use byte_numbers::put_u16_be;
@@ -127,21 +128,6 @@ fn put_sized(out: &mut [u8], words: &[u32]) -> usize
     o
 }
 
-// A block: its kind, address, count and memory words.
-fn put_block(out: &mut [u8], ws: &[u32], at: usize, end: usize) -> usize
-    requires { ⌜ (at < length (now ws)) × Ends (now ws) (at + 1) end × RoomFor (block (blockAt (now ws) at)) (now out) ⌝ }
-    ensures { λ r. ⌜ PutRecord (block (blockAt (now (ws .entry)) at)) (now (out .entry)) r (now (out .exit)) ⌝ }
-{
-    let body = at + 1;
-    let count = ((end - body) % 0x1_0000) as u16;
-    let mut o = 0;
-    o += put_u8(&mut out[o..], 0);
-    o += put_u16_le(&mut out[o..], (ws[at] % 0x1_0000) as u16);
-    o += put_u16_le(&mut out[o..], count);
-    o += put_memory(&mut out[o..], &ws[body..end]);
-    o
-}
-
 // Whether a label is external, as a byte.
 fn external(w: u32) -> u8
     ensures { λ r. ⌜ r ≡ flagBit (leb (2 ^ 16) (w % 2 ^ 29)) ⌝ }
@@ -152,84 +138,136 @@ fn external(w: u32) -> u8
     1
 }
 
-// A label: its kind, address, whether it is external, source start, and its name with the length.
-fn put_label(out: &mut [u8], ws: &[u32], at: usize, end: usize) -> usize
-    requires { ⌜ (at < length (now ws)) × TextEnds (now ws) (at + 1 + 3) end × RoomFor (label (labelAt (now ws) at)) (now out) ⌝ }
-    ensures { λ r. ⌜ PutRecord (label (labelAt (now (ws .entry)) at)) (now (out .entry)) r (now (out .exit)) ⌝ }
+// How many words there are from a up to e, in two bytes.
+fn count(a: usize, e: usize) -> u16
+    ensures { λ r. ⌜ r ≡ (e - a) % 2 ^ 16 ⌝ }
 {
-    let body = at + 1;
-    let name = body + 3;
-    let start = object::number_at(ws, body);
-    let mut o = 0;
-    o += put_u8(&mut out[o..], 1);
-    o += put_u16_le(&mut out[o..], (ws[at] % 0x1_0000) as u16);
-    o += put_u8(&mut out[o..], external(ws[at]));
-    o += put_u64_le(&mut out[o..], start);
-    o += put_sized(&mut out[o..], &ws[name..end]);
+    if e < a {
+        return 0;
+    }
+    ((e - a) % 0x1_0000) as u16
+}
+
+// What a block begins with: its kind, address and count.
+fn put_block_start(out: &mut [u8], address: u16, count: u16) -> usize
+    ensures { λ r. ⌜ Put (0x00 ∷ digitsOf 8 2 address ++ digitsOf 8 2 count) (now (out .entry)) r (now (out .exit)) ⌝ }
+{
+    if out.len() < 5 {
+        return 0;
+    }
+    out[0] = 0;
+    let mut o = 1;
+    o += put_u16_le(&mut out[o..], address);
+    o += put_u16_le(&mut out[o..], count);
     o
 }
 
-// A line block: its kind, first line, count and addresses.
-fn put_lines(out: &mut [u8], ws: &[u32], at: usize, end: usize) -> usize
-    requires { ⌜ (at < length (now ws)) × Ends (now ws) (at + 1 + 3) end × RoomFor (lineBlock (lineBlockAt (now ws) at)) (now out) ⌝ }
-    ensures { λ r. ⌜ PutRecord (lineBlock (lineBlockAt (now (ws .entry)) at)) (now (out .entry)) r (now (out .exit)) ⌝ }
+// What a label begins with: its kind, address, whether it is external, and its source start.
+fn put_label_start(out: &mut [u8], address: u16, external: u8, start: u64) -> usize
+    ensures { λ r. ⌜ Put (0x01 ∷ digitsOf 8 2 address ++ external ∷ digitsOf 8 8 start) (now (out .entry)) r (now (out .exit)) ⌝ }
 {
-    let body = at + 1;
-    let addresses = body + 3;
-    let first = object::number_at(ws, body);
-    let count = ((end - addresses) % 0x1_0000) as u16;
-    let mut o = 0;
-    o += put_u8(&mut out[o..], 2);
+    if out.len() < 12 {
+        return 0;
+    }
+    out[0] = 1;
+    let mut o = 1;
+    o += put_u16_le(&mut out[o..], address);
+    o += put_u8(&mut out[o..], external);
+    o += put_u64_le(&mut out[o..], start);
+    o
+}
+
+// What a line block begins with: its kind, first line and count.
+fn put_lines_start(out: &mut [u8], first: u64, count: u16) -> usize
+    ensures { λ r. ⌜ Put (0x02 ∷ digitsOf 8 8 first ++ digitsOf 8 2 count) (now (out .entry)) r (now (out .exit)) ⌝ }
+{
+    if out.len() < 11 {
+        return 0;
+    }
+    out[0] = 2;
+    let mut o = 1;
     o += put_u64_le(&mut out[o..], first);
     o += put_u16_le(&mut out[o..], count);
-    o += put_addresses(&mut out[o..], &ws[addresses..end]);
     o
 }
 
-// The source: its kind, and its text with the length.
-fn put_source(out: &mut [u8], ws: &[u32], at: usize, end: usize) -> usize
-    requires { ⌜ (at < length (now ws)) × TextEnds (now ws) (at + 1) end × RoomFor (source (textAt (now ws) (at + 1))) (now out) ⌝ }
-    ensures { λ r. ⌜ PutRecord (source (textAt (now (ws .entry)) (at + 1))) (now (out .entry)) r (now (out .exit)) ⌝ }
+// What a relocation begins with: its kind, and its address, high byte first.
+fn put_relocation_start(out: &mut [u8], address: u16) -> usize
+    ensures { λ r. ⌜ Put (0x04 ∷ reverse (digitsOf 8 2 address)) (now (out .entry)) r (now (out .exit)) ⌝ }
+{
+    if out.len() < 3 {
+        return 0;
+    }
+    out[0] = 4;
+    let mut o = 1;
+    o += put_u16_be(&mut out[o..], address);
+    o
+}
+
+// What the record at a place begins with, by its kind.
+fn put_start(out: &mut [u8], ws: &[u32], at: usize, end: usize) -> usize
+    requires { ⌜ Stands (now ws) at end ⌝ }
+    ensures { λ r. ⌜ Put (startBytes (recordAt (now (ws .entry)) at)) (now (out .entry)) r (now (out .exit)) ⌝ }
+{
+    let w = ws[at];
+    let k = object::kind(w);
+    let body = at + 1;
+    let address = (w % 0x1_0000) as u16;
+    if k == 0 {
+        return put_block_start(out, address, count(body, end));
+    }
+    if k == 2 {
+        return put_label_start(out, address, external(w), object::number_at(ws, body));
+    }
+    if k == 3 {
+        return put_lines_start(out, object::number_at(ws, body), count(body + 3, end));
+    }
+    if k == 4 {
+        return put_u8(out, 3);
+    }
+    put_relocation_start(out, address)
+}
+
+// Where the words of a record's list or text begin: past the number of a label or a line block.
+fn content_at(k: u32, at: usize) -> usize
+    requires { ⌜ at + 4 < 2 ^ 64 ⌝ }
+    ensures { λ r. ⌜ r ≡ contentPlace k at ⌝ }
 {
     let body = at + 1;
-    let mut o = 0;
-    o += put_u8(&mut out[o..], 3);
-    o += put_sized(&mut out[o..], &ws[body..end]);
-    o
+    if k == 2 {
+        return body + 3;
+    }
+    if k == 3 {
+        return body + 3;
+    }
+    body
 }
 
-// A relocation: its kind, address, high byte first, and its name with the length.
-fn put_relocation(out: &mut [u8], ws: &[u32], at: usize, end: usize) -> usize
-    requires { ⌜ (at < length (now ws)) × TextEnds (now ws) (at + 1) end × RoomFor (relocation (relocationAt (now ws) at)) (now out) ⌝ }
-    ensures { λ r. ⌜ PutRecord (relocation (relocationAt (now (ws .entry)) at)) (now (out .entry)) r (now (out .exit)) ⌝ }
+// The list or the text of a record of this kind: memory words, addresses, or a text with its length.
+fn put_content(out: &mut [u8], k: u32, words: &[u32]) -> usize
+    requires { ⌜ Content k (now words) × (length (contentOf k (now words)) ≤ length (now out)) ⌝ }
+    ensures { λ r. ⌜ Put (contentOf k (now (words .entry))) (now (out .entry)) r (now (out .exit)) ⌝ }
 {
-    let body = at + 1;
-    let mut o = 0;
-    o += put_u8(&mut out[o..], 4);
-    o += put_u16_be(&mut out[o..], (ws[at] % 0x1_0000) as u16);
-    o += put_sized(&mut out[o..], &ws[body..end]);
-    o
+    if k == 0 {
+        return put_memory(out, words);
+    }
+    if k == 3 {
+        return put_addresses(out, words);
+    }
+    put_sized(out, words)
 }
 
-// A record, by its kind.
+// The record at a place.
 fn put_record(out: &mut [u8], ws: &[u32], at: usize, end: usize) -> usize
     requires { ⌜ Stands (now ws) at end × RoomFor (recordAt (now ws) at) (now out) ⌝ }
     ensures { λ r. ⌜ PutRecord (recordAt (now (ws .entry)) at) (now (out .entry)) r (now (out .exit)) ⌝ }
 {
     let k = object::kind(ws[at]);
-    if k == 0 {
-        return put_block(out, ws, at, end);
-    }
-    if k == 2 {
-        return put_label(out, ws, at, end);
-    }
-    if k == 3 {
-        return put_lines(out, ws, at, end);
-    }
-    if k == 4 {
-        return put_source(out, ws, at, end);
-    }
-    put_relocation(out, ws, at, end)
+    let from = content_at(k, at);
+    let mut o = 0;
+    o += put_start(&mut out[o..], ws, at, end);
+    o += put_content(&mut out[o..], k, &ws[from..end]);
+    o
 }
 
 // The records of a well formed object, one after the other.

@@ -1,116 +1,89 @@
--- The kind of a record says which writer it goes to. Assumes nothing.
+-- What it begins with, and its list or text. Assumes nothing.
 use borrow.Author.Needs.{needs}
-use mathlib.Core.Path.{_≡_, sym, _∙_}
-use mathlib.Core.List.{List}
-use Prim.Native.Nat.{ℕ, _+_}
+use native.Mathlib.Omega.{arith}
+use mathlib.Core.Path.{_≡_, refl, sym}
+use mathlib.Core.List.{List, [], append-nil}
+use Prim.Native.Nat.{ℕ, _+_, _-_, _≤_}
 use lib.ListN.{length}
 use denote.Ref.{now}
-use Rattle.format.specs.Records.{block, label, lineBlock, source, relocation}
-use Rattle.object.specs.Bodies.{textAt}
-use Rattle.object.specs.Access.{kindAt, recordAt, blockAt, labelAt, lineBlockAt, relocationAt}
-use Rattle.binary_measure.specs.Measured.{Ends, TextEnds}
-use Rattle.binary_write.proofs.RoomLaws.{fits-as, put-as}
-use Rattle.binary_measure.proofs.KindLaws.{block-here, label-here, line-here, source-here, relocation-here, kind-5}
+use borrow.Rule.Slice.PartMut.{midOf}
+use Rattle.format.specs.Binary.{recordBytes}
+use Rattle.object.specs.Access.{recordAt}
+use Rattle.writing.proofs.Parts.{State, Emits, after, begin, emit, emitted, within, small, same}
+use Rattle.binary_write.specs.Files.{startBytes, contentOf}
+use Rattle.binary_write.proofs.RoomLaws.{lent-part}
+use Rattle.binary_write.proofs.StartLaws.{Parted, parted}
 use Rattle.binary_write.proofs.put_record.Statement.{statement}
 use Rattle.binary_write.proofs.put_record.Tie as tie
 
-module _ (c : tie.After-kind) where
+module _ (c : tie.After-content-at) where
   abbrev s : tie.Start
-  s = c .before .before .before .before
+  s = c .before .before .before .before .before
 
   abbrev ws : List ℕ
   ws = now (s .args .ws)
 
-  abbrev at : ℕ
-  at = s .args .at
+  abbrev room : List ℕ
+  room = now (s .args .out)
 
   abbrev end : ℕ
   end = s .args .end
 
-  abbrev room : ℕ
-  room = length (now (s .args .out))
+  abbrev from : ℕ
+  from = c .content-at .result
 
-  is-kind : {k : ℕ} → c .kind .result ≡ k → kindAt ws at ≡ k
-  is-kind e = sym (c .kind .ensures) ∙ e
+  abbrev whole : List ℕ
+  whole = recordBytes (recordAt ws (s .args .at))
 
-  no-kind : {k : ℕ} → (c .kind .result ≡ k → ⊥) → kindAt ws at ≡ k → ⊥
-  no-kind n e = n (c .kind .ensures ∙ e)
+  abbrev content : List ℕ
+  content = contentOf (c .before .kind .result) (midOf from (end - from) ws)
 
-  -- what the branches tell of the record
-  abbrev IsBlock : Type 0
-  IsBlock = (recordAt ws at ≡ block (blockAt ws at)) × Ends ws (at + 1) end
+  here : Parted ws (s .args .at) end (c .before .kind .result) from
+  here = parted ws (s .args .at) end (s .pre .0) _ _ (c .before .kind .ensures) (c .content-at .ensures)
 
-  abbrev IsLabel : Type 0
-  IsLabel = (recordAt ws at ≡ label (labelAt ws at)) × TextEnds ws (at + 1 + 3) end
+  first : from ≤ end
+  first = omega (arith, here .ends .0)
 
-  abbrev IsLine : Type 0
-  IsLine = (recordAt ws at ≡ lineBlock (lineBlockAt ws at)) × Ends ws (at + 1 + 3) end
+  last : end ≤ length ws
+  last = here .ends .1
 
-  abbrev IsSource : Type 0
-  IsSource = (recordAt ws at ≡ source (textAt ws (at + 1))) × TextEnds ws (at + 1) end
+abbrev at1 : tie.After-put-start → tie.After-content-at
+at1 c = c .before .before
 
-  abbrev IsRelocation : Type 0
-  IsRelocation = (recordAt ws at ≡ relocation (relocationAt ws at)) × TextEnds ws (at + 1) end
+abbrev state1 : tie.After-put-start → State ℕ
+state1 c = after (record { at = 0; out = room (at1 c) }) (c .put-start .result) (c .put-start .last .0)
 
-block-told : (c : tie.Then1) → IsBlock (c .before)
-block-told c =
-    let k = c .before in (block-here (ws k) (at k) (end k) (s k .pre .0) (is-kind k (c .if1 .taken)), s k .pre .0 .ends)
+emits1 : (c : tie.After-put-start) → Emits (whole (at1 c)) (room (at1 c)) (content (at1 c)) (state1 c)
+emits1 c = emit (begin _ _ (s (at1 c) .pre .1)) (startBytes (recordAt (ws (at1 c)) (s (at1 c) .args .at))) _ (here (at1 c) .splits)
+    (c .put-start .ensures)
 
-put-block-requires : tie.Need-put-block-requires
-put-block-requires c κs =
-    let k = c .before .before in
-    let t = block-told (c .before) in (s k .pre .0 .inside, t .1, fits-as (room k) (t .0) (s k .pre .1))
+abbrev at2 : tie.After-put-content → tie.After-put-start
+at2 c = c .before .before .before .before .before
 
-returns : tie.Need-returns
-returns c = let p = c .before .before in put-as _ _ _ (block-told (p .before .before) .0) (p .put-block .ensures)
+emits2 : (c : tie.After-put-content)
+    → Emits (whole (at1 (at2 c))) (room (at1 (at2 c))) [] (after (state1 (at2 c)) (c .put-content .result) (c .put-content .last .0))
+emits2 c = emit (emits1 (at2 c)) _ [] (sym (append-nil _)) (c .put-content .ensures)
 
-label-told : (c : tie.Then2) → IsLabel (c .before .before)
-label-told c = let k = c .before .before in label-here (ws k) (at k) (end k) (s k .pre .0) (is-kind k (c .if2 .taken))
+-- the words lent
+bounds : (c : tie.After-put-content-arg) → let b = at1 (c .before .before .before) in (from b ≤ end b) × (end b ≤ length (ws b))
+bounds c = let b = at1 (c .before .before .before) in (first b, last b)
 
-put-label-requires : tie.Need-put-label-requires
-put-label-requires c κs =
-    let k = c .before .before .before in
-    let t = label-told (c .before) in (s k .pre .0 .inside, t .1, fits-as (room k) (t .0) (s k .pre .1))
+mul-put-content : tie.Need-mul-put-content
+mul-put-content c = let h = bounds c .0 in let l = bounds c .1 in search needs
 
-returns-2 : tie.Need-returns-2
-returns-2 c = let p = c .before .before in put-as _ _ _ (label-told (p .before .before) .0) (p .put-label .ensures)
+sub-put-content-2 : tie.Need-sub-put-content-2
+sub-put-content-2 c = bounds c .0
 
-line-told : (c : tie.Then3) → IsLine (c .before .before .before)
-line-told c = let k = c .before .before .before in line-here (ws k) (at k) (end k) (s k .pre .0) (is-kind k (c .if3 .taken))
+part-put-content-start-2 : tie.Need-part-put-content-start-2
+part-put-content-start-2 c = bounds c .0
 
-put-lines-requires : tie.Need-put-lines-requires
-put-lines-requires c κs =
-    let k = c .before .before .before .before in
-    let t = line-told (c .before) in (s k .pre .0 .inside, t .1, fits-as (room k) (t .0) (s k .pre .1))
+part-put-content-end-2 : tie.Need-part-put-content-end-2
+part-put-content-end-2 c = bounds c .1
 
-returns-3 : tie.Need-returns-3
-returns-3 c = let p = c .before .before in put-as _ _ _ (line-told (p .before .before) .0) (p .put-lines .ensures)
-
-source-told : (c : tie.Then4) → IsSource (c .before .before .before .before)
-source-told c = let k = c .before .before .before .before in source-here (ws k) (at k) (end k) (s k .pre .0) (is-kind k (c .if4 .taken))
-
-put-source-requires : tie.Need-put-source-requires
-put-source-requires c κs =
-    let k = c .before .before .before .before .before in
-    let t = source-told (c .before) in (s k .pre .0 .inside, t .1, fits-as (room k) (t .0) (s k .pre .1))
-
-returns-4 : tie.Need-returns-4
-returns-4 c = let p = c .before .before in put-as _ _ _ (source-told (p .before .before) .0) (p .put-source .ensures)
-
-relocation-told : (c : tie.Else4) → IsRelocation (c .before .before .before .before)
-relocation-told c =
-    let k = c .before .before .before .before in
-    relocation-here (ws k) (at k) (end k) (s k .pre .0)
-    (kind-5 (ws k) (at k) (end k) (s k .pre .0) (no-kind k (c .before .before .before .if1 .left))
-    (no-kind k (c .before .before .if2 .left)) (no-kind k (c .before .if3 .left)) (no-kind k (c .if4 .left)))
-
-put-relocation-requires : tie.Need-put-relocation-requires
-put-relocation-requires c κs =
-    let k = c .before .before .before .before .before in
-    let t = relocation-told (c .before) in (s k .pre .0 .inside, t .1, fits-as (room k) (t .0) (s k .pre .1))
-
-returns-5 : tie.Need-returns-5
-returns-5 c = let p = c .before .before in put-as _ _ _ (relocation-told (p .before .before) .0) (p .put-relocation .ensures)
+put-content-requires : tie.Need-put-content-requires
+put-content-requires c κs =
+    let u = c .before .before .before .before in
+    let b = at1 u in (here b .content, lent-part (emits1 u) (content b) [] (sym (append-nil (content b))))
 
 pub put-record-spec : {M : Type 1} → statement M
 put-record-spec =
@@ -119,18 +92,20 @@ put-record-spec =
     (λ c. search needs)
     (λ c. search needs)
     (λ c κs. search needs)
-    put-block-requires
+    (λ c κs. search needs)
     (λ c. search needs)
-    returns
-    put-label-requires
     (λ c. search needs)
-    returns-2
-    put-lines-requires
     (λ c. search needs)
-    returns-3
-    put-source-requires
+    (λ c κs. s (c .before) .pre .0)
+    (λ c. small (emits1 (c .before .before)) (s (at1 (c .before .before)) .good .0 .0))
+    (λ c. within (emits1 (c .before .before)))
+    (λ c. within (emits1 (c .before .before)))
     (λ c. search needs)
-    returns-4
-    put-relocation-requires
-    (λ c. search needs)
-    returns-5)
+    mul-put-content
+    sub-put-content-2
+    part-put-content-start-2
+    part-put-content-end-2
+    put-content-requires
+    (λ c. small (emits2 (c .before .before)) (s (at1 (at2 (c .before .before))) .good .0 .0))
+    (λ c. same (emits2 (c .before .before)))
+    (λ c. emitted (emits2 (c .before .before)) refl))
