@@ -1,9 +1,8 @@
 // Whether a slice of words is a well formed object (document 01, "The holding"), in one walk along its records.
 ghost use mathlib.Core.Path.{_≡_};
 ghost use mathlib.Core.Bool.{true};
-ghost use Prim.Native.Nat.{_+_, _/_, _<_};
+ghost use Prim.Native.Nat.{_<_};
 ghost use lib.ListN.{length, getD};
-ghost use lib.Dec.{leb};
 ghost use Rattle.format.specs.Sorted.{order, isLess};
 ghost use Rattle.format.specs.Words.{isHead};
 ghost use Rattle.format.specs.Calls.{checked};
@@ -16,6 +15,7 @@ use object::read_number;
 use object::wide;
 use word_checks::Body;
 use word_checks::addresses_end;
+use word_checks::is_apart;
 use word_checks::memory_end;
 use word_checks::rank;
 use word_checks::text_end;
@@ -165,16 +165,6 @@ fn label(ws: &[u32], at: usize, seen: Seen) -> Step
     )
 }
 
-// Whether a line block may begin at a line: the last one ends at or before it, as whole numbers.
-fn is_apart(seen: Seen, first: u64) -> bool
-    ensures { λ r. ⌜ r ≡ leb (seen .first + seen .count) first ⌝ }
-{
-    if first < seen.first {
-        return false;
-    }
-    seen.count as u64 <= first - seen.first
-}
-
 fn line_block(ws: &[u32], at: usize, seen: Seen) -> Step
     requires { ⌜ At 3 (now ws) at seen ⌝ }
     ensures { λ r. ⌜ Stepped (now (ws .entry)) at seen r ⌝ }
@@ -191,7 +181,7 @@ fn line_block(ws: &[u32], at: usize, seen: Seen) -> Step
     let Body::Ends(n) = addresses_end(ws, lines) else {
         return Step::Bad;
     };
-    if !is_apart(seen, first) {
+    if !is_apart(seen.first, seen.count, first) {
         return Step::Bad;
     }
     let last = seen.key;

@@ -3,6 +3,7 @@ ghost use mathlib.Core.Path.{_≡_};
 ghost use mathlib.Core.Bool.{true};
 ghost use Prim.Native.Nat.{_+_, _≤_, _<_};
 ghost use lib.ListN.{length};
+ghost use lib.Dec.{leb};
 ghost use Rattle.format.specs.Basics.{isGiven};
 ghost use Rattle.format.specs.Digits.{digitsOf};
 ghost use Rattle.format.specs.Words.{memoryOf, textPart};
@@ -60,6 +61,18 @@ pub fn addresses_end(ws: &[u32], at: usize) -> Body
         i += 1;
     }
     Body::Ends(i)
+}
+
+// Whether a line block may begin at the line `next` after one of `count` lines from `first` on: that one ends at or before it, as whole
+// numbers. A sum that wraps is past every line.
+pub fn is_apart(first: u64, count: usize, next: u64) -> bool
+    ensures { λ r. ⌜ r ≡ leb (first + count) next ⌝ }
+{
+    let end = std::num::wrapping_add_u64(first, count as u64);
+    if end < first {
+        return false;
+    }
+    end <= next
 }
 
 // How many bytes a text word carries; 0 for a word that is none.
