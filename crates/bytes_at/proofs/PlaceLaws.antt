@@ -3,7 +3,7 @@ use mathlib.Core.Path.{_≡_, refl, sym, ap, _∙_}
 use mathlib.Core.Bool.{false}
 use mathlib.Core.List.{List, [], _∷_}
 use Prim.Native.Nat.{ℕ, zero, suc, _+_, _-_, _*_, _^_, _≤_, _<_, min}
-use native.Mathlib.Nat.{pow-zero, pow-suc, lt-of-lt-of-le, pow-le-pow-right}
+use native.Mathlib.Nat.{pow-zero, pow-suc, mul-comm, mul-assoc, lt-of-lt-of-le, pow-le-pow-right}
 use native.Mathlib.Omega.{arith}
 use lib.ListN.{length, take, drop, getD, length-drop, length-take, drop-of-length-le}
 use lib.Seq.{drop-cons, getD-drop, take-all}
@@ -81,6 +81,24 @@ number-none : (s : List ℕ) (a : ℕ) → numberAt a 0 s ≡ 0
 unfolding valueOf
 number-none s a = refl
 
+-- two numbers that stand one after the other
+regroup : (x n p m : ℕ) → x + 256 * (n + p * m) ≡ x + 256 * n + p * 256 * m
+regroup x n p m = let a : p * 256 * m ≡ 256 * (p * m) = rw (mul-comm p 256) (mul-assoc 256 p m) in omega (arith, a)
+
+pub number-join : (s : List ℕ) (n m a b : ℕ) → b ≡ a + n → b ≤ length s → numberAt a (n + m) s ≡ numberAt a n s + 256 ^ n * numberAt b m s
+number-join s zero m a b e h =
+    let z : zero + m ≡ m = omega arith in
+    let q : a ≡ b = omega arith in
+    let p : 256 ^ 0 * numberAt b m s ≡ numberAt b m s = omega arith in
+    let o = number-none s a in
+    ap (λ k. numberAt a k s) z ∙ ap (λ k. numberAt k m s) q ∙ (omega (arith, o, p))
+number-join s (suc n) m a b e h =
+    let z : suc n + m ≡ suc (n + m) = omega arith in
+    ap (λ k. numberAt a k s) z ∙ number-more s a (a + 1) (n + m) (omega arith) (omega arith)
+    ∙ ap (λ v. getD s a 0 + 256 * v) (number-join s n m (a + 1) b (omega arith) h)
+    ∙ regroup (getD s a 0) (numberAt (a + 1) n s) (256 ^ n) (numberAt b m s)
+    ∙ rw (pow-suc 256 n, number-more s a (a + 1) n (omega arith) (omega arith))
+
 pub two-at : (s : List ℕ) (a : ℕ) → a + 2 ≤ length s → numberAt a 2 s ≡ getD s a 0 + 256 * getD s (a + 1) 0
 two-at s a h =
     omega (
@@ -88,22 +106,4 @@ two-at s a h =
       number-more s a (a + 1) 1 (omega arith) (omega arith),
       number-more s (a + 1) (a + 2) 0 (omega arith) (omega arith),
       number-none s (a + 2),
-    )
-
-pub eight-at : (s : List ℕ) (a : ℕ) → a + 8 ≤ length s → numberAt a 8 s
-    ≡ getD s a 0 + 0x100 * getD s (a + 1) 0 + 0x1_0000 * getD s (a + 2) 0 + 0x100_0000 * getD s (a + 3) 0
-    + 0x1_0000_0000 * getD s (a + 4) 0 + 0x100_0000_0000 * getD s (a + 5) 0 + 0x1_0000_0000_0000 * getD s (a + 6) 0
-    + 0x100_0000_0000_0000 * getD s (a + 7) 0
-eight-at s a h =
-    omega (
-      arith,
-      number-more s a (a + 1) 7 (omega arith) (omega arith),
-      number-more s (a + 1) (a + 2) 6 (omega arith) (omega arith),
-      number-more s (a + 2) (a + 3) 5 (omega arith) (omega arith),
-      number-more s (a + 3) (a + 4) 4 (omega arith) (omega arith),
-      number-more s (a + 4) (a + 5) 3 (omega arith) (omega arith),
-      number-more s (a + 5) (a + 6) 2 (omega arith) (omega arith),
-      number-more s (a + 6) (a + 7) 1 (omega arith) (omega arith),
-      number-more s (a + 7) (a + 8) 0 (omega arith) (omega arith),
-      number-none s (a + 8),
     )

@@ -1,6 +1,6 @@
 // Numbers and parts of an input at its places, for every place: of bytes past the end of the input there are none.
 ghost use mathlib.Core.Path.{_≡_};
-ghost use Prim.Native.Nat.{_+_, _≤_, _<_, min};
+ghost use Prim.Native.Nat.{_+_, _^_, _≤_, _<_, min};
 ghost use lib.ListN.{length};
 ghost use lib.Dec.{leb};
 ghost use Rattle.format.specs.Digits.{valueOf};
@@ -90,30 +90,38 @@ fn wide(b: u8) -> u64
     b as u64
 }
 
+// The number of the two bytes at a place, low byte first.
+fn two_at(s: &[u8], a: usize) -> u64
+    requires { ⌜ a + 2 ≤ length (now s) ⌝ }
+    ensures { λ r. ⌜ (r ≡ numberAt a 2 (now (s .entry))) × (r < 2 ^ 16) ⌝ }
+{
+    wide(s[a]) + 256 * wide(s[a + 1])
+}
+
+// That of four: two of two.
+fn four_at(s: &[u8], a: usize) -> u64
+    requires { ⌜ a + 4 ≤ length (now s) ⌝ }
+    ensures { λ r. ⌜ (r ≡ numberAt a 4 (now (s .entry))) × (r < 2 ^ 32) ⌝ }
+{
+    two_at(s, a) + 0x1_0000 * two_at(s, a + 2)
+}
+
+// That of eight: two of four.
+fn eight_at(s: &[u8], a: usize) -> u64
+    requires { ⌜ a + 8 ≤ length (now s) ⌝ }
+    ensures { λ r. ⌜ r ≡ numberAt a 8 (now (s .entry)) ⌝ }
+{
+    four_at(s, a) + 0x1_0000_0000 * four_at(s, a + 4)
+}
+
 // The 2-byte number k bytes past a place, low byte first.
 pub fn u16_at(s: &[u8], p: usize, k: usize) -> u16
     ensures { λ r. ⌜ r ≡ numberAt (p + k) 2 (now (s .entry)) ⌝ }
 {
     if is_there(s, p, k, 2) {
-        let a = p + k;
-        return (wide(s[a]) + 256 * wide(s[a + 1])) as u16;
+        return two_at(s, p + k) as u16;
     }
     clipped_value(s, p, k, 2) as u16
-}
-
-// The number of the eight bytes at a place, low byte first.
-fn eight_at(s: &[u8], a: usize) -> u64
-    requires { ⌜ a + 8 ≤ length (now s) ⌝ }
-    ensures { λ r. ⌜ r ≡ numberAt a 8 (now (s .entry)) ⌝ }
-{
-    wide(s[a])
-        + 0x100 * wide(s[a + 1])
-        + 0x1_0000 * wide(s[a + 2])
-        + 0x100_0000 * wide(s[a + 3])
-        + 0x1_0000_0000 * wide(s[a + 4])
-        + 0x100_0000_0000 * wide(s[a + 5])
-        + 0x1_0000_0000_0000 * wide(s[a + 6])
-        + 0x100_0000_0000_0000 * wide(s[a + 7])
 }
 
 // The 8-byte number k bytes past a place, low byte first.

@@ -5,3 +5,4 @@ pub mod WalkLaws
 pub mod OrderLaws
 pub mod MergeLaws
 pub mod TagLaws
+pub mod TestedLaws

@@ -1,17 +1,17 @@
 -- A number of three words. Assumes nothing.
 use mathlib.Core.Path.{_≡_, refl, sym, _∙_, ap}
-use mathlib.Core.Bool.{false}
+use mathlib.Core.Bool.{true, false, _&&_}
 use mathlib.Core.List.{List, [], _∷_}
 use Prim.Native.Nat.{ℕ, _+_, _-_, _*_, _/_, _%_, _^_, _≤_, _<_}
 use native.Mathlib.Omega.{arith}
 use lib.ListN.{length, getD}
-use lib.Dec.{ltb}
-use borrow.Author.Tests.{ltb-true, ltb-false}
+use lib.Dec.{ltb, eqb}
+use borrow.Author.Tests.{ltb-true, ltb-false, eqb-true, eqb-false}
 use Rattle.format.specs.Basics.{Outcome, refused, given, _>>=_}
 use Rattle.format.specs.Digits.{valueOf}
 use Rattle.format.specs.Words.{bitsOf, numberFrom, isHead}
-use Rattle.object.specs.Bodies.{bodyAt}
-use Rattle.format.proofs.ListLaws.{by-test}
+use Rattle.object.specs.Bodies.{bodyAt, areNumber}
+use Rattle.format.proofs.ListLaws.{by-test, both}
 use Rattle.object.proofs.BodyLaws.{body-out, body-stops, body-goes, body-fits}
 use Rattle.object.proofs.WordLaws.{bits-given, bits-refused, head-other}
 
@@ -124,3 +124,19 @@ module _ (ws : List ℕ) (i : ℕ) (h : i + 3 ≤ length ws) where
   number-there e f g =
       ap numberFrom (body-1 e ∙ ap (λ xs. a ∷ xs) (body-2 f ∙ ap (λ xs. b ∷ xs) (body-3 g)))
       ∙ good a b c (a % 2 ^ 24) (b % 2 ^ 24) (c % 2 ^ 16) (bodyAt ws (i + 3)) (wide-given a e) (wide-given b f) (last-given c g)
+
+  -- or they are none
+  pub number-bad : areNumber a b c ≡ false → numberFrom (bodyAt ws i) ≡ refused 1
+  number-bad e =
+      by-test (eqb (a / 2 ^ 24) 0xC0)
+      (λ t. by-test (eqb (b / 2 ^ 24) 0xC0)
+      (λ u. number-3 (eqb-true _ _ t) (eqb-true _ _ u) (eqb-false _ _ (sym (rw (t, u) refl) ∙ e)))
+      (λ u. number-2 (eqb-true _ _ t) (eqb-false _ _ u)))
+      (λ t. number-1 (eqb-false _ _ t))
+
+  pub number-good : areNumber a b c ≡ true
+      → numberFrom (bodyAt ws i) ≡ given (a % 2 ^ 24 + 0x100_0000 * (b % 2 ^ 24) + 0x1_0000_0000_0000 * (c % 2 ^ 16), bodyAt ws (i + 3))
+  number-good e =
+      let x = both (eqb (a / 2 ^ 24) 0xC0) (eqb (b / 2 ^ 24) 0xC0 && eqb (c / 2 ^ 16) 0xC000) e in
+      let y = both (eqb (b / 2 ^ 24) 0xC0) (eqb (c / 2 ^ 16) 0xC000) (x .1) in
+      number-there (eqb-true _ _ (x .0)) (eqb-true _ _ (y .0)) (eqb-true _ _ (y .1))

@@ -1,8 +1,8 @@
 -- The words of a record, by their place in the object. Assumes nothing.
 use mathlib.Core.Path.{_≡_}
-use mathlib.Core.Bool.{Bool, true, false, cond}
+use mathlib.Core.Bool.{Bool, true, false, cond, _&&_}
 use mathlib.Core.List.{List, []}
-use Prim.Native.Nat.{ℕ, _+_, _*_, _/_, _%_, _≤_}
+use Prim.Native.Nat.{ℕ, _+_, _*_, _/_, _%_, _^_, _≤_}
 use lib.ListN.{length, drop}
 use lib.Dec.{eqb}
 use Rattle.format.specs.Basics.{Outcome, refused, given, givenOr}
@@ -63,6 +63,10 @@ valueIn (given v) = v .0
 
 unfoldable pub numberAt : List ℕ → ℕ → ℕ
 numberAt ws at = valueIn (numberFrom (bodyAt ws at))
+
+-- three words are a number's: all of kind 6, and no bits above its 64
+abbrev pub areNumber : ℕ → ℕ → ℕ → Bool
+areNumber a b c = eqb (a / 2 ^ 24) 0xC0 && (eqb (b / 2 ^ 24) 0xC0 && eqb (c / 2 ^ 16) 0xC000)
 
 -- the answers of the code
 abbrev pub Numbered : List ℕ → ℕ → Number → Type 0

@@ -1,12 +1,12 @@
 // An object is a slice of 32-bit words (document 01, "The holding"): access to its records, numbers and texts by their places.
 ghost use mathlib.Core.Path.{_≡_};
 ghost use mathlib.Core.Bool.{true, false, not};
-ghost use Prim.Native.Nat.{_+_, _-_, _*_, _/_, _^_, _≤_, _<_};
+ghost use Prim.Native.Nat.{_+_, _-_, _*_, _/_, _%_, _^_, _≤_, _<_};
 ghost use lib.ListN.{length};
 ghost use Rattle.format.specs.Basics.{isEmpty};
 ghost use Rattle.format.specs.Words.{isHead};
 ghost use Rattle.writing.specs.Written.{Put};
-ghost use Rattle.object.specs.Bodies.{bodyAt, numberAt, Numbered, SameEnd};
+ghost use Rattle.object.specs.Bodies.{bodyAt, numberAt, areNumber, Numbered, SameEnd};
 ghost use Rattle.object.specs.Texts.{textLen, textByte, textBytes, spanBytes, wholeWords};
 
 // A number of three words.
@@ -134,32 +134,47 @@ pub fn body_len(ws: &[u32], at: usize) -> usize
     body_end(ws, at) - at
 }
 
+// Whether three words are a number's: all of kind 6, and no bits above its 64.
+fn is_number(a: u32, b: u32, c: u32) -> bool
+    ensures { λ r. ⌜ r ≡ areNumber a b c ⌝ }
+{
+    if a / 0x100_0000 != 0xC0 {
+        return false;
+    }
+    if b / 0x100_0000 != 0xC0 {
+        return false;
+    }
+    c / 0x1_0000 == 0xC000
+}
+
+// The number that they are, of 24, 24 and 16 bits.
+fn joined(a: u32, b: u32, c: u32) -> u64
+    ensures { λ r. ⌜ r ≡ a % 2 ^ 24 + 0x100_0000 * (b % 2 ^ 24) + 0x1_0000_0000_0000 * (c % 2 ^ 16) ⌝ }
+{
+    let x = wide(a % 0x100_0000);
+    let y = wide(b % 0x100_0000);
+    let z = wide(c % 0x1_0000);
+    x + 0x100_0000 * y + 0x1_0000_0000_0000 * z
+}
+
 // The number of three words at a place, if it is there.
 pub fn read_number(ws: &[u32], at: usize) -> Number
     ensures { λ r. ⌜ Numbered (now (ws .entry)) at r ⌝ }
 {
-    if ws.len() < 3 {
+    let n = ws.len();
+    if n < 3 {
         return Number::Bad;
     }
-    if ws.len() - 3 < at {
+    if n - 3 < at {
         return Number::Bad;
     }
     let a = ws[at];
     let b = ws[at + 1];
     let c = ws[at + 2];
-    if a / 0x100_0000 != 0xC0 {
-        return Number::Bad;
+    if is_number(a, b, c) {
+        return Number::Is(joined(a, b, c));
     }
-    if b / 0x100_0000 != 0xC0 {
-        return Number::Bad;
-    }
-    if c / 0x1_0000 != 0xC000 {
-        return Number::Bad;
-    }
-    let x = wide(a % 0x100_0000);
-    let y = wide(b % 0x100_0000);
-    let z = wide(c % 0x1_0000);
-    Number::Is(x + 0x100_0000 * y + 0x1_0000_0000_0000 * z)
+    Number::Bad
 }
 
 // The number of three words at a place; 0 where there is none.
@@ -257,7 +272,30 @@ fn put_words(out: &mut [u8], ws: &[u32], at: usize, first: usize, last: usize) -
     n
 }
 
-// The bytes from `start` up to `end` of the text words from a place on, into the room lent: whole words where they are.
+// The bytes of the words from the `first` up to the `last`, and those past them up to `end`, into a room that suffices.
+fn put_to_end(out: &mut [u8], ws: &[u32], at: usize, first: usize, last: usize, end: usize) -> usize
+    requires { ⌜ (first ≤ last) × (3 * last ≤ end) × (at + last ≤ length (now ws)) × (end - 3 * first ≤ length (now out)) ⌝ }
+    ensures { λ r. ⌜ Put (spanBytes (now (ws .entry)) at (3 * first) end) (now (out .entry)) r (now (out .exit)) ⌝ }
+{
+    let n = put_words(out, ws, at, first, last);
+    n + put_each(&mut out[n..], ws, at, 3 * last, end)
+}
+
+// The bytes from `start` up to `end`, into a room that suffices: whole words where they are.
+fn put_within(out: &mut [u8], ws: &[u32], at: usize, start: usize, end: usize) -> usize
+    requires { ⌜ (start ≤ end) × (end - start ≤ length (now out)) ⌝ }
+    ensures { λ r. ⌜ Put (spanBytes (now (ws .entry)) at start end) (now (out .entry)) r (now (out .exit)) ⌝ }
+{
+    let first = start / 3 + (start % 3 + 2) / 3;
+    let last = whole_words(ws, at, end);
+    if last <= first {
+        return put_each(out, ws, at, start, end);
+    }
+    let n = put_each(out, ws, at, start, 3 * first);
+    n + put_to_end(&mut out[n..], ws, at, first, last, end)
+}
+
+// The bytes from `start` up to `end` of the text words from a place on, into the room lent.
 pub fn put_span(out: &mut [u8], ws: &[u32], at: usize, start: usize, end: usize) -> usize
     ensures { λ r. ⌜ Put (spanBytes (now (ws .entry)) at start end) (now (out .entry)) r (now (out .exit)) ⌝ }
 {
@@ -267,16 +305,7 @@ pub fn put_span(out: &mut [u8], ws: &[u32], at: usize, start: usize, end: usize)
     if out.len() < end - start {
         return 0;
     }
-    let first = start / 3 + (start % 3 + 2) / 3;
-    let last = whole_words(ws, at, end);
-    if last <= first {
-        return put_each(out, ws, at, start, end);
-    }
-    let mut n = 0;
-    n += put_each(&mut out[n..], ws, at, start, 3 * first);
-    n += put_words(&mut out[n..], ws, at, first, last);
-    n += put_each(&mut out[n..], ws, at, 3 * last, end);
-    n
+    put_within(out, ws, at, start, end)
 }
 
 // The first `n` bytes of the text words from a place on, into the room lent.

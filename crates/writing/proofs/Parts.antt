@@ -39,6 +39,13 @@ pub record Emits {A : Type 0} (whole room left : List A) (s : State A) : Type 0 
 pub begin : {A : Type 0} (whole room : List A) → length whole ≤ length room → Emits whole room whole (record { at = 0; out = room })
 begin whole room h = record { done = []; split = refl; place = refl; held = refl; fits = h }
 
+-- the same past a first part, whose writer was lent all of the room
+pub begun : {A : Type 0} {whole room ys : List A} {r : ℕ} (part left : List A) → whole ≡ part ++ left → length whole ≤ length room
+    → Put part room r ys → Emits whole room left (record { at = r; out = ys })
+begun {room} part left e h p =
+    let n : length part ≤ length room = omega (arith, ap length e, length-append part left) in
+    record { done = part; split = sym e; place = p .0 ∙ filled-fits part room n; held = p .1 ∙ written-fits part room n; fits = h }
+
 module _ {A : Type 0} {whole room left : List A} {s : State A} (f : Emits whole room left s) where
   -- there is room for what is left
   has-place : s .at + length left ≤ length room

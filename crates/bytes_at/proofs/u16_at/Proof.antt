@@ -6,19 +6,13 @@ use mathlib.Core.Path.{sym, _∙_}
 use Prim.Native.Nat.{_+_, _≤_}
 use lib.ListN.{length}
 use denote.Ref.{now}
-use Rattle.bytes_at.proofs.PlaceLaws.{two-at, count-below}
+use Rattle.bytes_at.proofs.PlaceLaws.{count-below}
 use Rattle.bytes_at.proofs.u16_at.Statement.{statement}
 use Rattle.bytes_at.proofs.u16_at.Tie as tie
 
 inside : (c : tie.Then1) → c .before .before .before .args .p + c .before .before .before .args .k + 2
     ≤ length (now (c .before .before .before .args .s))
 inside c = leb-true _ _ (sym (c .before .is-there .ensures) ∙ c .if1 .taken)
-
-returns : tie.Need-returns
-returns c =
-    let t = c .before .before .before .before in
-    let a = t .before .before .before .args in
-    omega (arith, two-at (now (a .s)) (a .p + a .k) (inside t))
 
 cast-result-2 : tie.Need-cast-result-2
 cast-result-2 c =
@@ -32,15 +26,9 @@ u16-at-spec =
     (tie.spec
     (λ c κs. search needs)
     (λ c. omega (arith, inside c))
-    (λ c. omega (arith, inside (c .before)))
-    (λ c κs. search needs)
-    (λ c. omega (arith, inside (c .before .before)))
-    (λ c. omega (arith, inside (c .before .before .before)))
-    (λ c κs. search needs)
-    (λ c. omega arith)
-    (λ c. omega arith)
-    (λ c. omega arith)
-    returns
+    (λ c κs. inside c)
+    (λ c. omega (arith, c .two-at .ensures .1))
+    (λ c. c .two-at .ensures .0)
     (λ c κs. omega arith)
     cast-result-2
     (λ c. c .clipped-value .ensures))
