@@ -1,4 +1,5 @@
 // The text reader's .DEBUG group, whole: questions 27, 26, 28, 29 and 30.
+use std::num::wrapping_add_usize;
 use text_cells::cell_is;
 use text_lines::Line;
 use text_lines::Passed;
@@ -6,7 +7,6 @@ use text_lines::begins_with;
 use text_lines::has_row;
 use text_lines::next_row;
 use text_source::Source;
-use text_source::more;
 use text_source::unescape;
 use text_tables::LineRow;
 use text_tables::first_bar;
@@ -90,7 +90,7 @@ fn words_after(words: usize, count: usize) -> usize
     if count == 0 {
         return words;
     }
-    more(words, 4 + count)
+    wrapping_add_usize(words, 4 + count)
 }
 
 // Whether runs rise after one that fell or not.
