@@ -21,7 +21,7 @@ use Rattle.format.specs.Words.{memoryWord, recordWords}
 use Rattle.trim.specs.Span.{part}
 use Rattle.text_lines.specs.Groups.{partsFrom, RowAt}
 use Rattle.text_lines.proofs.RowLaws.{rows-on, row-groups}
-use Rattle.text_blocks.specs.Blocks.{wordsIn, blockIn, EntriesAt, BlockFrom, NoBlock, Seen, blocksLength, Counts, Settles}
+use Rattle.text_blocks.specs.Blocks.{wordsIn, blockIn, EntriesAt, BodyAt, BlockFrom, NoBlock, Seen, blocksLength, Counts, Settles}
 use Rattle.text_lines.proofs.TestLaws.{by-test}
 
 enough : (n : ℕ) (ls : List (List ℕ)) → n ≤ length ls → allSome maybeHex2u16 (take n ls) ≡ wordsIn n ls
@@ -204,48 +204,60 @@ unfolding blockIn
 blockIn-hex l [] e = refl
 blockIn-hex l (c ∷ ls) e = rw (← e)
 
+-- from its count on
+none-then : {A B : Type 0} (o : Option A) → andThen {B = B} o (λ a. none) ≡ none
+none-then none = refl
+none-then (some a) = refl
+
+pub body-no0 : (t : List ℕ) (at : ℕ) → partsFrom t at .before ≡ [] → (l : List ℕ) → blockIn (l ∷ partsFrom t at .before) ≡ none
+unfolding blockIn
+body-no0 t at q l = ap (λ (ls : List (List ℕ)). blockIn (l ∷ ls)) q
+
+module _ (t : List ℕ) (at c f m : ℕ) (k : RowAt t at c f m) where
+  pub body-no1 : none ≡ parseNumber 10 65536 (part c f t) → (l : List ℕ) → blockIn (l ∷ partsFrom t at .before) ≡ none
+  unfolding blockIn
+  body-no1 q l = ap (λ (ls : List (List ℕ)). blockIn (l ∷ ls)) (rows-at t at c f m k) ∙ rw (← q) (none-then (hex2u16 l))
+
+  pub body-no2 : (x : ℕ) → some x ≡ parseNumber 10 65536 (part c f t) → isSome (wordsIn x (partsFrom t m .before)) ≡ false
+      → (l : List ℕ) → blockIn (l ∷ partsFrom t at .before) ≡ none
+  unfolding blockIn
+  body-no2 x q w l =
+      ap (λ (ls : List (List ℕ)). blockIn (l ∷ ls)) (rows-at t at c f m k)
+      ∙ rw (← q, ← there-is-none (wordsIn x (partsFrom t m .before)) w) (none-then (hex2u16 l))
+
 module _ (t : List ℕ) (at a e n : ℕ) (l : RowAt t at a e n) where
-  no-block : (ls : List (List ℕ)) → partsFrom t at .before ≡ part a e t ∷ ls → blockIn (part a e t ∷ ls) ≡ none → NoBlock t at
-  no-block ls r q = record { first = part a e t; lines = ls; rows = r; read = ap blockIn r ∙ q }
+  no-block : blockIn (part a e t ∷ partsFrom t n .before) ≡ none → NoBlock t at
+  no-block q = record { first = part a e t; lines = partsFrom t n .before; rows = rows-at t at a e n l; read = ap blockIn (rows-at t at a e n l) ∙ q }
 
   pub block-no0 : none ≡ hex2u16 (part a e t) → NoBlock t at
-  block-no0 q = no-block (partsFrom t n .before) (rows-at t at a e n l) (blockIn-hex (part a e t) (partsFrom t n .before) q)
+  block-no0 q = no-block (blockIn-hex (part a e t) (partsFrom t n .before) q)
 
-  pub block-no1 : partsFrom t n .before ≡ [] → NoBlock t at
-  unfolding blockIn
-  block-no1 q = no-block [] (rows-at t at a e n l ∙ ap (λ (ls : List (List ℕ)). part a e t ∷ ls) q) refl
+  pub block-no1 : ((k : List ℕ) → blockIn (k ∷ partsFrom t n .before) ≡ none) → NoBlock t at
+  block-no1 q = no-block (q (part a e t))
 
-  module _ (c f m : ℕ) (k : RowAt t n c f m) (d : ℕ) (hd : some d ≡ hex2u16 (part a e t)) where
-    two : partsFrom t at .before ≡ part a e t ∷ part c f t ∷ partsFrom t m .before
-    two = rows-at t at a e n l ∙ ap (λ (ls : List (List ℕ)). part a e t ∷ ls) (rows-at t n c f m k)
+  module _ (d : ℕ) (hd : some d ≡ hex2u16 (part a e t)) (small : d < 65536) (x m q : ℕ) (b : BodyAt t n x m q) where
+    two : partsFrom t at .before ≡ part a e t ∷ part (b .start) (b .end) t ∷ partsFrom t m .before
+    two = rows-at t at a e n l ∙ ap (λ (ls : List (List ℕ)). part a e t ∷ ls) (rows-at t n (b .start) (b .end) m (b .row))
 
-    pub block-no2 : none ≡ parseNumber 10 65536 (part c f t) → NoBlock t at
+    block-of : (ws : List (Option ℕ)) → some ws ≡ wordsIn x (partsFrom t m .before) → BlockFrom t at d x m q
     unfolding blockIn
-    block-no2 q = no-block (part c f t ∷ partsFrom t m .before) two (rw (← hd, ← q))
-
-    pub block-no3 : (x : ℕ) → some x ≡ parseNumber 10 65536 (part c f t) → isSome (wordsIn x (partsFrom t m .before)) ≡ false → NoBlock t at
-    unfolding blockIn
-    block-no3 x q w = no-block (part c f t ∷ partsFrom t m .before) two (rw (← hd, ← q, ← there-is-none (wordsIn x (partsFrom t m .before)) w))
-
-    block-of : (x q : ℕ) → d < 65536 → some x ≡ parseNumber 10 65536 (part c f t) → EntriesAt t m x q → (ws : List (Option ℕ)) → some ws ≡ wordsIn x (partsFrom t m .before) → BlockFrom t at d x m q
-    unfolding blockIn
-    block-of x q small g w ws r =
+    block-of ws r =
         record {
-          on = omega (arith, l .on, k .on, w .from);
+          on = omega (arith, l .on, b .row .on, b .entries .from);
           inside = omega (arith, l .on, l .next);
           address = small;
           words = ws;
-          lines = part c f t ∷ partsFrom t m .before;
+          lines = part (b .start) (b .end) t ∷ partsFrom t m .before;
           first = part a e t;
           rows = two;
-          read = ap blockIn two ∙ rw (← hd, ← g, ← r);
+          read = ap blockIn two ∙ rw (← hd, ← b .count, ← r);
           there = sym r;
-          rest = ap (λ (p : Parts (List ℕ)). p .before) (w .same);
-          groups = ap (λ (p : Parts (List ℕ)). p .groups) (w .same) ∙ row-groups t n c f m k ∙ row-groups t at a e n l;
+          rest = ap (λ (p : Parts (List ℕ)). p .before) (b .entries .same);
+          groups = ap (λ (p : Parts (List ℕ)). p .groups) (b .entries .same) ∙ row-groups t n (b .start) (b .end) m (b .row) ∙ row-groups t at a e n l;
         }
 
-    pub block-yes : (x q : ℕ) → d < 65536 → some x ≡ parseNumber 10 65536 (part c f t) → EntriesAt t m x q → BlockFrom t at d x m q
-    block-yes x q small g w = let ws = there-is (wordsIn x (partsFrom t m .before)) (w .read) in block-of x q small g w (ws .0) (ws .1)
+    pub block-yes : BlockFrom t at d x m q
+    block-yes = let ws = there-is (wordsIn x (partsFrom t m .before)) (b .entries .read) in block-of (ws .0) (ws .1)
 
 -- WORDS of blocks: one that is new has its own, beside those of the others
 words-count : (k : ℕ) (ls : List (List ℕ)) (ws : List (Option ℕ)) → wordsIn k ls ≡ some ws → length ws ≡ k

@@ -9,16 +9,17 @@ use native.Mathlib.Numerals.{add-one}
 use lib.ListN.{length, take, drop, getD}
 use lib.Seq.{drop-cons}
 use lib.Dec.{eqb, ltb}
-use borrow.Author.Tests.{ne-eqb, eqb-true, ltb-true, ltb-false}
+use borrow.Author.Tests.{lt-ltb, le-ltb, eq-eqb, ne-eqb, eqb-true, eqb-false, ltb-true, ltb-false}
 use Rattle.format.specs.Basics.{eqs, if_then_else_}
 use Rattle.format.specs.TextReader.{digitsFrom, hex2u16, maybeHex2u16}
 use Rattle.format.specs.Words.{memoryWord}
 use Rattle.trim.specs.Span.{part}
 use Rattle.text_cells.specs.Cells.{digitOr16}
 use Rattle.text_cells.proofs.NumberLaws.{from-on, hex-four, entry-unknown, entry-hex}
-use Rattle.text_lines.proofs.ShortLaws.{short-row}
+use Rattle.text_lines.specs.Lines.{isFourLong}
+use Rattle.text_lines.proofs.ShortLaws.{four-fits, short-row}
 use Rattle.text_lines.proofs.TestLaws.{by-test, front, within-low, within-high}
-use Rattle.text_blocks.specs.Blocks.{entryDigit, tableFrom, isTable, EntryAt}
+use Rattle.text_blocks.specs.Blocks.{entryDigit, tableFrom, isTable, EntryAt, fourWord, shortEntry, ShortEntry}
 
 -- THE TABLE, by one test of all its bytes
 both-left : (a b : Bool) → (a && b) ≡ true → a ≡ true
@@ -154,3 +155,57 @@ module _ (t : List ℕ) (at : ℕ) (l : at + 5 ≤ length t) (lf : getD t (at + 
         read = entry-unknown (part at (at + 4) t) (ap (λ (x : List ℕ). eqs x (63 ∷ 63 ∷ 63 ∷ 63 ∷ [])) four);
         made = refl;
       }
+
+-- THE WORD, by the sum
+module _ (a b c d : ℕ) where
+  pub word-digits : a + b + c + d < 61 → 0x2001_0000 + (((a * 16 + b) * 16 + c) * 16 + d) ≡ fourWord a b c d
+  unfolding fourWord
+  word-digits h = simp (lt-ltb (a + b + c + d) 61 h)
+
+  pub word-unread : 61 ≤ a + b + c + d → a + b + c + d ≡ 244 → 0x2000_0000 ≡ fourWord a b c d
+  unfolding fourWord
+  word-unread l e = simp (le-ltb (a + b + c + d) 61 l, eq-eqb (a + b + c + d) 244 e)
+
+  pub word-none : 61 ≤ a + b + c + d → (a + b + c + d ≡ 244 → ⊥) → 0 ≡ fourWord a b c d
+  unfolding fourWord
+  word-none l e = simp (le-ltb (a + b + c + d) 61 l, ne-eqb (a + b + c + d) 244 e)
+
+pub short-none : (digits t : List ℕ) (at : ℕ) → isFourLong t at ≡ false → 0 ≡ shortEntry digits t at
+unfolding shortEntry
+short-none digits t at f = simp f
+
+pub short-word : (digits t : List ℕ) (at : ℕ) → isFourLong t at ≡ true → (a b c d : ℕ)
+    → a ≡ getD digits (getD t at 0) 0 → b ≡ getD digits (getD t (at + 1) 0) 0 → c ≡ getD digits (getD t (at + 2) 0) 0
+    → d ≡ getD digits (getD t (at + 3) 0) 0 → fourWord a b c d ≡ shortEntry digits t at
+unfolding shortEntry
+short-word digits t at f a b c d ea eb ec ed =
+    ap (λ (x : ℕ). fourWord x b c d) ea ∙ ap (λ (x : ℕ). fourWord (getD digits (getD t at 0) 0) x c d) eb
+    ∙ ap (λ (x : ℕ). fourWord (getD digits (getD t at 0) 0) (getD digits (getD t (at + 1) 0) 0) x d) ec
+    ∙ ap (fourWord (getD digits (getD t at 0) 0) (getD digits (getD t (at + 1) 0) 0) (getD digits (getD t (at + 2) 0) 0)) ed ∙ simp f
+
+-- what the word says, of bytes
+pub short-entry-at : (digits t : List ℕ) (at w : ℕ) → ((k : ℕ) → getD t k 0 < 256) → w ≡ shortEntry digits t at → ShortEntry digits t at w
+short-entry-at digits t at w bytes e table some-word =
+    by-test (isFourLong t at)
+    (λ f.
+    let four = four-fits t at f in
+    let a : ℕ = getD digits (getD t at 0) 0 in
+    let b : ℕ = getD digits (getD t (at + 1) 0) 0 in
+    let c : ℕ = getD digits (getD t (at + 2) 0) 0 in
+    let d : ℕ = getD digits (getD t (at + 3) 0) 0 in
+    let q : w ≡ fourWord a b c d = e ∙ sym (short-word digits t at f a b c d refl refl refl refl) in
+    let is : (k : ℕ) → getD digits (getD t k 0) 0 ≡ entryDigit (getD t k 0) = λ k. table-is digits table (getD t k 0) (bytes k) in
+    by-test (ltb (a + b + c + d) 61)
+    (λ u.
+    let l = ltb-true (a + b + c + d) 61 u in
+    subst (EntryAt t at) (word-digits a b c d l ∙ sym q)
+    (entry-digits t at (four .0) (four .1) a b c d (is at) (is (at + 1)) (is (at + 2)) (is (at + 3)) l))
+    (λ u.
+    let l = ltb-false (a + b + c + d) 61 u in
+    by-test (eqb (a + b + c + d) 244)
+    (λ v.
+    let z = eqb-true (a + b + c + d) 244 v in
+    subst (EntryAt t at) (word-unread a b c d l z ∙ sym q)
+    (entry-unread t at (four .0) (four .1) a b c d (is at) (is (at + 1)) (is (at + 2)) (is (at + 3)) z))
+    (λ v. absurd (some-word (q ∙ sym (word-none a b c d l (eqb-false (a + b + c + d) 244 v)))))))
+    (λ f. absurd (some-word (e ∙ sym (short-none digits t at f))))

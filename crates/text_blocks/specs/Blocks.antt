@@ -4,16 +4,19 @@ use mathlib.Core.Path.{_≡_}
 use mathlib.Core.Bool.{Bool, true, false, _&&_}
 use mathlib.Core.List.{List, [], _∷_, map, flatMap}
 use mathlib.Core.Option.{Option, none, some}
-use Prim.Native.Nat.{ℕ, zero, suc, _+_, _^_, _%_, _≤_, _<_}
+use Prim.Native.Nat.{ℕ, zero, suc, _+_, _*_, _^_, _%_, _≤_, _<_}
 use lib.ListN.{length, drop, getD}
 use lib.Dec.{eqb, ltb}
 use Rattle.format.specs.Basics.{Outcome, refused, given, andThen, isSome, if_then_else_}
 use Rattle.format.specs.Sorted.{atKey}
-use Rattle.format.specs.TextReader.{hex2u16, parseDecimal, maybeHex2u16, parseTextGroup}
+use Rattle.format.specs.TextReader.{hex2u16, parseDecimal, parseNumber, maybeHex2u16, parseTextGroup}
 use Rattle.format.specs.ObjectFile.{ObjectFile, Block, blockKey}
+use Rattle.text_lines.specs.Lines.{isFourLong}
 use Rattle.text_lines.specs.declared.Passed.{Passed}
 use Rattle.text_lines.specs.declared.Passed.the-variants as pa
 use Rattle.text_blocks.specs.declared.Text.{Text}
+use Rattle.text_blocks.specs.declared.Body.{Body}
+use Rattle.text_blocks.specs.declared.Body.the-variants as bo
 use Rattle.text_blocks.specs.declared.BlockStep.{BlockStep}
 use Rattle.text_blocks.specs.declared.BlockStep.the-variants as bl
 use Rattle.format.specs.Records.{block}
@@ -41,7 +44,21 @@ pub record EntryAt (t : List ℕ) (at w : ℕ) : Type 0 where
   pub read : some entry ≡ maybeHex2u16 (part at (at + 4) t)
   pub made : w ≡ memoryWord entry
 
--- by a table of what bytes stand for: 0 says nothing
+-- the word of an entry whose bytes stand for these numbers, by their sum: four digits, four `?`, or others
+unfoldable pub fourWord : ℕ → ℕ → ℕ → ℕ → ℕ
+fourWord a b c d =
+    if ltb (a + b + c + d) 61 then 0x2001_0000 + (((a * 16 + b) * 16 + c) * 16 + d)
+    else if eqb (a + b + c + d) 244 then 0x2000_0000
+    else 0
+
+-- the word of the entry of four bytes at a place, by a table of what bytes stand for; 0 where there is none
+unfoldable pub shortEntry : List ℕ → List ℕ → ℕ → ℕ
+shortEntry digits t at =
+    if isFourLong t at
+    then fourWord (getD digits (getD t at 0) 0) (getD digits (getD t (at + 1) 0) 0) (getD digits (getD t (at + 2) 0) 0) (getD digits (getD t (at + 3) 0) 0)
+    else 0
+
+-- and what it says of the group's lines: 0 says nothing
 abbrev pub ShortEntry : List ℕ → List ℕ → ℕ → ℕ → Type 0
 ShortEntry digits t at w = isTable digits ≡ true → (w ≡ 0 → ⊥) → EntryAt t at w
 
@@ -59,6 +76,18 @@ blockIn (l ∷ c ∷ ls) =
     andThen (hex2u16 l) λ a. andThen (parseDecimal 65536 c) λ n.
     andThen (wordsIn n ls) λ ws. some (record { address = a; words = ws }, n)
 
+-- an entry at a place, and the place after it
+pub record EntryTo (t : List ℕ) (at q : ℕ) : Type 0 where
+  pub start : ℕ
+  pub end : ℕ
+  pub row : RowAt t at start end q
+  pub entry : Option ℕ
+  pub read : some entry ≡ maybeHex2u16 (part start end t)
+
+abbrev pub OneEntry : List ℕ → ℕ → Passed → Type 0
+OneEntry t at (pa.To q) = EntryTo t at q
+OneEntry t at pa.Bad = (n : ℕ) → 0 < n → isSome (wordsIn n (partsFrom t at .before)) ≡ false
+
 -- lines of the group that were passed over, n of them, all entries
 pub record EntriesAt (t : List ℕ) (at n q : ℕ) : Type 0 where
   pub from : at ≤ q
@@ -68,6 +97,18 @@ pub record EntriesAt (t : List ℕ) (at n q : ℕ) : Type 0 where
 abbrev pub Entries : List ℕ → ℕ → ℕ → Passed → Type 0
 Entries t at n (pa.To q) = EntriesAt t at n q
 Entries t at n pa.Bad = isSome (wordsIn n (partsFrom t at .before)) ≡ false
+
+-- a block from its count on: the count, where its entries start, and the place after them
+pub record BodyAt (t : List ℕ) (at n p q : ℕ) : Type 0 where
+  pub start : ℕ
+  pub end : ℕ
+  pub row : RowAt t at start end p
+  pub count : some n ≡ parseNumber 10 65536 (part start end t)
+  pub entries : EntriesAt t p n q
+
+abbrev pub BodyIs : List ℕ → ℕ → Body → Type 0
+BodyIs t at (bo.At n p q) = BodyAt t at n p q
+BodyIs t at bo.Bad = (l : List ℕ) → blockIn (l ∷ partsFrom t at .before) ≡ none
 
 -- a block: its address and count, where its entries start, and the place after them
 pub record BlockFrom (t : List ℕ) (at a n p q : ℕ) : Type 0 where
@@ -110,6 +151,9 @@ Counts h words = words ≡ blocksLength (h .blocks) % 2 ^ 64
 abbrev pub Settles : Outcome ObjectFile → ℕ → List ℕ → ℕ → Type 0
 Settles (refused n) number seen words = number ≡ n
 Settles (given h) number seen words = (number ≡ 0) × Seen h seen × Counts h words
+
+abbrev pub textAt : ℕ → ℕ → ℕ → Text
+textAt number next words = record { number = number; next = next; words = words }
 
 -- What a check of .TEXT's lines comes to, from marks and a count that stand for any object. With fewer than 65,536 marks nothing is marked: 3.
 pub record BlocksChecked (t : List ℕ) (at words : ℕ) (seen seen′ : List ℕ) (r : Text) : Type 0 where

@@ -1,4 +1,5 @@
 // The text reader's .TEXT group: its blocks.
+use std::num::wrapping_add_usize;
 use text_cells::Entry;
 use text_cells::Number;
 use text_cells::decimal;
@@ -6,14 +7,15 @@ use text_cells::hex2u16;
 use text_cells::maybe_hex2u16;
 use text_lines::Line;
 use text_lines::Passed;
+use text_lines::is_four_long;
 use text_lines::next_row;
 ghost use mathlib.Core.Path.{_≡_};
 ghost use mathlib.Core.Bool.{true};
-ghost use Prim.Native.Nat.{_+_, _-_, _^_, _%_, _<_};
+ghost use Prim.Native.Nat.{_<_};
 ghost use lib.ListN.{getD};
 ghost use Rattle.format.specs.Basics.{isSome};
 ghost use Rattle.format.specs.TextReader.{lines, hex2u16, maybeHex2u16};
-ghost use Rattle.text_blocks.specs.Blocks.{ShortEntry, Entries, NextBlock, BlocksChecked};
+ghost use Rattle.text_blocks.specs.Blocks.{isTable, fourWord, shortEntry, OneEntry, Entries, BodyIs, NextBlock, textAt, BlocksChecked};
 
 // A block of .TEXT: where its entries start, and the place after them.
 pub enum BlockStep {
@@ -313,24 +315,11 @@ fn digit_in(digits: &[u8; 256], b: u8) -> u32
     wide(digits[b as usize])
 }
 
-// The memory word of an entry of four digits, or ????, with an LF after it; 0 for a row of another form. The table is the caller's, so that it
-// is made once for many entries.
-pub fn short_entry(t: &[u8], at: usize, digits: &[u8; 256]) -> u32
-    ensures { λ r. ⌜ ShortEntry (now (digits .entry)) (now (t .entry)) at r ⌝ }
+// The memory word of an entry whose bytes stand for these numbers: four digits, or ????; 0 for others.
+fn four_word(a: u32, b: u32, c: u32, d: u32) -> u32
+    requires { ⌜ (a < 256) × (b < 256) × (c < 256) × (d < 256) ⌝ }
+    ensures { λ r. ⌜ r ≡ fourWord a b c d ⌝ }
 {
-    if t.len() < 5 {
-        return 0;
-    }
-    if t.len() - 5 < at {
-        return 0;
-    }
-    if t[at + 4] != 0x0A {
-        return 0;
-    }
-    let a = digit_in(digits, t[at]);
-    let b = digit_in(digits, t[at + 1]);
-    let c = digit_in(digits, t[at + 2]);
-    let d = digit_in(digits, t[at + 3]);
     let sum = a + b + c + d;
     if sum < 61 {
         return 0x2001_0000 + (((a * 16 + b) * 16 + c) * 16 + d);
@@ -341,60 +330,126 @@ pub fn short_entry(t: &[u8], at: usize, digits: &[u8; 256]) -> u32
     0
 }
 
-// The next n lines of the group, all of them entries.
-pub fn pass_entries(t: &[u8], at: usize, n: usize) -> Passed
+// The memory word of an entry of four digits, or ????, with an LF after it; 0 for a row of another form. The table is the caller's, so that it
+// is made once for many entries.
+pub fn short_entry(t: &[u8], at: usize, digits: &[u8; 256]) -> u32
+    ensures { λ r. ⌜ r ≡ shortEntry (now (digits .entry)) (now (t .entry)) at ⌝ }
+{
+    if !is_four_long(t, at) {
+        return 0;
+    }
+    let a = digit_in(digits, t[at]);
+    let b = digit_in(digits, t[at + 1]);
+    let c = digit_in(digits, t[at + 2]);
+    let d = digit_in(digits, t[at + 3]);
+    four_word(a, b, c, d)
+}
+
+// Past the entry at a place.
+fn pass_entry(t: &[u8], at: usize, digits: &[u8; 256]) -> Passed
+    requires { ⌜ isTable (now digits) ≡ true ⌝ }
+    ensures { λ r. ⌜ OneEntry (now (t .entry)) at r ⌝ }
+{
+    if short_entry(t, at, digits) != 0 {
+        return Passed::To(at + 4 + 1);
+    }
+    let Line::At { start, end, next } = next_row(t, at) else {
+        return Passed::Bad;
+    };
+    if !is_entry(&t[start..end]) {
+        return Passed::Bad;
+    }
+    Passed::To(next)
+}
+
+// The next n lines of the group, all of them entries, by a table of what bytes stand for.
+fn pass_each(t: &[u8], at: usize, n: usize, digits: &[u8; 256]) -> Passed
+    requires { ⌜ isTable (now digits) ≡ true ⌝ }
     ensures { λ r. ⌜ Entries (now (t .entry)) at n r ⌝ }
 {
     let mut i = at;
     let mut left = n;
-    let digits = DIGITS;
     while 0 < left {
-        if short_entry(t, i, &digits) != 0 {
-            i = i + 4 + 1;
-            left -= 1;
-            continue;
-        }
-        let Line::At { start, end, next } = next_row(t, i) else {
+        let Passed::To(next) = pass_entry(t, i, digits) else {
             return Passed::Bad;
         };
-        if !is_entry(&t[start..end]) {
-            return Passed::Bad;
-        }
         i = next;
         left -= 1;
     }
     Passed::To(i)
 }
 
+// The next n lines of the group, all of them entries.
+pub fn pass_entries(t: &[u8], at: usize, n: usize) -> Passed
+    ensures { λ r. ⌜ Entries (now (t .entry)) at n r ⌝ }
+{
+    let digits = DIGITS;
+    pass_each(t, at, n, &digits)
+}
+
+// What follows a block's address: its count, where its entries start, and the place after them.
+pub enum Body {
+    At {
+        count: u16,
+        entries: usize,
+        next: usize,
+    },
+    Bad,
+}
+
+// A block of .TEXT from its count on.
+fn block_body(t: &[u8], at: usize) -> Body
+    ensures { λ r. ⌜ BodyIs (now (t .entry)) at r ⌝ }
+{
+    let Line::At {
+        start,
+        end,
+        next: entries,
+    } = next_row(t, at)
+    else {
+        return Body::Bad;
+    };
+    let Number::Value(n) = decimal(&t[start..end], 65535) else {
+        return Body::Bad;
+    };
+    let Passed::To(next) = pass_entries(t, entries, n as usize) else {
+        return Body::Bad;
+    };
+    Body::At {
+        count: n as u16,
+        entries: entries,
+        next: next,
+    }
+}
+
 // The next block of .TEXT.
 pub fn next_block(t: &[u8], at: usize) -> BlockStep
     ensures { λ r. ⌜ NextBlock (now (t .entry)) at r ⌝ }
 {
-    let Line::At { start, end, next } = next_row(t, at) else {
+    let Line::At {
+        start,
+        end,
+        next: from,
+    } = next_row(t, at)
+    else {
         return BlockStep::Done;
     };
     let Number::Value(a) = hex2u16(&t[start..end]) else {
         return BlockStep::Bad;
     };
-    let Line::At {
-        start: c_start,
-        end: c_end,
-        next: entries,
-    } = next_row(t, next)
+    let Body::At {
+        count,
+        entries,
+        next,
+    } = block_body(t, from)
     else {
-        return BlockStep::Bad;
-    };
-    let Number::Value(n) = decimal(&t[c_start..c_end], 65535) else {
-        return BlockStep::Bad;
-    };
-    let Passed::To(after) = pass_entries(t, entries, n as usize) else {
         return BlockStep::Bad;
     };
     BlockStep::At {
         address: a as u16,
-        count: n as u16,
+        count: count,
         entries: entries,
-        next: after,
+        next: next,
     }
 }
 
@@ -406,16 +461,15 @@ pub struct Text {
     pub words: usize,
 }
 
-// How many words there are after a block of so many entries, as 64 bits count.
-fn words_after(words: usize, count: u16) -> usize
-    ensures { λ r. ⌜ r ≡ (words + (1 + count)) % 2 ^ 64 ⌝ }
+// What the check comes to so far: a number, a place and a count.
+fn text_at(number: u8, next: usize, words: usize) -> Text
+    ensures { λ r. ⌜ r ≡ textAt number next words ⌝ }
 {
-    let n = 1 + count as usize;
-    let left = 0xFFFF_FFFF_FFFF_FFFF - words;
-    if left < n {
-        return n - left - 1;
+    Text {
+        number: number,
+        next: next,
+        words: words,
     }
-    words + n
 }
 
 // The lines of a .TEXT group, checked; the addresses of its blocks are marked, and their words counted.
@@ -423,11 +477,7 @@ pub fn parse_text(t: &[u8], at: usize, words: usize, seen: &mut [u8]) -> Text
     ensures { λ r. ⌜ BlocksChecked (now (t .entry)) at words (now (seen .entry)) (now (seen .exit)) r ⌝ }
 {
     if seen.len() < 65536 {
-        return Text {
-            number: 3,
-            next: at,
-            words: words,
-        };
+        return text_at(3, at, words);
     }
     let mut i = at;
     let mut n = words;
@@ -442,30 +492,14 @@ pub fn parse_text(t: &[u8], at: usize, words: usize, seen: &mut [u8]) -> Text
             } => {
                 let a = address as usize;
                 if seen[a] == 1 {
-                    return Text {
-                        number: 25,
-                        next: at,
-                        words: n,
-                    };
+                    return text_at(25, at, n);
                 }
                 seen[a] = 1;
-                n = words_after(n, count);
+                n = wrapping_add_usize(n, 1 + count as usize);
                 i = next;
             }
-            BlockStep::Done => {
-                return Text {
-                    number: 0,
-                    next: i,
-                    words: n,
-                };
-            }
-            BlockStep::Bad => {
-                return Text {
-                    number: 24,
-                    next: at,
-                    words: n,
-                };
-            }
+            BlockStep::Done => return text_at(0, i, n),
+            BlockStep::Bad => return text_at(24, at, n),
         }
     }
 }

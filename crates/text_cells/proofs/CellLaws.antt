@@ -1,25 +1,25 @@
 -- Dividers and cells at places.
 -- Assumes nothing.
-use mathlib.Core.Path.{_≡_, refl, sym, ap, _∙_}
-use mathlib.Core.Bool.{Bool, true, false, _&&_}
+use mathlib.Core.Path.{_≡_, refl, sym, ap, _∙_, subst}
+use mathlib.Core.Bool.{Bool, true, false, true≢false, _&&_}
 use mathlib.Core.List.{List, [], _∷_}
 use mathlib.Core.Option.{none, some}
 use Prim.Native.Nat.{ℕ, zero, suc, _+_, _-_, _≤_, _<_}
 use native.Mathlib.Omega.{arith}
-use lib.ListN.{length, take, drop, getD, length-drop}
+use lib.ListN.{length, take, drop, getD, length-drop, drop-of-length-le}
 use lib.Seq.{drop-length, take-nil, getD-drop}
 use lib.Dec.{ltb, eqb}
-use borrow.Author.Tests.{ne-eqb, ltb-true, ltb-false}
+use borrow.Author.Tests.{ne-eqb, eqb-true, eqb-false, ltb-true, ltb-false}
 use Rattle.format.specs.Basics.{beginsWith, ascii}
 use Rattle.format.specs.TextReader.{splitOnce, splitn}
 use Rattle.trim.specs.Span.{Spans}
+use Rattle.text_cells.specs.Cells.{barAt, Cut}
+use Rattle.text_cells.specs.declared.Divider.{Divider}
+use Rattle.text_cells.specs.declared.Divider.the-variants as dv
 use Rattle.text_lines.proofs.TestLaws.{by-test, front, and-no, drop-more}
 use Rattle.text_lines.proofs.LineLaws.{to-end}
 
--- a divider at a place
-abbrev pub barAt : List ℕ → ℕ → Bool
-barAt s p = beginsWith (0x20 ∷ 0x7C ∷ 0x20 ∷ []) (drop p s)
-
+-- A DIVIDER at a place
 three : (s : List ℕ) (p : ℕ) → p + 2 < length s → drop p s ≡ getD s p 0 ∷ getD s (p + 1) 0 ∷ getD s (p + 2) 0 ∷ drop (p + 2 + 1) s
 three s p h =
     let k : p + 1 + 1 ≡ p + 2 = omega arith in
@@ -44,6 +44,17 @@ module _ (s : List ℕ) (p : ℕ) (h : p + 2 < length s) where
   bar-no2 a =
       rw (three s p h, ne-eqb 0x20 (getD s (p + 2) 0) (λ q. a (sym q)))
       (ap (λ (t : Bool). eqb 0x20 (getD s p 0) && t) (and-no (eqb 0x7C (getD s (p + 1) 0))) ∙ and-no (eqb 0x20 (getD s p 0)))
+
+  -- by its bytes
+  pub bar-last : getD s p 0 ≡ 0x20 → getD s (p + 1) 0 ≡ 0x7C → eqb (getD s (p + 2) 0) 0x20 ≡ barAt s p
+  bar-last a b =
+      by-test (eqb (getD s (p + 2) 0) 0x20) (λ t. t ∙ sym (bar-yes a b (eqb-true (getD s (p + 2) 0) 0x20 t)))
+      (λ t. t ∙ sym (bar-no2 (eqb-false (getD s (p + 2) 0) 0x20 t)))
+
+  bar-space : barAt s p ≡ true → getD s p 0 ≡ 0x20
+  bar-space e =
+      by-test (eqb (getD s p 0) 0x20) (λ t. eqb-true (getD s p 0) 0x20 t)
+      (λ t. absurd (true≢false (sym e ∙ bar-no0 (eqb-false (getD s p 0) 0x20 t))))
 
 -- too few bytes
 short : (bs : List ℕ) → length bs < 3 → beginsWith (0x20 ∷ 0x7C ∷ 0x20 ∷ []) bs ≡ false
@@ -73,22 +84,22 @@ cut-none (b ∷ bs) n = rw (n 0 (omega arith), cut-none bs (λ p h. n (suc p) (o
 
 -- a cell of four bytes, and a divider
 four : (s : List ℕ) → 6 < length s → (getD s 1 0 ≡ 0x7C → ⊥) → (getD s 2 0 ≡ 0x7C → ⊥) → (getD s 3 0 ≡ 0x7C → ⊥)
-    → getD s 4 0 ≡ 0x20 → getD s 5 0 ≡ 0x7C → getD s 6 0 ≡ 0x20 → splitOnce s ≡ some (take 4 s, drop 7 s)
-four s h a b c d e f = cut-at s 4 (omega arith) before (bar-yes s 4 (omega arith) d e f)
+    → barAt s 4 ≡ true → splitOnce s ≡ some (take 4 s, drop 7 s)
+four s h a b c d = cut-at s 4 (omega arith) before d
   where
     before : (p : ℕ) → p < 4 → barAt s p ≡ false
     before zero l = bar-no1 s 0 (omega arith) a
     before (suc zero) l = bar-no1 s 1 (omega arith) b
     before (suc (suc zero)) l = bar-no1 s 2 (omega arith) c
-    before (suc (suc (suc zero))) l = bar-no1 s 3 (omega arith) (λ q. omega arith)
+    before (suc (suc (suc zero))) l = bar-no1 s 3 (omega arith) (λ q. omega (arith, bar-space s 4 (omega arith) d))
     before (suc (suc (suc (suc p)))) l = absurd (omega arith)
 
 pub four-wide : (s : List ℕ) (at : ℕ) → at + 7 ≤ length s → (getD s (at + 1) 0 ≡ 0x7C → ⊥) → (getD s (at + 2) 0 ≡ 0x7C → ⊥)
-    → (getD s (at + 3) 0 ≡ 0x7C → ⊥) → getD s (at + 4) 0 ≡ 0x20 → getD s (at + 5) 0 ≡ 0x7C → getD s (at + 6) 0 ≡ 0x20
+    → (getD s (at + 3) 0 ≡ 0x7C → ⊥) → barAt s (at + 4) ≡ true
     → splitOnce (drop at s) ≡ some (take 4 (drop at s), drop 7 (drop at s))
-four-wide s at h a b c d e f =
+four-wide s at h a b c d =
     four (drop at s) (omega (arith, length-drop at s)) (λ q. a (sym (getD-drop at s 1 0) ∙ q)) (λ q. b (sym (getD-drop at s 2 0) ∙ q))
-    (λ q. c (sym (getD-drop at s 3 0) ∙ q)) (getD-drop at s 4 0 ∙ d) (getD-drop at s 5 0 ∙ e) (getD-drop at s 6 0 ∙ f)
+    (λ q. c (sym (getD-drop at s 3 0) ∙ q)) (ap (beginsWith (0x20 ∷ 0x7C ∷ 0x20 ∷ [])) (drop-more s at 4) ∙ d)
 
 -- cells
 module _ (bs : List ℕ) where
@@ -159,6 +170,24 @@ module _ (bs : List ℕ) where
   cell-cut zero j p e c h = absurd (e refl)
   cell-cut (suc k) zero p e c h = ap (λ (l : List (List ℕ)). getD l 0 []) (cells-cut bs k p c)
   cell-cut (suc k) (suc j) p e c h = absurd (omega arith)
+
+-- the first cell of no bytes
+once-none : splitOnce [] ≡ none
+unfolding splitOnce
+once-none = refl
+
+pub cell-past : (s : List ℕ) (at k : ℕ) → length s < at → [] ≡ getD (splitn k (drop at s)) 0 []
+cell-past s at k h =
+    let e : drop at s ≡ [] = drop-of-length-le s {i = at} (omega arith) in
+    sym (ap (λ (l : List ℕ). getD (splitn k l) 0 []) e
+    ∙ by-test (eqb k 0) (λ t. cell-last0 [] k 0 (eqb-true k 0 t) (omega arith)) (λ t. cell-last1 [] k 0 (eqb-false k 0 t) once-none (omega arith)))
+
+-- what was found in the rest of the row
+pub none-there : (s : List ℕ) (at : ℕ) (r : Divider) → Cut (take (length s - at) (drop at s)) r → r ≡ dv.Nothing → splitOnce (drop at s) ≡ none
+none-there s at r h e = subst (λ (l : List ℕ). Cut l dv.Nothing) (to-end s at) (subst (Cut (take (length s - at) (drop at s))) e h)
+
+pub some-there : (s : List ℕ) (at p : ℕ) (r : Divider) → Cut (take (length s - at) (drop at s)) r → r ≡ dv.At p → Cut (drop at s) (dv.At p)
+some-there s at p r h e = subst (λ (l : List ℕ). Cut l (dv.At p)) (to-end s at) (subst (Cut (take (length s - at) (drop at s))) e h)
 
 -- spans of cells
 module _ (s : List ℕ) (x : List ℕ) where

@@ -1,11 +1,12 @@
 -- What a cell says, and where the first divider stands.
 -- Assumes nothing.
 use mathlib.Core.Path.{_≡_}
-use mathlib.Core.List.{List}
+use mathlib.Core.Bool.{Bool}
+use mathlib.Core.List.{List, [], _∷_}
 use mathlib.Core.Option.{Option, none, some}
 use Prim.Native.Nat.{ℕ, _+_, _-_, _≤_}
 use lib.ListN.{length, take, drop}
-use Rattle.format.specs.Basics.{if_then_else_}
+use Rattle.format.specs.Basics.{if_then_else_, beginsWith}
 use Rattle.format.specs.Utf8.{isBetween}
 use Rattle.format.specs.TextReader.{splitOnce, parseDecimal, belowLimit}
 use Rattle.text_cells.specs.declared.Number.{Number}
@@ -32,6 +33,10 @@ abbrev pub entryOf : Entry → Option (Option ℕ)
 entryOf (en.Value v) = some (some v)
 entryOf en.Unknown = some none
 entryOf en.Nothing = none
+
+-- a divider at a place
+abbrev pub barAt : List ℕ → ℕ → Bool
+barAt s p = beginsWith (0x20 ∷ 0x7C ∷ 0x20 ∷ []) (drop p s)
 
 -- where the first divider stands
 abbrev pub Cut : List ℕ → Divider → Type 0

@@ -12,7 +12,7 @@ ghost use Rattle.format.specs.Basics.{eqs};
 ghost use Rattle.format.specs.Utf8.{trim};
 ghost use Rattle.format.specs.TextReader.{splitOnce, splitn, parseNumber, parseDecimal, hex2u16, maybeHex2u16, withoutPlus};
 ghost use Rattle.trim.specs.Span.{Spans};
-ghost use Rattle.text_cells.specs.Cells.{digitOr16, numberRead, entryOf, DigitsAlone, Cut};
+ghost use Rattle.text_cells.specs.Cells.{barAt, digitOr16, numberRead, entryOf, DigitsAlone, Cut};
 
 // What a cell says.
 pub enum Number {
@@ -197,64 +197,74 @@ pub fn maybe_hex2u16(s: &[u8]) -> Entry
     Entry::Value(v as u16)
 }
 
+// A ` | ` stands at a place.
+fn is_divider(s: &[u8], at: usize) -> bool
+    requires { ⌜ at + 2 < length (now s) ⌝ }
+    ensures { λ r. ⌜ r ≡ barAt (now (s .entry)) at ⌝ }
+{
+    if s[at] != 0x20 {
+        return false;
+    }
+    if s[at + 1] != 0x7C {
+        return false;
+    }
+    s[at + 2] == 0x20
+}
+
 // Where the first ` | ` stands.
 fn find_divider(s: &[u8]) -> Divider
     ensures { λ r. ⌜ Cut (now (s .entry)) r ⌝ }
 {
     let mut i = 0;
     while 2 < s.len() - i {
-        if s[i] == 0x20 {
-            if s[i + 1] == 0x7C {
-                if s[i + 2] == 0x20 {
-                    return Divider::At(i);
-                }
-            }
+        if is_divider(s, i) {
+            return Divider::At(i);
         }
         i += 1;
     }
     Divider::Nothing
 }
 
-// Cell i of a row that is cut at its first k dividers at most; a missing cell is empty.
-pub fn find_cell(s: &[u8], k: usize, i: usize) -> Span
-    ensures { λ r. ⌜ Spans (now (s .entry)) (r .start) (r .end) (getD (splitn k (now (s .entry))) i []) ⌝ }
+// The first cell of a row from a place on, where it is cut at k dividers at most; past the row's end it is empty.
+pub fn first_cell(s: &[u8], at: usize, k: usize) -> Span
+    ensures { λ r. ⌜ Spans (now (s .entry)) (r .start) (r .end) (getD (splitn k (drop at (now (s .entry)))) 0 []) ⌝ }
 {
-    let mut at = 0;
-    let mut cuts = k;
-    let mut cell = i;
-    while 0 < cell {
-        if cuts == 0 {
-            return Span {
-                start: s.len(),
-                end: s.len(),
-            };
-        }
-        let Divider::At(p) = find_divider(&s[at..]) else {
-            return Span {
-                start: s.len(),
-                end: s.len(),
-            };
-        };
-        at += p + 3;
-        cuts -= 1;
-        cell -= 1;
+    let n = s.len();
+    if n < at {
+        return Span { start: n, end: n };
     }
-    if cuts == 0 {
-        return Span {
-            start: at,
-            end: s.len(),
-        };
+    if k == 0 {
+        return Span { start: at, end: n };
     }
     let Divider::At(p) = find_divider(&s[at..]) else {
-        return Span {
-            start: at,
-            end: s.len(),
-        };
+        return Span { start: at, end: n };
     };
     Span {
         start: at,
         end: at + p,
     }
+}
+
+// Cell i of a row that is cut at its first k dividers at most; a missing cell is empty.
+pub fn find_cell(s: &[u8], k: usize, i: usize) -> Span
+    ensures { λ r. ⌜ Spans (now (s .entry)) (r .start) (r .end) (getD (splitn k (now (s .entry))) i []) ⌝ }
+{
+    let n = s.len();
+    let mut at = 0;
+    let mut cuts = k;
+    let mut cell = i;
+    while 0 < cell {
+        if cuts == 0 {
+            return Span { start: n, end: n };
+        }
+        let Divider::At(p) = find_divider(&s[at..]) else {
+            return Span { start: n, end: n };
+        };
+        at += p + 3;
+        cuts -= 1;
+        cell -= 1;
+    }
+    first_cell(s, at, cuts)
 }
 
 // The same, trimmed.
@@ -272,13 +282,7 @@ fn is_four_wide(s: &[u8], at: usize) -> bool
     requires { ⌜ at + 7 ≤ length (now s) ⌝ }
     ensures { λ r. ⌜ (r ≡ true → splitOnce (drop at (now (s .entry))) ≡ some (take 4 (drop at (now (s .entry))), drop 7 (drop at (now (s .entry))))) ⌝ }
 {
-    if s[at + 4] != 0x20 {
-        return false;
-    }
-    if s[at + 5] != 0x7C {
-        return false;
-    }
-    if s[at + 6] != 0x20 {
+    if !is_divider(s, at + 4) {
         return false;
     }
     if s[at + 1] == 0x7C {

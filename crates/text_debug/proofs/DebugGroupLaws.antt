@@ -18,8 +18,8 @@ use Rattle.format.specs.Calls.{refusalOf}
 use Rattle.text_lines.proofs.TestLaws.{by-test}
 use Rattle.trim.specs.Span.{part}
 use Rattle.text_lines.specs.Views.{StepAt}
-use Rattle.text_lines.specs.Groups.{partsFrom, RowAt}
-use Rattle.text_lines.proofs.RowLaws.{rows-on, parts-of}
+use Rattle.text_lines.specs.Groups.{partsFrom}
+use Rattle.text_lines.proofs.RowLaws.{parts-of}
 use Rattle.text_tables.specs.Debug.{Groups, butLast, lineView, labelView, BarAt}
 use Rattle.text_tables.specs.Labels.{labelColumns, labelIn, setLabel, LabelsChecked}
 use Rattle.text_tables.specs.LineRows.{lineIn}
@@ -31,7 +31,7 @@ use Rattle.text_debug.specs.LineTable.{lineColumns, sourceIn, Makes, Tab
 use Rattle.text_debug.specs.declared.LineTable.{LineTable}
 use Rattle.text_debug.specs.DebugGroup.{LastBar, FirstRow, lineBlocksIn}
 use Rattle.text_debug.specs.LineRuns.{addressIn}
-use Rattle.text_debug.specs.DebugGroup.{LinesSet, withoutRows, DebugSettles, DebugChecked}
+use Rattle.text_debug.specs.DebugGroup.{LinesSet, withoutRows, Barred, DebugSettles, DebugChecked}
 use Rattle.text_lines.specs.declared.Passed.the-variants as pa
 use Rattle.text_debug.proofs.RefusalLaws.{Numbered, numbered-ask, refused-by, numbered-unescape}
 use Rattle.text_debug.proofs.LineTableLaws.{Parsed, row, end, rows-28, source-of, rest, opened}
@@ -335,60 +335,80 @@ pub checked-no : (t : List ℕ) (at : ℕ) (b : Bool) (n : ℕ) → (n ≡ 0 →
     → DebugChecked t at b (withoutRows n at)
 checked-no t at b n ne f = record { from = omega arith; after = λ z. absurd (ne z); inside = omega arith; makes = λ y. absurd (true≢false (sym y)); settles = f }
 
-pub checked-none : (t : List ℕ) (at : ℕ) (b : Bool) → partsFrom t at .before ≡ [] → DebugChecked t at b (withoutRows 0 at)
-checked-none t at b e =
+-- a list that is there, or not
+some-line : (ls : List (List ℕ)) → isEmpty ls ≡ false → (l : List ℕ) × (ks : List (List ℕ)) × (ls ≡ l ∷ ks)
+unfolding isEmpty
+some-line [] e = absurd (true≢false e)
+some-line (l ∷ ks) e = (l, ks, refl)
+
+no-line : (ls : List (List ℕ)) → not (isEmpty ls) ≡ false → ls ≡ []
+unfolding isEmpty
+no-line [] e = refl
+no-line (l ∷ ks) e = absurd (true≢false e)
+
+pub is-full : (ls : List (List ℕ)) → not (isEmpty ls) ≡ true → isEmpty ls ≡ false
+unfolding isEmpty
+is-full [] e = absurd (true≢false (sym e))
+is-full (l ∷ ks) e = refl
+
+pub checked-none : (t : List ℕ) (at : ℕ) (b : Bool) → not (isEmpty (partsFrom t at .before)) ≡ false → DebugChecked t at b (withoutRows 0 at)
+checked-none t at b q =
+    let e = no-line (partsFrom t at .before) q in
     record {
-      from =
-          omega arith;
+      from = omega arith;
       after = λ z. parts-of t at _ e refl;
       inside = omega arith;
       makes = λ y. absurd (true≢false (sym y));
       settles = λ h g. debug-none h (partsFrom t at .before) (lineView t 0 .0) e;
     }
 
-module _ (t : List ℕ) (at a e n : ℕ) (r : RowAt t at a e n) (b : Bool) where
-  abbrev first : partsFrom t at .before ≡ part a e t ∷ partsFrom t n .before
-  first = rows-on t at a e n r
+module _ (t : List ℕ) (at : ℕ) (full : isEmpty (partsFrom t at .before) ≡ false) (b : Bool) where
+  abbrev first : (l : List ℕ) × (ks : List (List ℕ)) × (partsFrom t at .before ≡ l ∷ ks)
+  first = some-line (partsFrom t at .before) full
 
   pub checked-first : splitAtBar (partsFrom t at .before) .after ≡ none → DebugChecked t at b (withoutRows 27 at)
-  checked-first q = checked-no t at b 27 (λ z. omega (arith, z)) λ h g. debug-first h _ _ _ first _ q
+  checked-first q = checked-no t at b 27 (λ z. omega (arith, z)) λ h g. debug-first h _ _ _ (first .2) _ q
 
   module _ (q : ℕ) (bar : BarAt t at q) where
     pub checked-last : upToBar (partsFrom t q .before) ≡ none → DebugChecked t at b (withoutRows 27 at)
-    checked-last u = checked-no t at b 27 (λ z. omega (arith, z)) λ h g. debug-last h _ _ _ first _ _ (bar .after) u
+    checked-last u = checked-no t at b 27 (λ z. omega (arith, z)) λ h g. debug-last h _ _ _ (first .2) _ _ (bar .after) u
 
-    module _ (m : ℕ) (u : LastBar t q (pa.To m)) where
-      pub checked-labels : (k : ℕ) → k ≡ refusalOf (parseLabelTable emptyObject (labelView t at .0)) → (k ≡ 0 → ⊥)
-          → DebugChecked t at b (withoutRows k at)
-      checked-labels k w ne = checked-no t at b k ne λ h g. debug-labels h _ _ _ first _ _ _ (bar .after) (u .2) k w ne
+    pub checked-labels : (m : ℕ) → LastBar t q (pa.To m) → (k : ℕ) → k ≡ refusalOf (parseLabelTable emptyObject (labelView t at .0))
+        → (k ≡ 0 → ⊥) → DebugChecked t at b (withoutRows k at)
+    checked-labels m u k w ne = checked-no t at b k ne λ h g. debug-labels h _ _ _ (first .2) _ _ _ (bar .after) (u .2) k w ne
 
-      module _ (w : 0 ≡ refusalOf (parseLabelTable emptyObject (labelView t at .0))) (k : LineTable) (is : LineTableIs (lineView t q .0) b k) where
-        pub checked-lines : (k .number ≡ 0 → ⊥) → DebugChecked t at b (withoutRows (k .number) at)
-        checked-lines ne = checked-no t at b (k .number) ne λ h g. debug-lines h _ _ _ first _ _ _ (bar .after) (u .2) w b (k .number) (is .0) g ne
+module _ (t : List ℕ) (at q m : ℕ) (d : Barred t at q m) (b : Bool) (k : LineTable) (is : LineTableIs (lineView t q .0) b k) where
+  abbrev line : (l : List ℕ) × (ks : List (List ℕ)) × (partsFrom t at .before ≡ l ∷ ks)
+  line = some-line (partsFrom t at .before) (d .full)
 
-        after-bars : partsFrom t m ≡ record { before = []; groups = partsFrom t at .groups }
-        after-bars = u .1 ∙ ap (λ (g : List (List ℕ × List (List ℕ))). record { before = []; groups = g }) (bar .groups)
+  pub checked-lines : (k .number ≡ 0 → ⊥) → DebugChecked t at b (withoutRows (k .number) at)
+  checked-lines ne =
+      checked-no t at b (k .number) ne
+      λ h g. debug-lines h _ _ _ (line .2) _ _ _ (d .first .after) (d .last .2) (d .labels) b (k .number) (is .0) g ne
 
-        module _ (z : k .number ≡ 0) where
-          pub checked-unlined : isEmpty (drop 1 (lineView t q .0)) ≡ true → DebugChecked t at b (withoutRows 0 m)
-          checked-unlined o =
-              record {
-                from =
-                    omega (arith, bar .on, u .0);
-                after = λ y. after-bars;
-                inside = omega arith;
-                makes = λ y. absurd (true≢false (sym y));
-                settles = λ h g. debug-unlined h _ _ _ first _ _ _ (bar .after) (u .2) w b (k .number) (is .0) g z o;
-              }
+  after-bars : partsFrom t m ≡ record { before = []; groups = partsFrom t at .groups }
+  after-bars = d .last .1 ∙ ap (λ (g : List (List ℕ × List (List ℕ))). record { before = []; groups = g }) (d .first .groups)
 
-          pub checked-lined : (p : ℕ) → FirstRow t q (pa.To p)
-              → DebugChecked t at b (record { number = 0; next = m; lined = true; rows = p; lines = k .lines })
-          checked-lined p o =
-              record {
-                from =
-                    omega (arith, bar .on, u .0);
-                after = λ y. after-bars;
-                inside = o .0;
-                makes = λ y. subst (λ (ls : List (List ℕ)). Makes ls (k .lines)) (sym (o .2)) (is .1 z (o .1));
-                settles = λ h g. debug-lined h _ _ _ first _ _ _ (bar .after) (u .2) w b (k .number) (is .0) g z (o .1) (o .2);
-              }
+  module _ (z : k .number ≡ 0) where
+    pub checked-unlined : isEmpty (drop 1 (lineView t q .0)) ≡ true → DebugChecked t at b (withoutRows 0 m)
+    checked-unlined o =
+        record {
+          from = omega (arith, d .first .on, d .last .0);
+          after = λ y. after-bars;
+          inside = omega arith;
+          makes = λ y. absurd (true≢false (sym y));
+          settles = λ h g.
+              debug-unlined h _ _ _ (line .2) _ _ _ (d .first .after) (d .last .2) (d .labels) b (k .number) (is .0) g z o;
+        }
+
+    pub checked-lined : (p : ℕ) → FirstRow t q (pa.To p)
+        → DebugChecked t at b (record { number = 0; next = m; lined = true; rows = p; lines = k .lines })
+    checked-lined p o =
+        record {
+          from = omega (arith, d .first .on, d .last .0);
+          after = λ y. after-bars;
+          inside = o .0;
+          makes = λ y. subst (λ (ls : List (List ℕ)). Makes ls (k .lines)) (sym (o .2)) (is .1 z (o .1));
+          settles = λ h g.
+              debug-lined h _ _ _ (line .2) _ _ _ (d .first .after) (d .last .2) (d .labels) b (k .number) (is .0) g z (o .1) (o .2);
+        }

@@ -20,7 +20,8 @@ use Rattle.text_tables.specs.Debug.{Groups, lineView}
 use Rattle.text_source.specs.Stream.{sourceCell}
 use Rattle.text_source.specs.Unescape.{UnescapedIs}
 use Rattle.text_source.specs.declared.Unescaped.{Unescaped}
-use Rattle.text_debug.specs.LineTable.{lineColumns, sourceIn, Makes, withoutLines, LineTableIs}
+use Rattle.text_debug.specs.LineTable.{lineColumns, sourceIn, withoutLines, LineTableIs, RowTableIs}
+use Rattle.text_debug.specs.declared.LineTable.{LineTable}
 use Rattle.text_debug.specs.LineRuns.{LineRowsAre}
 use Rattle.text_debug.specs.declared.LineRows.{LineRows}
 
@@ -159,37 +160,34 @@ module _ (t : List ℕ) (from a e n : ℕ) (s : StepAt (lineView t) t from a e n
   unfolding isEmpty
   not-empty = ap isEmpty first
 
-  after : drop 1 (lineView t from .0) ≡ lineView t n .0
-  after = ap (drop 1) first
-
-  as-lines : (h : ObjectFile) (k : ℕ) → k ≡ refusalOf (parseLineTable h (part a e t ∷ lineView t n .0)) → k ≡ refusalOf (parseLineTable h (lineView t from .0))
-  as-lines h k q = q ∙ ap (λ (ls : List (List ℕ)). refusalOf (parseLineTable h ls)) (sym first)
-
   pub header-bad : sameCells (map trim (splitn 2 (part a e t))) lineColumns ≡ false → (b : Bool) → LineTableIs (lineView t from .0) b (withoutLines 28)
-  header-bad q b = ((λ h g. as-lines h 28 (table-header h (part a e t) (lineView t n .0) q)), λ z. absurd (omega (arith, z)))
+  header-bad q b =
+      subst (λ (ls : List (List ℕ)). LineTableIs ls b (withoutLines 28)) (sym first)
+      ((λ h g. table-header h (part a e t) (lineView t n .0) q), λ z. absurd (omega (arith, z)))
 
-  module _ (q : sameCells (map trim (splitn 2 (part a e t))) lineColumns ≡ true) (b : Bool) where
-    pub rows-bad : (k : ℕ) → k ≡ refusalOf (parseLineRows 0 (lineView t n .0)) → (k ≡ 0 → ⊥) → LineTableIs (lineView t from .0) b (withoutLines k)
-    rows-bad k w ne = ((λ h g. as-lines h k (table-bad h (part a e t) (lineView t n .0) q k w ne)), λ z. absurd (ne z))
+  pub header-good : sameCells (map trim (splitn 2 (part a e t))) lineColumns ≡ true → (b : Bool) (r : LineTable)
+      → RowTableIs (lineView t n .0) b r → LineTableIs (lineView t from .0) b r
+  header-good q b r k = subst (λ (ls : List (List ℕ)). LineTableIs ls b r) (sym first) (k (part a e t) q)
 
-    module _ (z : 0 ≡ refusalOf (parseLineRows 0 (lineView t n .0))) where
-      pub rows-none : lineView t n .0 ≡ [] → LineTableIs (lineView t from .0) b (withoutLines 0)
-      unfolding isEmpty
-      rows-none w = (
-        (λ h g. as-lines h 0 (table-none h (part a e t) (lineView t n .0) q z w)),
-        λ y o. absurd (true≢false (sym (ap isEmpty (after ∙ w)) ∙ o)),
+-- rows, under any header
+module _ (rows : List (List ℕ)) (b : Bool) where
+  pub rows-bad : (k : ℕ) → k ≡ refusalOf (parseLineRows 0 rows) → (k ≡ 0 → ⊥) → RowTableIs rows b (withoutLines k)
+  rows-bad k w ne l q = ((λ h g. table-bad h l rows q k w ne), λ z. absurd (ne z))
+
+  module _ (z : 0 ≡ refusalOf (parseLineRows 0 rows)) where
+    pub rows-none : rows ≡ [] → RowTableIs rows b (withoutLines 0)
+    unfolding isEmpty
+    rows-none w l q = ((λ h g. table-none h l rows q z w), λ y o. absurd (true≢false (sym (ap isEmpty w) ∙ o)))
+
+    module _ (w : isEmpty rows ≡ false) where
+      pub rows-again : b ≡ true → RowTableIs rows b (withoutLines 29)
+      rows-again y l q = ((λ h g. table-again h l rows q z w (g ∙ y)), λ o. absurd (omega (arith, o)))
+
+      pub rows-source : b ≡ false → (u : Unescaped) → UnescapedIs (unescape (flatMap sourceCell rows)) u
+          → (r : LineRows) → LineRowsAre rows r → r .number ≡ 0
+          → RowTableIs rows b (record { number = u .number; lines = record { len = u .len; words = r .words; rise = r .rise } })
+      unfolding sourceIn
+      rows-source y u k r x zero l q = (
+        (λ h g. table-source h l rows q z w (g ∙ y) (u .number) (k .0)),
+        λ o v. (k .1, x .1 zero .0, x .1 zero .1),
       )
-
-      module _ (w : isEmpty (lineView t n .0) ≡ false) where
-        pub rows-again : b ≡ true → LineTableIs (lineView t from .0) b (withoutLines 29)
-        rows-again y = ((λ h g. as-lines h 29 (table-again h (part a e t) (lineView t n .0) q z w (g ∙ y))), λ o. absurd (omega (arith, o)))
-
-        pub rows-source : b ≡ false → (u : Unescaped) → UnescapedIs (unescape (flatMap sourceCell (lineView t n .0))) u
-            → (r : LineRows) → LineRowsAre (lineView t n .0) r → r .number ≡ 0
-            → LineTableIs (lineView t from .0) b (record { number = u .number; lines = record { len = u .len; words = r .words; rise = r .rise } })
-        unfolding sourceIn
-        rows-source y u k r x zero = (
-          (λ h g. as-lines h (u .number) (table-source h (part a e t) (lineView t n .0) q z w (g ∙ y) (u .number) (k .0))),
-          λ o v. subst (λ (ls : List (List ℕ)). Makes ls (record { len = u .len; words = r .words; rise = r .rise })) (sym after)
-              (k .1, x .1 zero .0, x .1 zero .1),
-        )

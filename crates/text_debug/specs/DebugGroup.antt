@@ -7,11 +7,13 @@ use Prim.Native.Nat.{ℕ, _≤_, _<_}
 use lib.ListN.{length, drop}
 use Rattle.format.specs.Basics.{Outcome, refused, given, isSome, isEmpty}
 use Rattle.format.specs.ObjectFile.{LineBlock, ObjectFile}
-use Rattle.format.specs.TextReader.{runsFrom, unescape, upToBar, parseDebugGroup}
+use Rattle.format.specs.Records.{emptyObject}
+use Rattle.format.specs.TextReader.{runsFrom, unescape, upToBar, parseLabelTable, parseDebugGroup}
+use Rattle.format.specs.Calls.{refusalOf}
 use Rattle.text_lines.specs.declared.Passed.{Passed}
 use Rattle.text_lines.specs.declared.Passed.the-variants as pa
 use Rattle.text_lines.specs.Groups.{partsFrom}
-use Rattle.text_tables.specs.Debug.{lineView}
+use Rattle.text_tables.specs.Debug.{labelView, lineView, BarAt}
 use Rattle.text_source.specs.Stream.{sourceCell}
 use Rattle.text_debug.specs.LineRuns.{addressIn}
 use Rattle.text_debug.specs.LineTable.{sourceIn, Makes, noLines}
@@ -29,6 +31,13 @@ abbrev pub FirstRow : List ℕ → ℕ → Passed → Type 0
 FirstRow t from (pa.To q) =
     (q ≤ length t) × (isEmpty (drop 1 (lineView t from .0)) ≡ false) × (lineView t q .0 ≡ drop 1 (lineView t from .0))
 FirstRow t from pa.Bad = isEmpty (drop 1 (lineView t from .0)) ≡ true
+
+-- a group with both bars, whose label table reads: the places after the bars
+pub record Barred (t : List ℕ) (at bar next : ℕ) : Type 0 where
+  pub full : isEmpty (partsFrom t at .before) ≡ false
+  pub first : BarAt t at bar
+  pub last : LastBar t bar (pa.To next)
+  pub labels : 0 ≡ refusalOf (parseLabelTable emptyObject (labelView t at .0))
 
 -- the kept runs of a line table's rows
 unfoldable pub lineBlocksIn : List (List ℕ) → List LineBlock

@@ -1,12 +1,13 @@
 -- The line table's number, and what its rows make. Assumes nothing.
 use mathlib.Core.Path.{_≡_}
 use mathlib.Core.Bool.{Bool, true, false}
-use mathlib.Core.List.{List, [], _∷_, flatMap}
+use mathlib.Core.List.{List, [], _∷_, map, flatMap}
 use Prim.Native.Nat.{ℕ, _^_, _%_}
 use lib.ListN.{length, drop}
 use Rattle.format.specs.Basics.{ascii, givenOr, isSome, isEmpty}
 use Rattle.format.specs.ObjectFile.{ObjectFile}
-use Rattle.format.specs.TextReader.{unescape, parseLineTable}
+use Rattle.format.specs.Utf8.{trim}
+use Rattle.format.specs.TextReader.{splitn, sameCells, unescape, parseLineTable}
 use Rattle.format.specs.Calls.{refusalOf}
 use Rattle.text_source.specs.Stream.{sourceCell}
 use Rattle.text_debug.specs.declared.Lines.{Lines}
@@ -38,3 +39,7 @@ TableNumber ls sourced number = (h : ObjectFile) → isSome (h .source) ≡ sour
 -- and, where it reads and has rows, what these make
 abbrev pub LineTableIs : List (List ℕ) → Bool → LineTable → Type 0
 LineTableIs ls sourced r = TableNumber ls sourced (r .number) × (r .number ≡ 0 → isEmpty (drop 1 ls) ≡ false → Makes (drop 1 ls) (r .lines))
+
+-- and the same of rows, under any header
+abbrev pub RowTableIs : List (List ℕ) → Bool → LineTable → Type 0
+RowTableIs rows sourced r = (l : List ℕ) → sameCells (map trim (splitn 2 l)) lineColumns ≡ true → LineTableIs (l ∷ rows) sourced r

@@ -1,11 +1,12 @@
 // The text reader's .DEBUG group, whole: questions 27, 26, 28, 29 and 30.
+use std::num::wrapping_add_usize;
 use text_cells::cell_is;
 use text_lines::Line;
 use text_lines::Passed;
 use text_lines::begins_with;
+use text_lines::has_row;
 use text_lines::next_row;
 use text_source::Source;
-use text_source::more;
 use text_source::unescape;
 use text_tables::LineRow;
 use text_tables::first_bar;
@@ -21,8 +22,8 @@ ghost use Rattle.format.specs.Utf8.{trim};
 ghost use Rattle.format.specs.TextReader.{splitn, sameCells};
 ghost use Rattle.text_tables.specs.Debug.{lineView};
 ghost use Rattle.text_debug.specs.LineRuns.{runOn, wordsAfter, runEnd, RowStepIs, LineRowsAre};
-ghost use Rattle.text_debug.specs.LineTable.{lineColumns, noLines, withoutLines, LineTableIs};
-ghost use Rattle.text_debug.specs.DebugGroup.{LastBar, FirstRow, withoutRows, DebugChecked};
+ghost use Rattle.text_debug.specs.LineTable.{lineColumns, noLines, withoutLines, RowTableIs, LineTableIs};
+ghost use Rattle.text_debug.specs.DebugGroup.{LastBar, FirstRow, withoutRows, Barred, DebugChecked};
 
 const LINE: [u8; 4] = [0x4C, 0x49, 0x4E, 0x45];
 
@@ -89,7 +90,7 @@ fn words_after(words: usize, count: usize) -> usize
     if count == 0 {
         return words;
     }
-    more(words, 4 + count)
+    wrapping_add_usize(words, 4 + count)
 }
 
 // Whether runs rise after one that fell or not.
@@ -224,17 +225,11 @@ fn without_lines(number: u8) -> LineTable
     }
 }
 
-// The line table that starts at a place, where a source stands already or none does: 28, 29, 30.
-pub fn parse_line_table(t: &[u8], from: usize, sourced: bool) -> LineTable
-    ensures { λ r. ⌜ LineTableIs (lineView (now (t .entry)) from .0) sourced r ⌝ }
+// What the rows from a place on make under a header, where a source stands already or none does: 28, 29, 30.
+fn parse_rows(t: &[u8], from: usize, sourced: bool) -> LineTable
+    ensures { λ r. ⌜ RowTableIs (lineView (now (t .entry)) from .0) sourced r ⌝ }
 {
-    let Line::At { start, end, next } = next_source_line(t, from) else {
-        return without_lines(0);
-    };
-    if !parse_line_header(&t[start..end]) {
-        return without_lines(28);
-    }
-    let n = parse_line_rows(t, next);
+    let n = parse_line_rows(t, from);
     if n.number != 0 {
         return without_lines(n.number);
     }
@@ -242,7 +237,7 @@ pub fn parse_line_table(t: &[u8], from: usize, sourced: bool) -> LineTable
         start: _,
         end: _,
         next: _,
-    } = next_source_line(t, next)
+    } = next_source_line(t, from)
     else {
         return without_lines(0);
     };
@@ -254,7 +249,7 @@ pub fn parse_line_table(t: &[u8], from: usize, sourced: bool) -> LineTable
         Source {
             at: 0,
             end: 0,
-            next: next,
+            next: from,
         },
     );
     LineTable {
@@ -265,6 +260,19 @@ pub fn parse_line_table(t: &[u8], from: usize, sourced: bool) -> LineTable
             rise: n.rise,
         },
     }
+}
+
+// The line table that starts at a place, where a source stands already or none does: 28, 29, 30.
+pub fn parse_line_table(t: &[u8], from: usize, sourced: bool) -> LineTable
+    ensures { λ r. ⌜ LineTableIs (lineView (now (t .entry)) from .0) sourced r ⌝ }
+{
+    let Line::At { start, end, next } = next_source_line(t, from) else {
+        return without_lines(0);
+    };
+    if !parse_line_header(&t[start..end]) {
+        return without_lines(28);
+    }
+    parse_rows(t, next, sourced)
 }
 
 // What a .DEBUG group's check comes to, the place after the group, and the place of its line table's rows and what they make, if there are
@@ -332,29 +340,11 @@ fn without_rows(number: u8, next: usize) -> DebugGroup
     }
 }
 
-// The lines of a .DEBUG group, checked, where a source stands already or none does: 27, then 26, then 28, 29, 30. The label table is read
-// first all the same, since it ends at the first bar.
-pub fn parse_debug(t: &[u8], at: usize, sourced: bool) -> DebugGroup
+// A .DEBUG group whose label table reads, by the places after its bars: 28, 29, 30.
+fn line_group(t: &[u8], at: usize, bar: usize, next: usize, sourced: bool) -> DebugGroup
+    requires { ⌜ Barred (now t) at bar next ⌝ }
     ensures { λ r. ⌜ DebugChecked (now (t .entry)) at sourced r ⌝ }
 {
-    let Line::At {
-        start: _,
-        end: _,
-        next: _,
-    } = next_row(t, at)
-    else {
-        return without_rows(0, at);
-    };
-    let n = parse_label_table(t, at);
-    let Passed::To(bar) = first_bar(t, n.next) else {
-        return without_rows(27, at);
-    };
-    let Passed::To(next) = last_bar(t, bar) else {
-        return without_rows(27, at);
-    };
-    if n.number != 0 {
-        return without_rows(n.number, at);
-    }
     let m = parse_line_table(t, bar, sourced);
     if m.number != 0 {
         return without_rows(m.number, at);
@@ -370,4 +360,25 @@ pub fn parse_debug(t: &[u8], at: usize, sourced: bool) -> DebugGroup
         rows: rows,
         lines: lines,
     }
+}
+
+// The lines of a .DEBUG group, checked, where a source stands already or none does: 27, then 26, then 28, 29, 30. The label table is read
+// first all the same, since it ends at the first bar.
+pub fn parse_debug(t: &[u8], at: usize, sourced: bool) -> DebugGroup
+    ensures { λ r. ⌜ DebugChecked (now (t .entry)) at sourced r ⌝ }
+{
+    if !has_row(t, at) {
+        return without_rows(0, at);
+    }
+    let n = parse_label_table(t, at);
+    let Passed::To(bar) = first_bar(t, n.next) else {
+        return without_rows(27, at);
+    };
+    let Passed::To(next) = last_bar(t, bar) else {
+        return without_rows(27, at);
+    };
+    if n.number != 0 {
+        return without_rows(n.number, at);
+    }
+    line_group(t, at, bar, next, sourced)
 }

@@ -1,18 +1,18 @@
 -- The line at a place by its bytes: a line of four bytes, and whether the group has a line left. Assumes nothing.
 use mathlib.Core.Path.{_≡_, refl, sym, ap, _∙_, subst}
-use mathlib.Core.Bool.{Bool, true, false, not}
+use mathlib.Core.Bool.{Bool, true, false, true≢false, not}
 use mathlib.Core.List.{List, [], _∷_}
 use Prim.Native.Nat.{ℕ, zero, suc, _+_, _-_, _≤_, _<_}
 use native.Mathlib.Omega.{arith}
 use lib.ListN.{length, take, drop, getD, length-drop}
 use lib.Seq.{getD-drop, getD-take}
 use lib.Dec.{eqb, ltb}
-use borrow.Author.Tests.{lt-ltb, eq-eqb, ne-eqb, eqb-true, eqb-false, ltb-true, ltb-false}
+use borrow.Author.Tests.{lt-ltb, le-ltb, eq-eqb, ne-eqb, eqb-true, eqb-false, ltb-true, ltb-false}
 use Rattle.format.specs.Basics.{if_then_else_, ascii, beginsWith, isEmpty}
 use Rattle.format.specs.Utf8.{charAt, isWhiteSpace, trimFrom, trimStart, isBlank}
 use Rattle.format.specs.TextReader.{lines}
 use Rattle.trim.specs.Span.{part}
-use Rattle.text_lines.specs.Lines.{lineLength, LineAt, isKept, kept}
+use Rattle.text_lines.specs.Lines.{lineLength, LineAt, isKept, kept, isFourLong}
 use Rattle.text_lines.specs.Groups.{partsFrom, RowAt, Spaces, ShowsRow}
 use Rattle.text_lines.proofs.LineLaws.{line-here, line-on, line-fits, line-lf, line-crlf, line-last, kept-yes, length-part, begins-at}
 use Rattle.text_lines.proofs.RowLaws.{row-line, rows-on}
@@ -165,6 +165,21 @@ module _ (t : List ℕ) (at : ℕ) (h : at + 5 ≤ length t) (low : 0x2F ≤ get
       (kept-by row (no-byte 35 (omega arith))
       (past-spaces 0 row (omega (arith, long)) (λ i j. absurd (omega arith)) (omega (arith, front-byte)) (omega (arith, front-byte)))))
       (no-byte 46 (omega arith))
+
+-- AN LF FOUR BYTES AFTER A PLACE
+pub four-short : (t : List ℕ) (at : ℕ) → length t < at + 5 → false ≡ isFourLong t at
+unfolding isFourLong
+four-short t at h = simp (lt-ltb (length t) (at + 5) h)
+
+pub four-there : (t : List ℕ) (at : ℕ) → at + 5 ≤ length t → eqb (getD t (at + 4) 0) 0x0A ≡ isFourLong t at
+unfolding isFourLong
+four-there t at h = simp (le-ltb (length t) (at + 5) h)
+
+pub four-fits : (t : List ℕ) (at : ℕ) → isFourLong t at ≡ true → (at + 5 ≤ length t) × (getD t (at + 4) 0 ≡ 0x0A)
+four-fits t at e =
+    by-test (ltb (length t) (at + 5))
+    (λ w. absurd (true≢false (sym e ∙ sym (four-short t at (ltb-true (length t) (at + 5) w)))))
+    (λ w. let l = ltb-false (length t) (at + 5) w in (l, eqb-true (getD t (at + 4) 0) 0x0A (four-there t at l ∙ e)))
 
 -- WHETHER THE GROUP HAS A LINE LEFT, by the first byte past spaces
 module _ (t : List ℕ) (at i : ℕ) (h : i < length t) (l : at ≤ i) (s : (j : ℕ) → at ≤ j → j < i → getD t j 0 ≡ 0x20)

@@ -1,12 +1,12 @@
 -- What the scanner's calls find at a place of the input, said of the rest of the input from that place.
 -- Assumes nothing.
 use mathlib.Core.Path.{_≡_}
-use mathlib.Core.Bool.{Bool, _&&_, not}
+use mathlib.Core.Bool.{Bool, false, _&&_, not}
 use mathlib.Core.List.{List, [], _∷_}
 use mathlib.Core.Option.{Option, none, some}
-use Prim.Native.Nat.{ℕ, suc, _-_, _≤_, _<_}
-use lib.ListN.{length, take, drop}
-use lib.Dec.{eqb}
+use Prim.Native.Nat.{ℕ, suc, _+_, _-_, _≤_, _<_}
+use lib.ListN.{length, take, drop, getD}
+use lib.Dec.{eqb, ltb}
 use Rattle.format.specs.Basics.{if_then_else_, ascii, keep, beginsWith}
 use Rattle.format.specs.Utf8.{isBetween, isBlank}
 use Rattle.format.specs.TextReader.{lines}
@@ -42,3 +42,7 @@ isKept l = not (beginsWith (ascii "#") l) && not (isBlank l)
 -- a text's kept lines: of the trimmed file, `keptLines` of the file
 unfoldable pub kept : List ℕ → List (List ℕ)
 kept t = keep isKept (lines t)
+
+-- an LF stands four bytes after a place
+unfoldable pub isFourLong : List ℕ → ℕ → Bool
+isFourLong t at = if ltb (length t) (at + 5) then false else eqb (getD t (at + 4) 0) 0x0A

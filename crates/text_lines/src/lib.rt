@@ -6,7 +6,7 @@ ghost use Prim.Native.Nat.{_+_, _-_, _≤_, _<_};
 ghost use lib.ListN.{length, take, drop};
 ghost use Rattle.format.specs.Basics.{eqs, isEmpty};
 ghost use Rattle.format.specs.TextReader.{lines};
-ghost use Rattle.text_lines.specs.Lines.{lineLength, Next, kept, beginsByte, isKept};
+ghost use Rattle.text_lines.specs.Lines.{lineLength, Next, kept, beginsByte, isKept, isFourLong};
 ghost use Rattle.text_lines.specs.Groups.{partsFrom, RowAt, NextRow, Spaces, ShowsRow, kindOf, NextHead};
 
 // A line: where it starts and ends, and the place after it.
@@ -235,9 +235,9 @@ pub enum Head {
     Done,
 }
 
-// Whether a line of four bytes stands at a place that belongs to the group by its first byte, as the entries of .TEXT do.
-fn is_short_row(t: &[u8], at: usize) -> bool
-    ensures { λ r. ⌜ (r ≡ true → RowAt (now (t .entry)) at at (at + 4) (at + 4 + 1)) ⌝ }
+// Whether an LF stands four bytes after a place.
+pub fn is_four_long(t: &[u8], at: usize) -> bool
+    ensures { λ r. ⌜ r ≡ isFourLong (now (t .entry)) at ⌝ }
 {
     if t.len() < 5 {
         return false;
@@ -245,7 +245,14 @@ fn is_short_row(t: &[u8], at: usize) -> bool
     if t.len() - 5 < at {
         return false;
     }
-    if t[at + 4] != 0x0A {
+    t[at + 4] == 0x0A
+}
+
+// Whether a line of four bytes stands at a place that belongs to the group by its first byte, as the entries of .TEXT do.
+fn is_short_row(t: &[u8], at: usize) -> bool
+    ensures { λ r. ⌜ (r ≡ true → RowAt (now (t .entry)) at at (at + 4) (at + 4 + 1)) ⌝ }
+{
+    if !is_four_long(t, at) {
         return false;
     }
     if t[at] < 0x2F {

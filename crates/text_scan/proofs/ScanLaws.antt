@@ -25,7 +25,7 @@ use Rattle.text_scan.specs.declared.Scanned.{Scanned}
 use Rattle.text_scan.specs.Walk.{blocksRise, Lined, Comes, groupsFrom, GroupsWalked}
 use Rattle.text_scan.proofs.RunLaws.{lined-rise}
 use Rattle.text_scan.proofs.WalkLaws.{groups-read}
-use Rattle.text_scan.specs.Scan.{trimmedObject, refusedScan, Read, Scans}
+use Rattle.text_scan.specs.Scan.{groupsObject, trimmedObject, refusedScan, Read, Scans}
 
 -- NO BLOCK IS MARKED
 getD-zero : (n a : ℕ) → _≡_ {A = ℕ} (getD (replicate n 0) a 0) 0
@@ -74,76 +74,81 @@ module _ (t : List ℕ) (start a e n : ℕ) (l : LineAt kept t start a e n) wher
   pub magic-no : eqs (part a e t) (ascii "LC-3 OBJ FILE") ≡ false → trimmedObject t start ≡ refused 21
   magic-no q = first-line false q
 
-  module _ (q : eqs (part a e t) (ascii "LC-3 OBJ FILE") ≡ true) where
-    magic-yes : trimmedObject t start ≡ (groupsFrom t n emptyObject >>= concluded textQuestions)
-    unfolding groupsFrom partsFrom
-    magic-yes =
-        first-line true q
-        ∙ after-22 (isEmpty (partsAt (beginsWith (ascii ".")) (kept (drop n t)) .before))
-        (foldOutcome parseGroup emptyObject (partsAt (beginsWith (ascii ".")) (kept (drop n t)) .groups)) (concluded textQuestions)
+  magic-yes : eqs (part a e t) (ascii "LC-3 OBJ FILE") ≡ true → trimmedObject t start ≡ groupsObject t n
+  unfolding groupsObject groupsFrom partsFrom
+  magic-yes q =
+      first-line true q
+      ∙ after-22 (isEmpty (partsAt (beginsWith (ascii ".")) (kept (drop n t)) .before))
+      (foldOutcome parseGroup emptyObject (partsAt (beginsWith (ascii ".")) (kept (drop n t)) .groups)) (concluded textQuestions)
 
-    from-groups : (o : Outcome ObjectFile) → groupsFrom t n emptyObject ≡ o → trimmedObject t start ≡ (o >>= concluded textQuestions)
-    from-groups o g = magic-yes ∙ ap (λ (x : Outcome ObjectFile). x >>= concluded textQuestions) g
+  pub scan-magic : eqs (part a e t) (ascii "LC-3 OBJ FILE") ≡ true → (r : Scanned) → Scans t (groupsObject t n) r → Scans t (trimmedObject t start) r
+  scan-magic q r s = subst (λ (o : Outcome ObjectFile). Scans t o r) (sym (magic-yes q)) s
 
-    module _ (w : Walked) (c : GroupsWalked t n w) where
-      abbrev Agreed : ObjectFile → Type 0
-      Agreed h = Lined t (w .sourced) (w .rows) (w .lines) h × Counts h (w .words)
+-- THE GROUPS
+module _ (t : List ℕ) (n : ℕ) where
+  from-groups : (o : Outcome ObjectFile) → groupsFrom t n emptyObject ≡ o → groupsObject t n ≡ (o >>= concluded textQuestions)
+  unfolding groupsObject
+  from-groups o g = ap (λ (x : Outcome ObjectFile). x >>= concluded textQuestions) g
 
-      -- 22 to 30
-      pub scan-groups : (w .number ≡ 0 → ⊥) → trimmedObject t start ≡ refused (w .number)
-      scan-groups ne = go (groupsFrom t n emptyObject) refl c
+  module _ (w : Walked) (c : GroupsWalked t n w) where
+    abbrev Agreed : ObjectFile → Type 0
+    Agreed h = Lined t (w .sourced) (w .rows) (w .lines) h × Counts h (w .words)
+
+    -- 22 to 30
+    pub scan-groups : (w .number ≡ 0 → ⊥) → groupsObject t n ≡ refused (w .number)
+    scan-groups ne = go (groupsFrom t n emptyObject) refl c
+      where
+        go : (o : Outcome ObjectFile) → groupsFrom t n emptyObject ≡ o → Comes Agreed (w .number) o
+            → groupsObject t n ≡ refused (w .number)
+        go (refused m) g s = from-groups (refused m) g ∙ ap refused (sym (s .0))
+        go (given h) g s = absurd (ne (s .0))
+
+    module _ (z : w .number ≡ 0) where
+      groups-given : (h : ObjectFile) × (groupsFrom t n emptyObject ≡ given h) × Agreed h
+      groups-given = go (groupsFrom t n emptyObject) refl c
         where
           go : (o : Outcome ObjectFile) → groupsFrom t n emptyObject ≡ o → Comes Agreed (w .number) o
-              → trimmedObject t start ≡ refused (w .number)
-          go (refused m) g s = from-groups (refused m) g ∙ ap refused (sym (s .0))
-          go (given h) g s = absurd (ne (s .0))
+              → (h : ObjectFile) × (groupsFrom t n emptyObject ≡ given h) × Agreed h
+          go (refused m) g s = absurd (omega (arith, s .0, s .1, z))
+          go (given h) g s = (h, g, s .1)
 
-      module _ (z : w .number ≡ 0) where
-        groups-given : (h : ObjectFile) × (groupsFrom t n emptyObject ≡ given h) × Agreed h
-        groups-given = go (groupsFrom t n emptyObject) refl c
-          where
-            go : (o : Outcome ObjectFile) → groupsFrom t n emptyObject ≡ o → Comes Agreed (w .number) o
-                → (h : ObjectFile) × (groupsFrom t n emptyObject ≡ given h) × Agreed h
-            go (refused m) g s = absurd (omega (arith, s .0, s .1, z))
-            go (given h) g s = (h, g, s .1)
+      concluded-by : (h : ObjectFile) (b : Bool) → blocksRise (h .lineBlocks) ≡ b
+          → concluded textQuestions h ≡ (ask 31 b >>= λ _. given (dropStrayRelocations h))
+      unfolding concluded askAll blocksRise
+      concluded-by h b q = go (every (λ (l : LineBlock). chain leb (l .addresses)) (h .lineBlocks)) b q
+        where
+          go : (x y : Bool) → x ≡ y
+              → ((ask 31 x >>= λ _. given (tt {0})) >>= λ _. given (dropStrayRelocations h))
+              ≡ (ask 31 y >>= λ _. given (dropStrayRelocations h))
+          go true y q = ap (λ (v : Bool). ask 31 v >>= λ _. given (dropStrayRelocations h)) q
+          go false y q = ap (λ (v : Bool). ask 31 v >>= λ _. given (dropStrayRelocations h)) q
 
-        concluded-by : (h : ObjectFile) (b : Bool) → blocksRise (h .lineBlocks) ≡ b
-            → concluded textQuestions h ≡ (ask 31 b >>= λ _. given (dropStrayRelocations h))
-        unfolding concluded askAll blocksRise
-        concluded-by h b q = go (every (λ (l : LineBlock). chain leb (l .addresses)) (h .lineBlocks)) b q
-          where
-            go : (x y : Bool) → x ≡ y
-                → ((ask 31 x >>= λ _. given (tt {0})) >>= λ _. given (dropStrayRelocations h))
-                ≡ (ask 31 y >>= λ _. given (dropStrayRelocations h))
-            go true y q = ap (λ (v : Bool). ask 31 v >>= λ _. given (dropStrayRelocations h)) q
-            go false y q = ap (λ (v : Bool). ask 31 v >>= λ _. given (dropStrayRelocations h)) q
+      concludes : (b : Bool) → (not (w .sourced) || w .lines .rise) ≡ b
+          → groupsObject t n ≡ (ask 31 b >>= λ _. given (dropStrayRelocations (groups-given .0)))
+      concludes b q =
+          from-groups (given (groups-given .0)) (groups-given .1)
+          ∙ concluded-by (groups-given .0) b (sym (lined-rise t (w .sourced) (w .rows) (w .lines) (groups-given .0) (groups-given .2 .0)) ∙ q)
 
-        concludes : (b : Bool) → (not (w .sourced) || w .lines .rise) ≡ b
-            → trimmedObject t start ≡ (ask 31 b >>= λ _. given (dropStrayRelocations (groups-given .0)))
-        concludes b q =
-            from-groups (given (groups-given .0)) (groups-given .1)
-            ∙ concluded-by (groups-given .0) b (sym (lined-rise t (w .sourced) (w .rows) (w .lines) (groups-given .0) (groups-given .2 .0)) ∙ q)
+      -- 31
+      pub scan-fallen : (not (w .sourced) || w .lines .rise) ≡ false → groupsObject t n ≡ refused 31
+      scan-fallen q = concludes false q
 
-        -- 31
-        pub scan-fallen : (not (w .sourced) || w .lines .rise) ≡ false → trimmedObject t start ≡ refused 31
-        scan-fallen q = concludes false q
-
-        pub scan-read : (not (w .sourced) || w .lines .rise) ≡ true
-            → Scans t (trimmedObject t start) (record { number = 0; first = n; end = length t; sourced = w .sourced; rows = w .rows; lines = w .lines; words = w .words })
-        scan-read q =
-            let r : Scanned = record { number = 0; first = n; end = length t; sourced = w .sourced; rows = w .rows; lines = w .lines; words = w .words } in
-            subst (λ (o : Outcome ObjectFile). Scans t o r) (sym (concludes true q))
-            (record {
-              yes = refl;
-              end = refl;
-              inside = l .next;
-              object = groups-given .0;
-              before = groups-read t n emptyObject (groups-given .0) (groups-given .1) .0;
-              groups = groups-read t n emptyObject (groups-given .0) (groups-given .1) .1;
-              lines = groups-given .2 .0;
-              words = groups-given .2 .1;
-              whole = refl;
-            })
+      pub scan-read : n ≤ length t → (not (w .sourced) || w .lines .rise) ≡ true
+          → Scans t (groupsObject t n) (record { number = 0; first = n; end = length t; sourced = w .sourced; rows = w .rows; lines = w .lines; words = w .words })
+      scan-read inside q =
+          let r : Scanned = record { number = 0; first = n; end = length t; sourced = w .sourced; rows = w .rows; lines = w .lines; words = w .words } in
+          subst (λ (o : Outcome ObjectFile). Scans t o r) (sym (concludes true q))
+          (record {
+            yes = refl;
+            end = refl;
+            inside = inside;
+            object = groups-given .0;
+            before = groups-read t n emptyObject (groups-given .0) (groups-given .1) .0;
+            groups = groups-read t n emptyObject (groups-given .0) (groups-given .1) .1;
+            lines = groups-given .2 .0;
+            words = groups-given .2 .1;
+            whole = refl;
+          })
 
 -- a refusal
 pub scans-no : (t : List ℕ) (o : Outcome ObjectFile) (n : ℕ) (r : Scanned) → o ≡ refused n → 0 < n → r ≡ refusedScan n → Scans t o r

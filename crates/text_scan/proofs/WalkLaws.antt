@@ -29,12 +29,13 @@ use Rattle.text_blocks.specs.declared.Text.{Text}
 use Rattle.text_blocks.specs.Blocks.{Seen, blocksLength, Counts, Settles, BlocksChecked}
 use Rattle.text_debug.specs.declared.DebugGroup.{DebugGroup}
 use Rattle.text_debug.specs.declared.Lines.{Lines}
+use Rattle.text_debug.specs.LineTable.{noLines}
 use Rattle.text_debug.specs.DebugGroup.{DebugSettles, DebugChecked}
 use Rattle.text_debug.proofs.RefusalLaws.{Numbered, numbered-need, numbered-ask, numbered-scan}
 use Rattle.text_debug.proofs.DebugGroupLaws.{Kept, Keeps, table-keeps}
 use Rattle.text_scan.specs.declared.Walked.{Walked}
 use Rattle.text_scan.specs.Walk.{lineBlocksOf, sourceOf, Lined, Agrees, Comes, LinesChecked, GroupChecked, DebugWalked}
-use Rattle.text_scan.specs.Walk.{groupsFrom, GroupsWalked}
+use Rattle.text_scan.specs.Walk.{groupsFrom, noGroups, GroupsWalked}
 
 -- from one object to the next: the blocks are marked and counted, the lines stand
 abbrev Stands : List ℕ → ℕ → ObjectFile → ObjectFile → Type 0
@@ -316,6 +317,13 @@ walking-begin t first seen lines s =
     let b : Lined t false 0 lines emptyObject = record { blocks = refl; source = refl; reads = λ z. absurd (true≢false (sym z)); makes = λ z. absurd (true≢false (sym z)) } in
     record { size = refl; object = emptyObject; same = refl; agrees = record { marks = s; counts = refl; lines = b } }
 
+-- as the loop keeps it
+abbrev pub WalkedTo : List ℕ → ℕ → List ℕ → List ℕ → Walked → Type 0
+WalkedTo t first seen₀ seen w = (w .number ≡ 0) × Walking t first seen₀ (w .next) seen (w .sourced) (w .rows) (w .lines) (w .words)
+
+pub walked-begin : (t : List ℕ) (first : ℕ) (seen : List ℕ) (w : Walked) → w ≡ noGroups 0 first → Seen emptyObject seen → WalkedTo t first seen seen w
+walked-begin t first seen w e s = subst (WalkedTo t first seen seen) (sym e) (refl, walking-begin t first seen noLines s)
+
 module _ (t : List ℕ) (first : ℕ) (seen₀ : List ℕ) (at : ℕ) (seen : List ℕ) (sourced : Bool) (rows : ℕ) (lines : Lines) (words : ℕ)
     (w : Walking t first seen₀ at seen sourced rows lines words) where
   settled : (P : ObjectFile → Type 0) (n : ℕ) (o : Outcome ObjectFile) → groupsFrom t at (w .object) ≡ o → Comes P n o
@@ -348,13 +356,12 @@ module _ (t : List ℕ) (first : ℕ) (seen₀ : List ℕ) (at : ℕ) (seen : Li
             (groups-refused t at k n l (w .object) m e) s
         go (given h′) e s = absurd (ne (s .0))
 
-  pub walking-loose : isEmpty (partsFrom t at .before) ≡ false
-      → GroupsWalked t first (record { number = 22; next = at; sourced = sourced; rows = rows; lines = lines; words = words })
+  pub walking-loose : isEmpty (partsFrom t at .before) ≡ false → GroupsWalked t first (noGroups 22 first)
   walking-loose e =
-      settled (λ h. Lined t sourced rows lines h × Counts h words) 22 (refused 22) (groups-loose t at (w .object) e) (refl, omega arith)
+      settled (λ h. Lined t false 0 noLines h × Counts h 0) 22 (refused 22) (groups-loose t at (w .object) e) (refl, omega arith)
 
-  pub walking-done : partsFrom t at ≡ record { before = []; groups = [] }
-      → GroupsWalked t first (record { number = 0; next = at; sourced = sourced; rows = rows; lines = lines; words = words })
-  walking-done e =
-      settled (λ h. Lined t sourced rows lines h × Counts h words) 0 (given (w .object)) (groups-done t at (w .object) e)
-      (refl, (w .agrees .lines, w .agrees .counts))
+  pub walking-done : (number : ℕ) → number ≡ 0 → partsFrom t at ≡ record { before = []; groups = [] }
+      → GroupsWalked t first (record { number = number; next = at; sourced = sourced; rows = rows; lines = lines; words = words })
+  walking-done number z e =
+      settled (λ h. Lined t sourced rows lines h × Counts h words) number (given (w .object)) (groups-done t at (w .object) e)
+      (z, (w .agrees .lines, w .agrees .counts))

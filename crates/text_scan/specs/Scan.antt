@@ -13,7 +13,7 @@ use Rattle.text_lines.specs.Lines.{kept}
 use Rattle.text_lines.specs.Groups.{partsFrom}
 use Rattle.text_blocks.specs.Blocks.{Counts}
 use Rattle.text_debug.specs.LineTable.{noLines}
-use Rattle.text_scan.specs.Walk.{Lined}
+use Rattle.text_scan.specs.Walk.{Lined, groupsFrom}
 use Rattle.text_scan.specs.declared.Scanned.{Scanned}
 
 -- the object of a file that was trimmed, which starts at a place of t: 21, 22, per group, and the last questions
@@ -24,6 +24,10 @@ trimmedObject t start = do
   _ ← ask 22 (isEmpty (parts .before))
   h ← foldOutcome parseGroup emptyObject (parts .groups)
   concluded textQuestions h
+
+-- and from the place after its first kept line on: 22, per group, and the last questions
+unfoldable pub groupsObject : List ℕ → ℕ → Outcome ObjectFile
+groupsObject t first = groupsFrom t first emptyObject >>= concluded textQuestions
 
 -- a refusal: every other value is 0
 abbrev pub refusedScan : ℕ → Scanned

@@ -1,6 +1,6 @@
 -- The walk over the groups of a text file: what it knows of the object so far. Assumes nothing.
 use mathlib.Core.Path.{_≡_}
-use mathlib.Core.Bool.{Bool, true}
+use mathlib.Core.Bool.{Bool, true, false}
 use mathlib.Core.List.{List, [], flatMap}
 use mathlib.Core.Option.{Option, none, some}
 use Prim.Native.Nat.{ℕ, _≤_, _<_}
@@ -15,7 +15,7 @@ use Rattle.text_source.specs.Stream.{sourceCell}
 use Rattle.text_blocks.specs.declared.Text.{Text}
 use Rattle.text_blocks.specs.Blocks.{Seen, Counts}
 use Rattle.text_debug.specs.declared.Lines.{Lines}
-use Rattle.text_debug.specs.LineTable.{sourceIn, Makes}
+use Rattle.text_debug.specs.LineTable.{sourceIn, Makes, noLines}
 use Rattle.text_debug.specs.DebugGroup.{lineBlocksIn}
 use Rattle.text_scan.specs.declared.Walked.{Walked}
 
@@ -79,6 +79,10 @@ pub record DebugWalked (t : List ℕ) (at : ℕ) (sourced : Bool) (rows : ℕ) (
 -- "Every later kept line in a group? 22", "Then per group": from a place on, with an object so far
 unfoldable pub groupsFrom : List ℕ → ℕ → ObjectFile → Outcome ObjectFile
 groupsFrom t at h = ask 22 (isEmpty (partsFrom t at .before)) >>= λ _. foldOutcome parseGroup h (partsFrom t at .groups)
+
+-- no groups, up to a place
+abbrev pub noGroups : ℕ → ℕ → Walked
+noGroups number at = record { number = number; next = at; sourced = false; rows = 0; lines = noLines; words = 0 }
 
 -- all groups from a place on
 abbrev pub GroupsWalked : List ℕ → ℕ → Walked → Type 0

@@ -21,8 +21,8 @@ ghost use Rattle.format.specs.Calls.{refusalOf};
 ghost use Rattle.format.specs.Records.{emptyObject};
 ghost use Rattle.format.specs.TextReader.{textObject};
 ghost use Rattle.text_blocks.specs.Blocks.{Seen};
-ghost use Rattle.text_scan.specs.Walk.{DebugWalked, LinesChecked, GroupChecked, GroupsWalked};
-ghost use Rattle.text_scan.specs.Scan.{trimmedObject, refusedScan, Scans};
+ghost use Rattle.text_scan.specs.Walk.{DebugWalked, LinesChecked, GroupChecked, noGroups, GroupsWalked};
+ghost use Rattle.text_scan.specs.Scan.{groupsObject, trimmedObject, refusedScan, Scans};
 
 // What the groups up to a place come to: their number, the place after them, whether there is a source, where its rows are, what they make, and
 // how many words the blocks have.
@@ -35,18 +35,11 @@ pub struct Walked {
     pub words: usize,
 }
 
-// A .DEBUG group, after groups that had a source or none: 26 to 30.
-fn parse_debug_group(
-    t: &[u8],
-    at: usize,
-    sourced: bool,
-    rows: usize,
-    lines: Lines,
-    words: usize,
-) -> Walked
-    ensures { λ r. ⌜ DebugWalked (now (t .entry)) at sourced rows lines words r ⌝ }
+// A .DEBUG group, after the groups before it: 26 to 30.
+fn parse_debug_group(t: &[u8], at: usize, w: Walked) -> Walked
+    ensures { λ r. ⌜ DebugWalked (now (t .entry)) at (w .sourced) (w .rows) (w .lines) (w .words) r ⌝ }
 {
-    let g = parse_debug(t, at, sourced);
+    let g = parse_debug(t, at, w.sourced);
     if g.lined {
         let own = g.lines;
         return Walked {
@@ -55,16 +48,17 @@ fn parse_debug_group(
             sourced: true,
             rows: g.rows,
             lines: own,
-            words: words,
+            words: w.words,
         };
     }
+    let lines = w.lines;
     Walked {
         number: g.number,
         next: g.next,
-        sourced: sourced,
-        rows: rows,
+        sourced: w.sourced,
+        rows: w.rows,
         lines: lines,
-        words: words,
+        words: w.words,
     }
 }
 
@@ -99,31 +93,38 @@ fn parse_lines(t: &[u8], kind: u8, at: usize, words: usize, seen: &mut [u8]) -> 
     }
 }
 
-// A group of any kind: 23 to 30.
-fn parse_group(
-    t: &[u8],
-    kind: u8,
-    at: usize,
-    sourced: bool,
-    rows: usize,
-    lines: Lines,
-    words: usize,
-    seen: &mut [u8],
-) -> Walked
+// A group of any kind, after the groups before it: 23 to 30.
+fn parse_group(t: &[u8], kind: u8, at: usize, w: Walked, seen: &mut [u8]) -> Walked
     requires { ⌜ 65536 ≤ length (now seen) ⌝ }
-    ensures { λ r. ⌜ GroupChecked (now (t .entry)) kind at sourced rows lines words (now (seen .entry)) (now (seen .exit)) r ⌝ }
+    ensures { λ r. ⌜ GroupChecked (now (t .entry)) kind at (w .sourced) (w .rows) (w .lines) (w .words) (now (seen .entry)) (now (seen .exit)) r ⌝ }
 {
     if kind == 3 {
-        return parse_debug_group(t, at, sourced, rows, lines, words);
+        return parse_debug_group(t, at, w);
     }
-    let g = parse_lines(t, kind, at, words, seen);
+    let g = parse_lines(t, kind, at, w.words, seen);
+    let lines = w.lines;
     Walked {
         number: g.number,
         next: g.next,
-        sourced: sourced,
-        rows: rows,
+        sourced: w.sourced,
+        rows: w.rows,
         lines: lines,
         words: g.words,
+    }
+}
+
+// No groups, up to a place.
+fn no_groups(number: u8, at: usize) -> Walked
+    ensures { λ r. ⌜ r ≡ noGroups number at ⌝ }
+{
+    let lines = no_lines();
+    Walked {
+        number: number,
+        next: at,
+        sourced: false,
+        rows: 0,
+        lines: lines,
+        words: 0,
     }
 }
 
@@ -132,45 +133,19 @@ fn parse_groups(t: &[u8], first: usize, seen: &mut [u8]) -> Walked
     requires { ⌜ (65536 ≤ length (now seen)) × Seen emptyObject (now seen) ⌝ }
     ensures { λ r. ⌜ GroupsWalked (now (t .entry)) first r ⌝ }
 {
-    let mut at = first;
-    let mut sourced = false;
-    let mut rows = 0;
-    let mut lines = no_lines();
-    let mut words = 0;
+    let mut w = no_groups(0, first);
     loop {
-        let head = next_head(t, at);
+        let head = next_head(t, w.next);
         match head {
             Head::Opens { kind, next } => {
-                let g = parse_group(t, kind, next, sourced, rows, lines, words, seen);
+                let g = parse_group(t, kind, next, w, seen);
                 if g.number != 0 {
                     return g;
                 }
-                at = g.next;
-                sourced = g.sourced;
-                rows = g.rows;
-                lines = g.lines;
-                words = g.words;
+                w = g;
             }
-            Head::Loose => {
-                return Walked {
-                    number: 22,
-                    next: at,
-                    sourced: sourced,
-                    rows: rows,
-                    lines: lines,
-                    words: words,
-                };
-            }
-            Head::Done => {
-                return Walked {
-                    number: 0,
-                    next: at,
-                    sourced: sourced,
-                    rows: rows,
-                    lines: lines,
-                    words: words,
-                };
-            }
+            Head::Loose => return no_groups(22, first),
+            Head::Done => return w,
         }
     }
 }
@@ -228,22 +203,11 @@ fn lines_rise(sourced: bool, rise: bool) -> bool
     true
 }
 
-// A file that was trimmed, which starts at a place: 21 to 31.
-fn scan_trimmed(t: &[u8], start: usize) -> Scanned
-    ensures { λ r. ⌜ Scans (now (t .entry)) (trimmedObject (now (t .entry)) start) r ⌝ }
+// The groups of a file, from the place after its first kept line: 22 to 31.
+fn scan_groups(t: &[u8], first: usize) -> Scanned
+    requires { ⌜ first ≤ length (now t) ⌝ }
+    ensures { λ r. ⌜ Scans (now (t .entry)) (groupsObject (now (t .entry)) first) r ⌝ }
 {
-    let Line::At {
-        start: a,
-        end: e,
-        next: first,
-    } = next_kept(t, start)
-    else {
-        return refuse(21);
-    };
-    let magic = MAGIC;
-    if !equals(&t[a..e], &magic) {
-        return refuse(21);
-    }
     let mut seen = [0u8; 65536];
     let w = parse_groups(t, first, &mut seen);
     if w.number != 0 {
@@ -262,6 +226,25 @@ fn scan_trimmed(t: &[u8], start: usize) -> Scanned
         lines: lines,
         words: w.words,
     }
+}
+
+// A file that was trimmed, which starts at a place: 21 to 31.
+fn scan_trimmed(t: &[u8], start: usize) -> Scanned
+    ensures { λ r. ⌜ Scans (now (t .entry)) (trimmedObject (now (t .entry)) start) r ⌝ }
+{
+    let Line::At {
+        start: a,
+        end: e,
+        next: first,
+    } = next_kept(t, start)
+    else {
+        return refuse(21);
+    };
+    let magic = MAGIC;
+    if !equals(&t[a..e], &magic) {
+        return refuse(21);
+    }
+    scan_groups(t, first)
 }
 
 // A text file's scan: its number, 20 to 31, and the places that a reader of its words goes on from.

@@ -1,7 +1,7 @@
 -- Escapes at a cursor.
 -- Assumes nothing.
 use mathlib.Core.Path.{_≡_, refl, sym, ap, _∙_, subst}
-use mathlib.Core.Bool.{Bool, true, false, _&&_}
+use mathlib.Core.Bool.{Bool, true, false, true≢false, _&&_}
 use mathlib.Core.List.{List, [], _∷_, _++_, map, flatMap, append-nil}
 use mathlib.Core.Option.{Option, none, some}
 use Prim.Native.Nat.{ℕ, zero, suc, _+_, _-_, _*_, _^_, _%_, _≤_, _<_}
@@ -10,8 +10,8 @@ use native.Mathlib.Nat.{pow-suc, pow-zero, pow-le-pow-right}
 use native.Mathlib.Numerals.{add-one}
 use lib.ListN.{length, take, drop, getD, length-drop, length-append}
 use lib.Seq.{drop-drop}
-use lib.Dec.{eqb, ltb}
-use borrow.Author.Tests.{lt-ltb, le-ltb, le-leb, lt-leb, eq-eqb, ne-eqb, ltb-true, ltb-false}
+use lib.Dec.{eqb, leb, ltb}
+use borrow.Author.Tests.{lt-ltb, le-ltb, le-leb, lt-leb, eq-eqb, ne-eqb, eqb-true, eqb-false, ltb-true, ltb-false}
 use Rattle.format.specs.Basics.{Outcome, refused, given, _>>=_, ask, beginsWith, ascii, if_then_else_, isSome}
 use Rattle.format.proofs.ListLaws.{flatMap-append}
 use Rattle.format.specs.Tokens.{tokens}
@@ -23,7 +23,7 @@ use Rattle.trim.specs.Span.{part}
 use Rattle.text_lines.proofs.LineLaws.{length-part}
 use Rattle.text_source.specs.Stream.{bytesLeft, sourceFrom, atMost}
 use Rattle.text_source.proofs.StreamLaws.{part-front, part-end, part-most, at-most}
-use Rattle.text_source.specs.Unescape.{escapeByte, EscapeAt, tokensLeft, Plain, TokenAt, NextToken, NextDigits, NextEscape, UnescapedIs}
+use Rattle.text_source.specs.Unescape.{escapeByte, endsEscape, EscapeAt, tokensLeft, Plain, TokenAt, NextToken, NextDigits, NextEscape, UnescapedIs}
 use Rattle.text_source.specs.declared.Unicode.{Unicode}
 use Rattle.text_source.specs.declared.Unicode.the-variants as un
 use Rattle.text_source.specs.declared.Source.{Source}
@@ -120,6 +120,20 @@ from-end : (v : ℕ) → digitsFrom 16 v [] ≡ some v
 unfolding digitsFrom
 from-end v = refl
 
+-- the byte after the digits
+module _ (b n v : ℕ) where
+  pub ends-other : (b ≡ 0x7D → ⊥) → false ≡ endsEscape b n v
+  unfolding endsEscape
+  ends-other h = simp (ne-eqb b 0x7D h)
+
+  pub ends-empty : n ≡ 0 → false ≡ endsEscape b n v
+  unfolding endsEscape
+  ends-empty h = by-test (eqb b 0x7D) (λ t. simp (t, eq-eqb n 0 h)) (λ t. simp t)
+
+  pub ends-scalar : b ≡ 0x7D → (n ≡ 0 → ⊥) → isScalar v ≡ endsEscape b n v
+  unfolding endsEscape
+  ends-scalar h k = simp (eq-eqb b 0x7D h, ne-eqb n 0 k)
+
 module _ (all rest : List ℕ) (n v : ℕ) (i : Digits all rest n v) where
   -- no digit comes next
   module _ (z : hexDigits rest ≡ 0) where
@@ -162,21 +176,37 @@ module _ (all rest : List ℕ) (n v : ℕ) (i : Digits all rest n v) where
     stop : hexDigits rest ≡ 0
     stop = ap hexDigits e ∙ hex-stop b bs h
 
-    pub esc-other : (b ≡ 125 → ⊥) → unicodeEscape (123 ∷ all) ≡ refused 30
+    esc-other : (b ≡ 125 → ⊥) → unicodeEscape (123 ∷ all) ≡ refused 30
     esc-other x = uni-close stop (ap (beginsWith (125 ∷ [])) e ∙ starts-no b bs x)
 
-    pub esc-empty : n ≡ 0 → unicodeEscape (123 ∷ all) ≡ refused 30
+    esc-empty : n ≡ 0 → unicodeEscape (123 ∷ all) ≡ refused 30
     esc-empty z = uni-empty stop z
 
     module _ (x : b ≡ 125) (z : n ≡ 0 → ⊥) where
       close : beginsWith (125 ∷ []) rest ≡ true
       close = ap (beginsWith (125 ∷ [])) e ∙ starts-yes b bs x
 
-      pub esc-bad : isScalar v ≡ false → unicodeEscape (123 ∷ all) ≡ refused 30
+      esc-bad : isScalar v ≡ false → unicodeEscape (123 ∷ all) ≡ refused 30
       esc-bad s = uni-bad stop (omega arith) close s
 
-      pub esc-good : isScalar v ≡ true → (k : ℕ) × (unicodeEscape (123 ∷ all) ≡ given (encodeScalar v, 1 + (1 + k + 1))) × (drop (k + 1) all ≡ bs) × (isScalar v ≡ true)
+      esc-good : isScalar v ≡ true → (k : ℕ) × (unicodeEscape (123 ∷ all) ≡ given (encodeScalar v, 1 + (1 + k + 1))) × (drop (k + 1) all ≡ bs) × (isScalar v ≡ true)
       esc-good s = (n, uni-good stop (omega arith) close s, sym (drop-drop 1 n all) ∙ ap (drop 1) (i .left ∙ e), s)
+
+    -- whether it ends the escape
+    pub esc-no : endsEscape b n v ≡ false → unicodeEscape (123 ∷ all) ≡ refused 30
+    esc-no s =
+        by-test (eqb b 0x7D)
+        (λ p. let x = eqb-true b 0x7D p in
+        by-test (eqb n 0) (λ q. esc-empty (eqb-true n 0 q)) (λ q. let z = eqb-false n 0 q in esc-bad x z (ends-scalar b n v x z ∙ s)))
+        (λ p. esc-other (eqb-false b 0x7D p))
+
+    pub esc-yes : endsEscape b n v ≡ true → (k : ℕ) × (unicodeEscape (123 ∷ all) ≡ given (encodeScalar v, 1 + (1 + k + 1))) × (drop (k + 1) all ≡ bs) × (isScalar v ≡ true)
+    esc-yes s =
+        by-test (eqb b 0x7D)
+        (λ p. let x = eqb-true b 0x7D p in
+        by-test (eqb n 0) (λ q. absurd (true≢false (sym s ∙ sym (ends-empty b n v (eqb-true n 0 q)))))
+        (λ q. let z = eqb-false n 0 q in esc-good x z (ends-scalar b n v x z ∙ s)))
+        (λ p. absurd (true≢false (sym s ∙ sym (ends-other b n v (eqb-false b 0x7D p)))))
 
 module _ (v : ℕ) where
   pub scalar-low : v < 0xD800 → isScalar v ≡ true
@@ -187,13 +217,9 @@ module _ (v : ℕ) where
   unfolding isScalar
   scalar-not h k = simp (le-ltb v 0xD800 h, lt-leb 0xE000 v k)
 
-  pub scalar-big : 0x10FFFF < v → isScalar v ≡ false
+  pub scalar-high : 0xE000 ≤ v → leb v 0x10FFFF ≡ isScalar v
   unfolding isScalar
-  scalar-big h = simp (le-ltb v 0xD800 (omega arith), le-leb 0xE000 v (omega arith), lt-leb v 0x10FFFF h)
-
-  pub scalar-high : 0xE000 ≤ v → v ≤ 0x10FFFF → isScalar v ≡ true
-  unfolding isScalar
-  scalar-high h k = simp (le-ltb v 0xD800 (omega arith), le-leb 0xE000 v h, le-leb v 0x10FFFF k)
+  scalar-high h = simp (le-ltb v 0xD800 (omega arith), le-leb 0xE000 v h)
 
 pub digits-small : (all rest : List ℕ) (n v : ℕ) → Digits all rest n v → (n ≡ 6 → ⊥) → v < 1048576
 digits-small all rest n v i h =
@@ -204,6 +230,11 @@ digits-small all rest n v i h =
     omega arith
 
 -- after a backslash
+pub no-letter : (e : ℕ) → (e ≡ 0x74 → ⊥) → (e ≡ 0x72 → ⊥) → (e ≡ 0x6E → ⊥) → (e ≡ 0x27 → ⊥) → (e ≡ 0x22 → ⊥) → (e ≡ 0x5C → ⊥) → 0 ≡ escapeByte e
+unfolding escapeByte
+no-letter e a b c d f g =
+    simp (ne-eqb 0x74 e (λ q. a (sym q)), ne-eqb 0x72 e (λ q. b (sym q)), ne-eqb 0x6E e (λ q. c (sym q)), ne-eqb 0x27 e (λ q. d (sym q)), ne-eqb 0x22 e (λ q. f (sym q)), ne-eqb 0x5C e (λ q. g (sym q)))
+
 starts1 : (x b : ℕ) (bs : List ℕ) → beginsWith (x ∷ []) (b ∷ bs) ≡ eqb x b
 unfolding beginsWith
 starts1 x b bs = by-test (eqb x b) (λ t. simp t) (λ t. simp t)

@@ -1,7 +1,7 @@
 -- Unescaping the source column, token by token.
 -- Assumes nothing.
 use mathlib.Core.Path.{_≡_}
-use mathlib.Core.Bool.{true}
+use mathlib.Core.Bool.{Bool, true, false}
 use mathlib.Core.List.{List, [], _∷_, _++_, flatMap}
 use Prim.Native.Nat.{ℕ, _+_, _^_, _%_, _≤_, _<_}
 use lib.ListN.{length, drop, getD}
@@ -30,6 +30,10 @@ escapeByte e =
     else if eqb 0x22 e then 0x22
     else if eqb 0x5C e then 0x5C
     else 0
+
+-- a byte after n digits that give v ends an escape
+unfoldable pub endsEscape : ℕ → ℕ → ℕ → Bool
+endsEscape b n v = if eqb b 0x7D then (if eqb n 0 then false else isScalar v) else false
 
 -- an escape after `\u`, and the cursor after it
 pub record EscapeAt (t : List ℕ) (c : Source) (v : ℕ) (d : Source) : Type 0 where
@@ -63,6 +67,10 @@ NextToken t c (tk.Plain b d) = TokenAt t c (b ∷ []) d
 NextToken t c (tk.Scalar v d) = TokenAt t c (encodeScalar v) d × (isScalar v ≡ true)
 NextToken t c tk.Bad = tokensLeft t c ≡ refused 30
 NextToken t c tk.Done = bytesLeft t c ≡ []
+
+-- what comes after a backslash, which stands before the cursor
+abbrev pub Escapes : List ℕ → Source → Token → Type 0
+Escapes t d r = (c : Source) → bytesLeft t c ≡ 0x5C ∷ bytesLeft t d → NextToken t c r
 
 -- the same after the `{`
 abbrev pub NextDigits : List ℕ → Source → Unicode → Type 0

@@ -1,19 +1,17 @@
 // The text reader's source: the bytes of the SOURCE cells as one text, unescaped.
+use std::num::wrapping_add_usize;
 use text_cells::digit;
 use text_cells::third_cell;
 use text_lines::Line;
 use text_tables::next_source_line;
-use trim::Span;
 ghost use mathlib.Core.Path.{_≡_};
 ghost use mathlib.Core.Bool.{false};
-ghost use Prim.Native.Nat.{_+_, _-_, _^_, _%_, _≤_, _<_};
-ghost use mathlib.Core.List.{[]};
-ghost use lib.ListN.{length, getD};
-ghost use Rattle.format.specs.Utf8.{encodeScalar};
-ghost use Rattle.format.specs.TextReader.{splitn, unescape};
-ghost use Rattle.trim.specs.Span.{Spans};
+ghost use Prim.Native.Nat.{_+_, _≤_, _<_};
+ghost use lib.ListN.{length};
+ghost use Rattle.format.specs.Utf8.{encodeScalar, isScalar};
+ghost use Rattle.format.specs.TextReader.{unescape};
 ghost use Rattle.text_source.specs.Stream.{atMost, NextPiece, NextByte, bytesLeft};
-ghost use Rattle.text_source.specs.Unescape.{NextEscape, NextDigits, NextToken, Plain, UnescapedIs, escapeByte};
+ghost use Rattle.text_source.specs.Unescape.{NextEscape, NextDigits, NextToken, Escapes, Plain, UnescapedIs, escapeByte, endsEscape};
 
 // A place in the source column: in a cell, and the place of the next line.
 pub struct Source {
@@ -37,20 +35,13 @@ fn at_most(x: usize, most: usize) -> usize
     x
 }
 
-// The SOURCE cell of a row, which is not trimmed.
-fn source_cell(l: &[u8]) -> Span
-    ensures { λ r. ⌜ Spans (now (l .entry)) (r .start) (r .end) (getD (splitn 2 (now (l .entry))) 2 []) ⌝ }
-{
-    third_cell(l)
-}
-
 // A cursor that is at a byte.
 pub enum Piece {
     At(Source),
     Done,
 }
 
-// The cursor at the next byte of the source column, of whatever cell: a way that stays out of the fast one.
+// The cursor at the next byte of the source column, of whatever cell, none of which is trimmed: a way that stays out of the fast one.
 fn find_piece(t: &[u8], c: Source) -> Piece
     ensures { λ r. ⌜ NextPiece (now (t .entry)) c r ⌝ }
 {
@@ -73,7 +64,7 @@ fn find_piece(t: &[u8], c: Source) -> Piece
         else {
             return Piece::Done;
         };
-        let cell = source_cell(&t[start..stop]);
+        let cell = third_cell(&t[start..stop]);
         at = start + cell.start;
         end = start + cell.end;
         next = n;
@@ -128,6 +119,32 @@ pub enum Token {
     Done,
 }
 
+// Whether it is a scalar value: no surrogate, and not past the last.
+fn is_scalar(v: u32) -> bool
+    ensures { λ r. ⌜ r ≡ isScalar v ⌝ }
+{
+    if v < 0xD800 {
+        return true;
+    }
+    if v < 0xE000 {
+        return false;
+    }
+    v <= 0x10FFFF
+}
+
+// Whether a byte after n digits that give v ends an escape.
+fn ends_escape(b: u8, n: u32, v: u32) -> bool
+    ensures { λ r. ⌜ r ≡ endsEscape b n v ⌝ }
+{
+    if b != 0x7D {
+        return false;
+    }
+    if n == 0 {
+        return false;
+    }
+    is_scalar(v)
+}
+
 // One to six hexadecimal digits and a `}`, after the `{`.
 fn escaped(t: &[u8], c: Source) -> Unicode
     ensures { λ r. ⌜ NextDigits (now (t .entry)) c r ⌝ }
@@ -141,22 +158,10 @@ fn escaped(t: &[u8], c: Source) -> Unicode
         };
         let x = digit(b);
         if 16 <= x {
-            if b != 0x7D {
-                return Unicode::Bad;
-            }
-            if n == 0 {
-                return Unicode::Bad;
-            }
-            if v < 0xD800 {
+            if ends_escape(b, n, v) {
                 return Unicode::Scalar(v, d);
             }
-            if v < 0xE000 {
-                return Unicode::Bad;
-            }
-            if 0x10FFFF < v {
-                return Unicode::Bad;
-            }
-            return Unicode::Scalar(v, d);
+            return Unicode::Bad;
         }
         if n == 6 {
             return Unicode::Bad;
@@ -184,25 +189,35 @@ fn unicode_escape(t: &[u8], c: Source) -> Unicode
 fn escaped_byte(e: u8) -> u8
     ensures { λ r. ⌜ r ≡ escapeByte e ⌝ }
 {
-    if 0x74 == e {
-        return 0x09;
+    match e {
+        0x74 => 0x09,
+        0x72 => 0x0D,
+        0x6E => 0x0A,
+        0x27 => 0x27,
+        0x22 => 0x22,
+        0x5C => 0x5C,
+        _ => 0,
     }
-    if 0x72 == e {
-        return 0x0D;
+}
+
+// What a backslash before a place escapes.
+fn escape(t: &[u8], c: Source) -> Token
+    ensures { λ r. ⌜ Escapes (now (t .entry)) c r ⌝ }
+{
+    let Byte::Is(e, d) = next_byte(t, c) else {
+        return Token::Bad;
+    };
+    let x = escaped_byte(e);
+    if x != 0 {
+        return Token::Plain(x, d);
     }
-    if 0x6E == e {
-        return 0x0A;
+    if e != 0x75 {
+        return Token::Bad;
     }
-    if 0x27 == e {
-        return 0x27;
-    }
-    if 0x22 == e {
-        return 0x22;
-    }
-    if 0x5C == e {
-        return 0x5C;
-    }
-    0
+    let Unicode::Scalar(v, f) = unicode_escape(t, d) else {
+        return Token::Bad;
+    };
+    Token::Scalar(v, f)
 }
 
 // The next byte of the unescaped source, or the scalar value that is escaped there.
@@ -215,20 +230,7 @@ fn one_token(t: &[u8], c: Source) -> Token
     if b != 0x5C {
         return Token::Plain(b, d);
     }
-    let Byte::Is(e, f) = next_byte(t, d) else {
-        return Token::Bad;
-    };
-    let x = escaped_byte(e);
-    if x != 0 {
-        return Token::Plain(x, f);
-    }
-    if e != 0x75 {
-        return Token::Bad;
-    }
-    let Unicode::Scalar(v, g) = unicode_escape(t, f) else {
-        return Token::Bad;
-    };
-    Token::Scalar(v, g)
+    escape(t, d)
 }
 
 // Whether a backslash is among the n bytes from a place on. The loop has no exit in the middle, so that the bytes can be compared at once.
@@ -321,17 +323,6 @@ fn scalar_length(v: u32) -> usize
     4
 }
 
-// So many more, as 64 bits count.
-pub fn more(n: usize, k: usize) -> usize
-    ensures { λ r. ⌜ r ≡ (n + k) % 2 ^ 64 ⌝ }
-{
-    let left = 0xFFFF_FFFF_FFFF_FFFF - n;
-    if left < k {
-        return k - left - 1;
-    }
-    n + k
-}
-
 // What unescaping comes to: the number, and the length of the text, as 64 bits count.
 pub struct Unescaped {
     pub number: u8,
@@ -348,15 +339,15 @@ pub fn unescape(t: &[u8], c: Source) -> Unescaped
         let token = next_token(t, cur);
         match token {
             Token::Plain(_, d) => {
-                n = more(n, 1);
+                n = wrapping_add_usize(n, 1);
                 cur = d;
             }
             Token::Scalar(v, d) => {
-                n = more(n, scalar_length(v));
+                n = wrapping_add_usize(n, scalar_length(v));
                 cur = d;
             }
             Token::Stretch(a, e, d) => {
-                n = more(n, e - a);
+                n = wrapping_add_usize(n, e - a);
                 cur = d;
             }
             Token::Bad => {

@@ -23,27 +23,38 @@ use Rattle.format.proofs.CellLaws.{cells-2, undivided-solid, undivided-left}
 use borrow.Author.Tests.{ne-eqb}
 use Rattle.text_tables.specs.RowCells.{CellAt, DividerAt, Aligned}
 
--- what stands after the first divider begins three bytes after what stands before it
+-- what stands after the first divider begins three bytes after what stands before it, which is no longer than the row
 RestIs : List ℕ → Option (List ℕ × List ℕ) → Type 0
 RestIs bs none = Unit {0}
-RestIs bs (some p) = p .1 ≡ drop (length (p .0) + 3) bs
+RestIs bs (some p) = (p .1 ≡ drop (length (p .0) + 3) bs) × (length (p .0) ≤ length bs)
 
 RestOn : (b : ℕ) (bs : List ℕ) (o : Option (List ℕ × List ℕ)) → RestIs bs o → RestIs (b ∷ bs) (andThen o λ p. some (b ∷ p .0, p .1))
 unfolding RestIs
 RestOn b bs none h = tt
-RestOn b bs (some p) h = let k : suc (length (p .0)) + 3 ≡ suc (length (p .0) + 3) = omega arith in h ∙ sym (ap (λ (j : ℕ). drop j (b ∷ bs)) k)
+RestOn b bs (some p) h =
+    let k : suc (length (p .0)) + 3 ≡ suc (length (p .0) + 3) = omega arith in
+    (h .0 ∙ sym (ap (λ (j : ℕ). drop j (b ∷ bs)) k), omega (arith, h .1))
 
 once-rest : (bs : List ℕ) → RestIs bs (splitOnce bs)
 unfolding RestIs splitOnce ascii
 once-rest [] = tt
 once-rest (b ∷ bs) =
-    by-test (beginsWith (0x20 ∷ 0x7C ∷ 0x20 ∷ []) (b ∷ bs)) (λ u. rw u refl) (λ u. rw u (RestOn b bs (splitOnce bs) (once-rest bs)))
+    by-test (beginsWith (0x20 ∷ 0x7C ∷ 0x20 ∷ []) (b ∷ bs)) (λ u. rw u (refl, omega arith)) (λ u. rw u (RestOn b bs (splitOnce bs) (once-rest bs)))
 
 first-rest : (bs : List ℕ) (o : Option (List ℕ × List ℕ)) → RestIs bs o
     → getD (firstCell bs (λ r. splitn 0 r) o) 1 [] ≡ drop (length (getD (firstCell bs (λ r. splitn 0 r) o) 0 []) + 3) bs
 unfolding RestIs splitn
 first-rest bs none h = sym (drop-of-length-le bs {i = length bs + 3} (omega arith))
-first-rest bs (some p) h = h
+first-rest bs (some p) h = h .0
+
+first-short : (bs : List ℕ) (o : Option (List ℕ × List ℕ)) → RestIs bs o → length (getD (firstCell bs (λ r. splitn 0 r) o) 0 []) ≤ length bs
+unfolding RestIs
+first-short bs none h = omega arith
+first-short bs (some p) h = h .1
+
+short-first : (bs : List ℕ) → length (getD (splitn 1 bs) 0 []) ≤ length bs
+unfolding splitn
+short-first bs = first-short bs (splitOnce bs) (once-rest bs)
 
 rest-by-first : (bs : List ℕ) → getD (splitn 1 bs) 1 [] ≡ drop (length (getD (splitn 1 bs) 0 []) + 3) bs
 unfolding splitn
@@ -62,31 +73,25 @@ unfolding splitn
 cells-two l = cells-of l (splitOnce l)
 
 -- THE FIRST CELL from a place on, and where the row goes on
-module _ (l : List ℕ) (at x y : ℕ) (h : at ≤ length l) (c : Spans (part at (length l) l) x y (getD (splitn 1 (part at (length l) l)) 0 [])) (u : Span)
-    (s : Trimmed trim trimSpan l (at + x) (at + y) u) where
+module _ (l : List ℕ) (at x y : ℕ) (h : at ≤ length l) (c : Spans l x y (getD (splitn 1 (drop at l)) 0 [])) where
+  long : length (getD (splitn 1 (drop at l)) 0 []) ≡ y - x
+  long = sym (ap length (c .same)) ∙ length-part x y l (c .ordered) (c .inside)
+
+  pub cell-room : y - x ≤ length l - at
+  cell-room = omega (arith, long, short-first (drop at l), length-drop at l)
+
+module _ (l : List ℕ) (at x y : ℕ) (h : at ≤ length l) (c : Spans l x y (getD (splitn 1 (drop at l)) 0 [])) (u : Span)
+    (s : Trimmed trim trimSpan l x y u) where
   first : List ℕ
   first = getD (splitn 1 (drop at l)) 0 []
 
-  left : part at (length l) l ≡ drop at l
-  left = to-end l at
-
-  room : y ≤ length l - at
-  room = let d = length-part at (length l) l h (omega arith) in omega (arith, c .inside, d)
-
-  bytes : part (at + x) (at + y) l ≡ first
-  unfolding first
-  bytes =
-      part-inside l at (length l) x y (c .ordered) room ∙ c .same ∙ ap (λ (bs : List ℕ). getD (splitn 1 bs) 0 []) left
-
-  long : length first ≡ y - x
-  long = sym (ap length bytes) ∙ (let a = length-part (at + x) (at + y) l (omega (arith, c .ordered)) (omega (arith, room)) in omega (arith, a))
-
   span : Spans l (u .start) (u .end) (trim first)
-  span = let r = s .1 in record { ordered = r .ordered; inside = r .inside; same = r .same ∙ ap trim bytes }
+  unfolding first
+  span = let r = s .1 in record { ordered = r .ordered; inside = r .inside; same = r .same ∙ ap trim (c .same) }
 
   after : (q : ℕ) → drop q l ≡ drop (y - x + 3) (drop at l) → drop q l ≡ getD (splitn 1 (drop at l)) 1 []
   unfolding first
-  after q e = e ∙ ap (λ (n : ℕ). drop (n + 3) (drop at l)) (sym long) ∙ sym (rest-by-first (drop at l))
+  after q e = e ∙ ap (λ (n : ℕ). drop (n + 3) (drop at l)) (sym (long l at x y h c)) ∙ sym (rest-by-first (drop at l))
 
   pub cell-last : length l - at - (y - x) < 3 → CellAt l at (record { start = u .start; end = u .end; next = length l })
   unfolding first
@@ -104,7 +109,7 @@ module _ (l : List ℕ) (at x y : ℕ) (h : at ≤ length l) (c : Spans (part at
       let k : at + (y - x) + 3 ≡ at + (y - x + 3) = omega arith in
       record {
         cell = span;
-        inside = omega (arith, e);
+        inside = omega (arith, e, h);
         rest = after (at + (y - x) + 3) (ap (λ (j : ℕ). drop j l) k ∙ sym (drop-drop (y - x + 3) at l));
       }
 

@@ -3,7 +3,7 @@ use text_cells::Entry;
 use text_cells::Number;
 use text_cells::cell_is;
 use text_cells::decimal;
-use text_cells::find_cell;
+use text_cells::first_cell;
 use text_cells::hex2u16;
 use text_cells::maybe_hex2u16;
 use text_cells::trimmed_cell;
@@ -18,17 +18,15 @@ use trim::trim;
 ghost use mathlib.Core.Path.{_≡_};
 ghost use mathlib.Core.Bool.{true};
 ghost use mathlib.Core.List.{map};
-ghost use Prim.Native.Nat.{_+_, _-_, _≤_, _<_};
+ghost use Prim.Native.Nat.{_+_, _≤_, _<_};
 ghost use lib.ListN.{length};
-ghost use Rattle.format.specs.Basics.{isSome};
 ghost use Rattle.format.specs.Utf8.{trim};
-ghost use Rattle.format.specs.TextReader.{lines, splitn, sameCells, upToBar};
+ghost use Rattle.format.specs.TextReader.{splitn, sameCells};
 ghost use Rattle.text_tables.specs.Debug.{FirstBar, NextIn, labelView, lineView};
 ghost use Rattle.text_tables.specs.Labels.{LabelIs, NextLabel, LabelsChecked, labelColumns};
 ghost use Rattle.text_tables.specs.LineRows.{lineIn, lineOf};
-ghost use Rattle.text_tables.specs.RowCells.{CellAt, DividerAt, Aligned, IsSpace, Run, WrittenIs};
+ghost use Rattle.text_tables.specs.RowCells.{CellAt, DividerAt, DigitCell, FourVisible, Aligned, IsSpace, Run, BarAfter, WrittenIs};
 ghost use Rattle.format.proofs.TrimLaws.{Visible};
-ghost use Rattle.text_lines.specs.Groups.{partsFrom};
 ghost use Rattle.text_tables.specs.Symbols.{SymIs, NextSymbol, SymbolsChecked, symbolColumns};
 
 // A row of .SYMBOL, and where its name stands.
@@ -89,9 +87,9 @@ fn next_cell(l: &[u8], at: usize) -> Cell
     requires { ⌜ at ≤ length (now l) ⌝ }
     ensures { λ r. ⌜ CellAt (now (l .entry)) at r ⌝ }
 {
-    let c = find_cell(&l[at..], 1, 0);
+    let c = first_cell(l, at, 1);
     let n = c.end - c.start;
-    let s = trim(l, at + c.start, at + c.end);
+    let s = trim(l, c.start, c.end);
     if l.len() - at - n < 3 {
         return Cell {
             start: s.start,
@@ -155,6 +153,40 @@ fn is_divider(l: &[u8], at: usize) -> bool
     l[at + 2] == 0x20
 }
 
+// Whether two spaces and a digit stand where a row of .SYMBOL has them.
+fn has_digit(l: &[u8]) -> bool
+    requires { ⌜ 13 ≤ length (now l) ⌝ }
+    ensures { λ r. ⌜ (r ≡ true → DigitCell (now (l .entry))) ⌝ }
+{
+    if l[7] != 0x20 {
+        return false;
+    }
+    if l[8] != 0x20 {
+        return false;
+    }
+    if l[9] < 0x30 {
+        return false;
+    }
+    l[9] <= 0x39
+}
+
+// Whether the first four bytes of a row are visible.
+fn shows_four(l: &[u8]) -> bool
+    requires { ⌜ 13 ≤ length (now l) ⌝ }
+    ensures { λ r. ⌜ (r ≡ true → FourVisible (now (l .entry))) ⌝ }
+{
+    if !is_visible(l[0]) {
+        return false;
+    }
+    if !is_visible(l[1]) {
+        return false;
+    }
+    if !is_visible(l[2]) {
+        return false;
+    }
+    is_visible(l[3])
+}
+
 // Whether a row of .SYMBOL has its cells where they are written: four visible bytes, and two spaces and a digit.
 fn is_aligned(l: &[u8]) -> bool
     ensures { λ r. ⌜ (r ≡ true → Aligned (now (l .entry))) ⌝ }
@@ -168,28 +200,10 @@ fn is_aligned(l: &[u8]) -> bool
     if !is_divider(l, 10) {
         return false;
     }
-    if l[7] != 0x20 {
+    if !has_digit(l) {
         return false;
     }
-    if l[8] != 0x20 {
-        return false;
-    }
-    if l[9] < 0x30 {
-        return false;
-    }
-    if 0x39 < l[9] {
-        return false;
-    }
-    if !is_visible(l[0]) {
-        return false;
-    }
-    if !is_visible(l[1]) {
-        return false;
-    }
-    if !is_visible(l[2]) {
-        return false;
-    }
-    is_visible(l[3])
+    shows_four(l)
 }
 
 // What a row of .SYMBOL says: in place where the cells are as wide as they are written.
@@ -293,21 +307,6 @@ pub fn first_bar(t: &[u8], from: usize) -> Passed
         if begins_with(&t[start..end], b'=') {
             return Passed::To(next);
         }
-        at = next;
-    }
-}
-
-// Whether the last line of the group begins with `=`.
-pub fn ends_in_bar(t: &[u8], from: usize) -> bool
-    ensures { λ r. ⌜ r ≡ isSome (upToBar (partsFrom (now (t .entry)) from .before)) ⌝ }
-{
-    let mut at = from;
-    let mut bar = false;
-    loop {
-        let Line::At { start, end, next } = next_row(t, at) else {
-            return bar;
-        };
-        bar = begins_with(&t[start..end], b'=');
         at = next;
     }
 }
@@ -417,22 +416,30 @@ pub enum Written {
     Nothing,
 }
 
+// Whether a bar and a space stand at a place, after a space or more.
+fn has_bar(l: &[u8], from: usize, at: usize) -> bool
+    requires { ⌜ (from ≤ at) × (at ≤ length (now l)) ⌝ }
+    ensures { λ r. ⌜ (r ≡ true → BarAfter (now (l .entry)) from at) ⌝ }
+{
+    if at == from {
+        return false;
+    }
+    if l.len() - at < 2 {
+        return false;
+    }
+    if l[at] != 0x7C {
+        return false;
+    }
+    l[at + 1] == 0x20
+}
+
 // A row of visible bytes, spaces, a divider, spaces, and visible bytes.
 fn find_written(l: &[u8]) -> Written
     ensures { λ r. ⌜ WrittenIs (now (l .entry)) r ⌝ }
 {
     let n = visible_end(l, 0);
     let p = spaces_end(l, n);
-    if p == n {
-        return Written::Nothing;
-    }
-    if l.len() - p < 2 {
-        return Written::Nothing;
-    }
-    if l[p] != 0x7C {
-        return Written::Nothing;
-    }
-    if l[p + 1] != 0x20 {
+    if !has_bar(l, n, p) {
         return Written::Nothing;
     }
     let d = spaces_end(l, p + 2);
@@ -553,15 +560,13 @@ pub fn parse_line_row(l: &[u8]) -> LineRow
     ensures { λ r. ⌜ lineOf r ≡ lineIn (now (l .entry)) ⌝ }
 {
     let cells = trimmed_cells(l);
-    let c = cells.first;
-    let c_start = c.start;
-    let c_end = c.end;
+    let c_start = cells.first.start;
+    let c_end = cells.first.end;
     let Number::Value(n) = decimal(&l[c_start..c_end], 0xFFFF_FFFF_FFFF_FFFF) else {
         return LineRow::Bad;
     };
-    let d = cells.second;
-    let d_start = d.start;
-    let d_end = d.end;
+    let d_start = cells.second.start;
+    let d_end = cells.second.end;
     match maybe_hex2u16(&l[d_start..d_end]) {
         Entry::Value(a) => LineRow::Known(n, a),
         Entry::Unknown => LineRow::Unknown(n),

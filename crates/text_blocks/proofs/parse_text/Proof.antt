@@ -1,10 +1,13 @@
 use borrow.Author.Needs.{needs}
 use native.Mathlib.Omega.{arith}
-use mathlib.Core.Path.{refl, subst}
-use Prim.Native.Nat.{_-_, _<_}
+use mathlib.Core.Path.{refl, sym, subst}
+use mathlib.Core.List.{List}
+use Prim.Native.Nat.{ℕ, _-_, _<_}
 use denote.Ref.{now}
 use lib.ListN.{length}
-use Rattle.text_blocks.specs.Blocks.{NextBlock, BlockFrom}
+use Rattle.text_blocks.specs.Blocks.{NextBlock, BlockFrom, BlocksChecked}
+use Rattle.text_blocks.specs.declared.Text.{Text}
+use Rattle.text_blocks.specs.declared.BlockStep.{BlockStep}
 use Rattle.text_blocks.proofs.BlockLaws.{Marking, marking-begin, marking-on, marking-again, marking-bad, marking-end}
 use Rattle.text_lines.proofs.RowLaws.{parts-of}
 use Rattle.text_blocks.proofs.parse_text.Statement.{statement}
@@ -16,52 +19,65 @@ Inv-loop t at words seen₀ i₀ n₀ seen i n = Marking t at words seen₀ i n 
 abbrev μ-loop : tie.MeasureT-loop
 μ-loop t at words seen₀ i₀ n₀ seen i n = length t - i
 
-block : (c : tie.After-step Inv-loop μ-loop) → BlockFrom (now (c .before .before .before .before .before .before .before .args .t)) (c .before .before .before .loop .i) (c .step .given .0 .0) (c .step .given .0 .1 .0) (c .step .given .0 .1 .1 .0) (c .step .given .0 .1 .1 .1 .0)
-block c = subst (NextBlock (now (c .before .before .before .before .before .before .before .args .t)) (c .before .before .before .loop .i)) (c .step .given .1) (c .before .before .next-block .ensures)
+abbrev start : tie.At-loop Inv-loop μ-loop → tie.Start Inv-loop μ-loop
+start l = l .before .before .before .before
 
-loop-holds : tie.Need-loop-holds Inv-loop μ-loop
-loop-holds c = marking-begin _ _ _ _
+abbrev Step : tie.At-loop Inv-loop μ-loop → BlockStep → Type 0
+Step l = NextBlock (now (start l .args .t)) (l .loop .i)
 
-slice-read-if2 : tie.Need-slice-read-if2 Inv-loop μ-loop
-slice-read-if2 c = omega (arith, block (c .before .before) .address, c .before .before .before .before .before .loop .inv .size)
-
-same-length : tie.Need-same-length Inv-loop μ-loop
-same-length c = c .before .before .before .before .before .before .loop .inv .size
+block : (c : tie.After-step Inv-loop μ-loop) → let l = c .before .before .before in
+    BlockFrom (now (start l .args .t)) (l .loop .i) (c .step .given .0 .0) (c .step .given .0 .1 .0) (c .step .given .0 .1 .1 .0) (c .step .given .0 .1 .1 .1 .0)
+block c = subst (Step (c .before .before .before)) (c .step .given .1) (c .before .before .next-block .ensures)
 
 returns : tie.Need-returns Inv-loop μ-loop
-returns c = record { from = omega arith; after = λ z. absurd (omega arith); short = λ z. (refl, refl); settles = λ z. absurd (omega (arith, z, c .if1 .taken)) }
+returns c =
+    subst (BlocksChecked _ _ _ _ _) (sym (c .text-at .ensures))
+    (record { from = omega arith; after = λ z. absurd (omega arith); short = λ z. (refl, refl); settles = λ z. absurd (omega (arith, z, c .before .if1 .taken)) })
+
+-- with marks for all addresses
+long : (l : tie.At-loop Inv-loop μ-loop) → length (now (start l .args .seen)) < 65536 → ⊥
+long l z = omega (arith, z, l .before .if1 .left)
 
 returns-2 : tie.Need-returns-2 Inv-loop μ-loop
-returns-2 c = record { from = omega arith; after = λ z. absurd (omega arith); short = λ z. absurd (omega (arith, z, c .before .before .before .before .before .before .before .if1 .left)); settles = λ z. marking-again _ _ _ _ _ _ _ (c .before .before .before .before .before .before .loop .inv) _ _ _ _ (block (c .before .before .before)) (c .if2 .taken) }
+returns-2 c =
+    let d = c .before .before .before .before in
+    let l = d .before .before .before in
+    subst (BlocksChecked _ _ _ _ _) (sym (c .text-at2 .ensures))
+    (record { from = omega arith; after = λ z. absurd (omega arith); short = λ z. absurd (long l z); settles = λ z. marking-again _ _ _ _ _ _ _ (l .loop .inv) _ _ _ _ (block d) (c .before .if2 .taken) })
 
-slice-write-seen : tie.Need-slice-write-seen Inv-loop μ-loop
-slice-write-seen c = omega (arith, block (c .before .before .before) .address, c .before .before .before .before .before .before .loop .inv .size)
-
-loop-less : tie.Need-loop-less Inv-loop μ-loop
-loop-less c = let k = block (c .before .before .before .before) in omega (arith, k .on, k .inside)
+address-in : (c : tie.After-step Inv-loop μ-loop) → let l = c .before .before .before in c .step .given .0 .0 < length (l .loop .seen)
+address-in c = let l = c .before .before .before in omega (arith, block c .address, l .loop .inv .size, l .before .if1 .left)
 
 loop-again : tie.Need-loop-again Inv-loop μ-loop
-loop-again c = let d = c .before in
-    let k = block (d .before .before .before) in
-    let m = d .before .before .before .before .before .before .loop in
-    let l : d .before .before .before .step .given .0 .0 < length (m .seen) = omega (arith, k .address, m .inv .size) in
-    marking-on _ _ _ _ _ _ _ (m .inv) _ _ _ _ k (d .if2 .left) l _ (c .words-after .ensures)
-
-same-length-2 : tie.Need-same-length-2 Inv-loop μ-loop
-same-length-2 c = c .before .before .before .loop .inv .size
+loop-again c =
+    let d = c .before in
+    let s = d .before .before .before in
+    let l = s .before .before .before in
+    marking-on _ _ _ _ _ _ _ (l .loop .inv) _ _ _ _ (block s) (d .if2 .left) (address-in s) _ (c .wrapping-add-usize .ensures)
 
 returns-3 : tie.Need-returns-3 Inv-loop μ-loop
-returns-3 c = let m = c .before .before .before .loop .inv in
-    let e = subst (NextBlock (now (c .before .before .before .before .before .before .before .args .t)) (c .before .before .before .loop .i)) (c .enum-told .given .1) (c .before .before .next-block .ensures) in
-    record { from = m .from; after = λ z. parts-of _ _ _ e (m .groups); short = λ z. absurd (omega (arith, z, c .before .before .before .before .if1 .left)); settles = λ z. marking-end _ _ _ _ _ _ _ m e }
-
-same-length-3 : tie.Need-same-length-3 Inv-loop μ-loop
-same-length-3 c = c .before .before .before .loop .inv .size
+returns-3 c =
+    let d = c .before in
+    let l = d .before .before .before in
+    let m = l .loop .inv in
+    let e = subst (Step l) (d .enum-told .given .1) (d .before .before .next-block .ensures) in
+    subst (BlocksChecked _ _ _ _ _) (sym (c .text-at3 .ensures))
+    (record { from = m .from; after = λ z. parts-of _ _ _ e (m .groups); short = λ z. absurd (long l z); settles = λ z. marking-end _ _ _ _ _ _ _ m e })
 
 returns-4 : tie.Need-returns-4 Inv-loop μ-loop
-returns-4 c = let m = c .before .before .before .loop .inv in
-    let e = subst (NextBlock (now (c .before .before .before .before .before .before .before .args .t)) (c .before .before .before .loop .i)) (c .enum-told2 .given .1) (c .before .before .next-block .ensures) in
-    record { from = omega arith; after = λ z. absurd (omega arith); short = λ z. absurd (omega (arith, z, c .before .before .before .before .if1 .left)); settles = λ z. marking-bad _ _ _ _ _ _ _ m e }
+returns-4 c =
+    let d = c .before in
+    let l = d .before .before .before in
+    let e = subst (Step l) (d .enum-told2 .given .1) (d .before .before .next-block .ensures) in
+    subst (BlocksChecked _ _ _ _ _) (sym (c .text-at4 .ensures))
+    (record { from = omega arith; after = λ z. absurd (omega arith); short = λ z. absurd (long l z); settles = λ z. marking-bad _ _ _ _ _ _ _ (l .loop .inv) e })
 
 pub parse-text-spec : {M : Type 1} → statement M
-parse-text-spec = tie.close (tie.spec Inv-loop μ-loop returns loop-holds (λ c κs. search needs) (λ c. search needs) (λ c. search needs) slice-read-if2 same-length returns-2 slice-write-seen (λ c κs. search needs) loop-less loop-again (λ c. search needs) same-length-2 returns-3 (λ c. search needs) same-length-3 returns-4)
+parse-text-spec =
+    tie.close
+    (tie.spec Inv-loop μ-loop (λ c κs. search needs) returns (λ c. marking-begin _ _ _ _) (λ c κs. search needs) (λ c. search needs) (λ c. search needs)
+    (λ c. address-in (c .before .before)) (λ c κs. search needs) (λ c. c .before .before .before .before .before .before .before .loop .inv .size) returns-2
+    (λ c. address-in (c .before .before .before)) (λ c. search needs) (λ c. search needs) (λ c κs. search needs)
+    (λ c. let k = block (c .before .before .before .before) in omega (arith, k .on, k .inside)) loop-again
+    (λ c. search needs) (λ c κs. search needs) (λ c. c .before .before .before .before .loop .inv .size) returns-3
+    (λ c. search needs) (λ c κs. search needs) (λ c. c .before .before .before .before .loop .inv .size) returns-4)

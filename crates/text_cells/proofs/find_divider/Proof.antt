@@ -1,12 +1,13 @@
+-- Place by place. Assumes nothing.
 use borrow.Author.Needs.{needs}
 use native.Mathlib.Omega.{arith}
-use mathlib.Core.Path.{_≡_}
-use Prim.Native.Nat.{ℕ, _+_, _-_, _≤_, _<_}
+use mathlib.Core.Path.{_≡_, sym, _∙_}
+use Prim.Native.Nat.{ℕ, _-_, _≤_, _<_}
 use denote.Ref.{now}
 use lib.ListN.{length}
-use mathlib.Core.Logic.{⊎-elim}
 use mathlib.Core.Bool.{false}
-use Rattle.text_cells.proofs.CellLaws.{barAt, bar-yes, bar-no0, bar-no1, bar-no2, cut-at, cut-none, bars-more, bars-end}
+use Rattle.text_cells.specs.Cells.{barAt}
+use Rattle.text_cells.proofs.CellLaws.{cut-at, cut-none, bars-more, bars-end}
 use Rattle.text_cells.proofs.find_divider.Statement.{statement}
 use Rattle.text_cells.proofs.find_divider.Tie as tie
 
@@ -16,23 +17,19 @@ Inv-loop s i₀ i = (i ≤ length s) × ((p : ℕ) → p < i → barAt s p ≡ f
 abbrev μ-loop : tie.MeasureT-loop
 μ-loop s i₀ i = length s - i
 
-loop-holds : tie.Need-loop-holds Inv-loop μ-loop
-loop-holds c = (omega arith, λ p h. absurd (omega arith))
-
 returns : tie.Need-returns Inv-loop μ-loop
-returns c = let s = now (c .before .before .before .before .before .before .before .before .args .s) in
-    let i = c .before .before .before .before .before .before .before .loop .i in
-    let h : i + 2 < length s = omega (arith, c .before .before .before .before .before .before .loop-test .taken) in
-    (omega arith, cut-at s i (omega arith) (c .before .before .before .before .before .before .before .loop .inv .1) (bar-yes s i h (c .before .before .before .before .if1 .taken) (c .before .before .if2 .taken) (c .if3 .taken)))
+returns c =
+    let l = c .before .before .before in
+    let t = c .before .before .loop-test .taken in
+    (omega (arith, t), cut-at (now (l .before .before .args .s)) (l .loop .i) (omega (arith, t)) (l .loop .inv .1) (sym (c .before .is-divider .ensures) ∙ c .if1 .taken))
 
 loop-again : tie.Need-loop-again Inv-loop μ-loop
-loop-again c = let s = now (c .before .before .before .before .args .s) in
-    let i = c .before .before .before .loop .i in
-    let h : i + 2 < length s = omega (arith, c .before .before .loop-test .taken) in
-    (omega arith, bars-more s i (c .before .before .before .loop .inv .1) (⊎-elim (λ w. bar-no2 s i h (w .4 .left)) (λ v. ⊎-elim (λ w. bar-no1 s i h (w .2 .left)) (λ w. bar-no0 s i h (w .left)) v) (c .if1 .came)))
-
-returns-2 : tie.Need-returns-2 Inv-loop μ-loop
-returns-2 c = cut-none _ (bars-end _ _ (c .before .loop .inv .1) (c .loop-test .left))
+loop-again c =
+    let l = c .before .before .before in
+    (omega (arith, c .before .before .loop-test .taken), bars-more (now (l .before .before .args .s)) (l .loop .i) (l .loop .inv .1) (sym (c .before .is-divider .ensures) ∙ c .if1 .left))
 
 pub find-divider-spec : {M : Type 1} → statement M
-find-divider-spec = tie.close (tie.spec Inv-loop μ-loop loop-holds (λ c. search needs) (λ c. search needs) (λ c. search needs) (λ c. search needs) (λ c. search needs) (λ c. search needs) returns (λ c. search needs) (λ c. search needs) loop-again returns-2)
+find-divider-spec =
+    tie.close
+    (tie.spec Inv-loop μ-loop (λ c. (omega arith, λ p h. absurd (omega arith))) (λ c. search needs) (λ c κs. omega (arith, c .loop-test .taken)) returns
+    (λ c. search needs) (λ c. omega (arith, c .before .before .loop-test .taken)) loop-again (λ c. cut-none _ (bars-end _ _ (c .before .loop .inv .1) (c .loop-test .left))))

@@ -9,4 +9,4 @@ pub words-after-spec : {M : Type 1} → statement M
 words-after-spec =
     tie.close
     (tie.spec (λ c. words-none _ _ (c .if1 .taken)) (λ c. omega (arith, c .before .pre)) (λ c κs. search needs)
-    (λ c. c .more .ensures ∙ words-some _ _ (c .before .if1 .left)))
+    (λ c. c .wrapping-add-usize .ensures ∙ words-some _ _ (c .before .if1 .left)))

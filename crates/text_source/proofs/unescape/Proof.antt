@@ -36,20 +36,20 @@ loop-again : tie.Need-loop-again Inv-loop μ-loop
 loop-again c =
     let d = c .before .before in
     let l = d .before .before .before in
-    (omega (arith, c .more .ensures), counted-on _ _ _ _ (plain d) (l .loop .n) 1 _ refl (c .more .ensures) ∙ l .loop .inv .1)
+    (omega (arith, c .wrapping-add-usize .ensures), counted-on _ _ _ _ (plain d) (l .loop .n) 1 _ refl (c .wrapping-add-usize .ensures) ∙ l .loop .inv .1)
 
 loop-again-2 : tie.Need-loop-again-2 Inv-loop μ-loop
 loop-again-2 c =
     let d = c .before .before .before in
     let l = d .before .before .before in
-    (omega (arith, c .more2 .ensures), counted-on _ _ _ _ (scalar d .0) (l .loop .n) _ _ (c .before .scalar-length .ensures) (c .more2 .ensures) ∙ l .loop .inv .1)
+    (omega (arith, c .wrapping-add-usize2 .ensures), counted-on _ _ _ _ (scalar d .0) (l .loop .n) _ _ (c .before .scalar-length .ensures) (c .wrapping-add-usize2 .ensures) ∙ l .loop .inv .1)
 
 loop-again-3 : tie.Need-loop-again-3 Inv-loop μ-loop
 loop-again-3 c =
     let d = c .before .before in
     let l = d .before .before .before in
     let k = stretch d in
-    (omega (arith, c .more3 .ensures), counted-on _ _ _ _ (k .2) (l .loop .n) _ _ (sym (length-part _ _ _ (k .0) (k .1))) (c .more3 .ensures) ∙ l .loop .inv .1)
+    (omega (arith, c .wrapping-add-usize3 .ensures), counted-on _ _ _ _ (k .2) (l .loop .n) _ _ (sym (length-part _ _ _ (k .0) (k .1))) (c .wrapping-add-usize3 .ensures) ∙ l .loop .inv .1)
 
 returns : tie.Need-returns Inv-loop μ-loop
 returns c =

@@ -8,6 +8,7 @@ use Rattle.writing.proofs.Parts.{same, emitted}
 use Rattle.text_cells.specs.Cells.{digitOr16}
 use Rattle.text_lines.specs.Groups.{NextRow, RowAt}
 use Rattle.text_blocks.specs.Blocks.{entryDigit, tableFrom, isTable, EntryAt}
+use Rattle.text_blocks.proofs.EntryLaws.{short-entry-at}
 use Rattle.text_words.specs.Written.{entryWord}
 use Rattle.text_words.proofs.WordLaws.{Putting, putting-begin, putting-none, putting-room, putting-on, putting-end}
 use Rattle.text_words.proofs.put_entries.Statement.{statement}
@@ -26,7 +27,9 @@ loop-holds c = putting-begin _ _ _ _ (c .before .before .pre .0) (c .before .bef
 entry : (c : tie.Then1 Inv-loop μ-loop) → let l = c .before .before .before .before in
     EntryAt (now (l .before .before .before .args .t)) (l .loop .at) (c .before .short-entry .result)
 unfolding isTable tableFrom entryDigit digitOr16
-entry c = c .before .short-entry .ensures refl (c .if1 .taken)
+entry c =
+    let l = c .before .before .before .before in
+    short-entry-at _ _ _ _ (λ k. l .before .shared-slice-known .given k .fits) (c .before .short-entry .ensures) refl (c .if1 .taken)
 
 room : (c : tie.Then1 Inv-loop μ-loop) → let l = c .before .before .before .before .loop in l .i < length (l .out)
 room c =
