@@ -1,18 +1,17 @@
 // Writing the text form: its parts, each a walk along the records of an object that is well formed. Rooms are measured first, so that
 // what is written fits.
 mod lines;
-mod names;
 
 use label_tables::measure_labels;
 use label_tables::measure_symbols;
+use label_windows::put_label_table;
+use label_windows::put_symbol_table;
 use lines::SourcePlan;
 use lines::measure_source;
 use lines::plan_source;
 use lines::put_source;
 use measuring::Room;
 use measuring::take;
-use names::put_label_table;
-use names::put_symbol_table;
 use object::body_end;
 use object::body_len;
 use object::goes_on;

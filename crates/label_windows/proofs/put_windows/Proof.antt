@@ -1,38 +1,41 @@
 -- A window a turn. Assumes nothing.
 use borrow.Author.Needs.{needs}
 use native.Mathlib.Omega.{arith}
-use mathlib.Core.Path.{_≡_, refl, sym, subst, _∙_}
-use mathlib.Core.List.{List, flatMap, _++_}
+use mathlib.Core.Path.{_≡_, refl, sym, ap, subst, _∙_}
+use mathlib.Core.List.{List, [], _++_}
 use Prim.Native.Nat.{ℕ, _+_, _-_, _^_, _<_}
 use lib.ListN.{length, take}
 use denote.Ref.{now}
 use Rattle.gather.specs.Order.{HandsOut}
-use Rattle.writing.proofs.Parts.{State, Emits, after, begin, emit, emitted, within, small, same}
+use Rattle.writing.proofs.Parts.{State, Emits, after, emitted, within, small, same}
+use Rattle.measuring.specs.Fitting.{fitting}
+use Rattle.measuring.proofs.FittingLaws.{fill-begin, fill-more}
 use Rattle.label_order.specs.Order.{left}
-use Rattle.label_tables.specs.Rows.{labelLine}
-use Rattle.label_tables.specs.Tables.{byStart}
-use Rattle.label_tables.proofs.HandedLaws.{handed-few, handed-long, handed-rows, handed-less, handed-last, lent-room}
-use Rattle.text_write.proofs.names.put_label_windows.Statement.{statement}
-use Rattle.text_write.proofs.names.put_label_windows.Tie as tie
+use Rattle.label_tables.proofs.HandedLaws.{handed-few, handed-long, handed-less}
+use Rattle.label_windows.specs.Fits.{lineOf, placesOf}
+use Rattle.label_windows.proofs.FitLaws.{handed-places, handed-over, nothing-fits}
+use Rattle.label_windows.proofs.put_windows.Statement.{statement}
+use Rattle.label_windows.proofs.put_windows.Tie as tie
 
 abbrev Inv-loop : tie.InvT-loop
-Inv-loop out₀ ws win₀ names indices at₀ labels₀ out win at labels =
+Inv-loop out₀ ws t win₀ at₀ labels₀ out win at labels =
     (length win ≡ length win₀)
-    × Emits (flatMap (labelLine names indices ws) (byStart ws)) out₀ (flatMap (labelLine names indices ws) (left ws labels))
+    × Emits (fitting (lineOf t ws) (length out₀) (placesOf t ws)) out₀ (fitting (lineOf t ws) (length out₀ - at) (left ws labels))
     (record { at = at; out = out })
 
 abbrev μ-loop : tie.MeasureT-loop
-μ-loop out₀ ws win₀ names indices at₀ labels₀ out win at labels = length (left ws labels)
+μ-loop out₀ ws t win₀ at₀ labels₀ out win at labels = length (left ws labels)
 
 loop-holds : tie.Need-loop-holds Inv-loop μ-loop
 loop-holds c =
     let start = c .before .before .before .before in
     let ws = now (start .args .ws) in
-    let line = labelLine (start .args .names) (start .args .indices) ws in
+    let line = lineOf (start .args .t) ws in
+    let all = placesOf (start .args .t) ws in
     let out = now (start .args .out) in (
       refl,
-      subst (λ l. Emits (flatMap line (byStart ws)) out (flatMap line l) (record { at = 0; out = out })) (sym (c .new .ensures))
-          (begin (flatMap line (byStart ws)) out (start .pre .1)),
+      subst (λ l. Emits (fitting line (length out) all) out (fitting line (length out - 0) l) (record { at = 0; out = out }))
+          (sym (c .new .ensures)) (fill-begin line all out),
     )
 
 -- a window
@@ -47,7 +50,10 @@ module _ (w : tie.After-next-window Inv-loop μ-loop) where
   ws = now (start .args .ws)
 
   abbrev line : ℕ → List ℕ
-  line = labelLine (start .args .names) (start .args .indices) ws
+  line = lineOf (start .args .t) ws
+
+  abbrev space : List ℕ
+  space = now (start .args .out)
 
   abbrev state : State ℕ
   state = record { at = at-loop .loop .at; out = at-loop .loop .out }
@@ -70,28 +76,27 @@ module _ (w : tie.After-next-window Inv-loop μ-loop) where
   long : length win ≡ length (at-loop .loop .win)
   long = handed-long places (at-loop .loop .win) win others n handed
 
-  split : flatMap line places ≡ flatMap line (take n win) ++ flatMap line others
-  split = handed-rows places (at-loop .loop .win) win others n handed line
-
-  tight : length (now (start .args .out)) < 2 ^ 64
+  tight : length space < 2 ^ 64
   tight = omega arith
 
 -- its rows
-module _ (c : tie.After-put-label-rows Inv-loop μ-loop) where
+module _ (c : tie.After-put-rows Inv-loop μ-loop) where
   abbrev w : tie.After-next-window Inv-loop μ-loop
   w = c .before .before .before .before .before
 
-  emits : Emits (flatMap (line w) (byStart (ws w))) (now (start w .args .out)) (flatMap (line w) (others w))
-      (after (state w) (c .put-label-rows .result) (c .put-label-rows .last .0))
-  emits = emit (at-loop w .loop .inv .1) (flatMap (line w) (take (n w) (win w))) (flatMap (line w) (others w)) (split w)
-      (c .put-label-rows .ensures)
+  emits : Emits (fitting (line w) (length (space w)) (placesOf (start w .args .t) (ws w))) (space w)
+      (fitting (line w) (length (space w) - (at-loop w .loop .at + c .put-rows .result)) (others w))
+      (after (state w) (c .put-rows .result) (c .put-rows .last .0))
+  emits =
+      fill-more (at-loop w .loop .inv .1) (line w) (take (n w) (win w)) (others w) (c .put-rows .last .0) (c .put-rows .result)
+      (ap (fitting (line w) (length (space w) - at-loop w .loop .at))
+      (handed-places (places w) (at-loop w .loop .win) (win w) (others w) (n w) (handed w)))
+      (c .put-rows .ensures)
 
-rows-requires : tie.Need-put-label-rows-requires Inv-loop μ-loop
+rows-requires : tie.Need-put-rows-requires Inv-loop μ-loop
 rows-requires c κs =
-    let w = c .before .before .before .before in (
-      omega (arith, long w, handed-few (places w) (at-loop w .loop .win) (win w) (others w) (n w) (handed w)),
-      lent-room (at-loop w .loop .inv .1) (flatMap (line w) (take (n w) (win w))) (flatMap (line w) (others w)) (split w),
-    )
+    let w = c .before .before .before .before in
+    omega (arith, long w, handed-few (places w) (at-loop w .loop .win) (win w) (others w) (n w) (handed w))
 
 same-length-2 : tie.Need-same-length-2 Inv-loop μ-loop
 same-length-2 c = let r = c .before .before .before .before in long (w r) ∙ at-loop (w r) .loop .inv .0
@@ -99,21 +104,24 @@ same-length-2 c = let r = c .before .before .before .before in long (w r) ∙ at
 returns : tie.Need-returns Inv-loop μ-loop
 returns c =
     let r = c .before .before .before .before in
-    emitted (emits r) (handed-last (places (w r)) (at-loop (w r) .loop .win) (win (w r)) (others (w r)) (n (w r)) (handed (w r))
-    (line (w r))
+    let room : ℕ = length (space (w r)) - (at-loop (w r) .loop .at + r .put-rows .result) in
+    emitted (emits r)
+    (ap (fitting (line (w r)) room)
+    (handed-over (places (w r)) (at-loop (w r) .loop .win) (win (w r)) (others (w r)) (n (w r)) (handed (w r))
     (omega (arith, long (w r), c .if1 .taken)))
+    ∙ nothing-fits (line (w r)) room)
 
 loop-less : tie.Need-loop-less Inv-loop μ-loop
 loop-less c =
     let r = c .before .before .before .before .before in
     handed-less (places (w r)) (at-loop (w r) .loop .win) (win (w r)) (others (w r)) (n (w r)) (handed (w r))
-    (omega (arith, long (w r), c .before .if1 .left, at-loop (w r) .loop .inv .0, start (w r) .pre .0))
+    (omega (arith, long (w r), c .before .if1 .left, at-loop (w r) .loop .inv .0, start (w r) .pre))
 
 loop-again : tie.Need-loop-again Inv-loop μ-loop
 loop-again c = let r = c .before .before .before .before .before in (long (w r) ∙ at-loop (w r) .loop .inv .0, emits r)
 
-pub put-label-windows-spec : {M : Type 1} → statement M
-put-label-windows-spec =
+pub put-windows-spec : {M : Type 1} → statement M
+put-windows-spec =
     tie.close
     (tie.spec
     Inv-loop
