@@ -6,3 +6,4 @@ pub mod GroupLaws
 pub mod FileLaws
 pub mod PlainLaws
 pub mod PastLaws
+pub mod WalkedLaws

@@ -13,18 +13,17 @@ use Rattle.format.specs.Records.{Record, placed, emptyObject}
 use Rattle.format.specs.Words.{isHead}
 use Rattle.format.specs.TextWriter.{hex4, decimal, memoryText, textLine, blockLines, linkerRow}
 use Rattle.format.proofs.ListLaws.{by-test, flatMap-map}
-use Rattle.writing.proofs.EachLaws.{length-flatMap}
 use Rattle.object.specs.Bodies.{bodyAt, textAt, Text}
 use Rattle.object.specs.Texts.{textLen, textBytes}
 use Rattle.object.proofs.ByteLaws.{text-len, text-bytes}
 use Rattle.object.proofs.WordLaws.{head-kind}
-use Rattle.object.proofs.AccessLaws.{relocation-is}
+use Rattle.object.proofs.AccessLaws as access
 use Rattle.source_info.proofs.RecordLaws.{Left, here}
-use Rattle.text_escape.proofs.EscapeLaws.{length-numeral}
 use Rattle.text_rows_out.specs.Rows.{linkerLine}
 use Rattle.object.specs.Access.{memoryIn, addressIn, kindAt, blockAt, relocationAt, recordAt}
-use Rattle.text_rows_out.proofs.RowLaws.{address-length, line-length, memory-length}
-use Rattle.text_write.specs.Tables.{memoryLines, blockTable, blockPart, relocationRows, relocationPart}
+use Rattle.text_parts_out.specs.Parts.{memoryLines, blockText, linkText}
+use Rattle.text_parts_out.proofs.PartLaws.{link-other, link-row}
+use Rattle.text_write.specs.Tables.{blockTable, blockPart, relocationRows, relocationPart}
 use Rattle.text_write.proofs.WalkLaws.{Table}
 
 -- .TEXT
@@ -43,54 +42,19 @@ pub blocks-walk : Table blockTable blockPart
 unfolding blockTable emptyObject flatMap
 blocks-walk = record { none = refl; more = λ ws at rs h. block-more ws at rs }
 
-pub decimal-short : (n : ℕ) → length (decimal n) ≤ 20
-unfolding decimal
-decimal-short n = length-numeral 19 10 n []
-
-pub memory-next : (w : ℕ) (ws : List ℕ) → memoryLines (w ∷ ws) ≡ textLine (memoryText (memoryIn w)) ++ memoryLines ws
-unfolding memoryLines flatMap
-memory-next w ws = refl
-
-pub memory-none : memoryLines [] ≡ []
-unfolding memoryLines flatMap
-memory-none = refl
-
 module _ (ws : List ℕ) (at : ℕ) where
   abbrev body : List ℕ
   body = bodyAt ws (at + 1)
 
-  pub block-other : (kindAt ws at ≡ 0 → ⊥) → blockPart ws at ≡ []
-  unfolding blockPart
-  block-other n = rw (ne-eqb (kindAt ws at) 0 n)
-
-  module _ (e : kindAt ws at ≡ 0) where
-    pub block-parts :
-        blockPart ws at ≡ textLine (hex4 (addressIn (getD ws at 0))) ++ (textLine (decimal (length body)) ++ memoryLines body)
-    unfolding blockPart blockLines memoryLines
-    block-parts =
-        let a = textLine (hex4 (addressIn (getD ws at 0))) in
-        let count : length (map memoryIn body) ≡ length body = length-map body memoryIn in
-        ap (λ (t : Bool). if t then blockLines (blockAt ws at) else []) (eq-eqb (kindAt ws at) 0 e)
-        ∙ append-assoc a (textLine (decimal (length (map memoryIn body)))) (flatMap (λ w. textLine (memoryText w)) (map memoryIn body))
-        ∙ ap (λ (n : ℕ). a ++ (textLine (decimal n) ++ flatMap (λ w. textLine (memoryText w)) (map memoryIn body))) count
-        ∙ ap (λ (r : List ℕ). a ++ (textLine (decimal (length body)) ++ r)) (flatMap-map (λ w. textLine (memoryText w)) memoryIn body)
-
-    pub block-size : length (blockPart ws at) ≡ length (decimal (length body)) + 6 + 5 * length body
-    unfolding memoryLines
-    block-size =
-        let a = textLine (hex4 (addressIn (getD ws at 0))) in
-        let b = textLine (decimal (length body)) in
-        let m : length (memoryLines body) ≡ 5 * length body = length-flatMap
-        (λ w. textLine (memoryText (memoryIn w))) 5 memory-length body in
-        omega (
-          arith,
-          ap length block-parts,
-          length-append a (b ++ memoryLines body),
-          length-append b (memoryLines body),
-          m,
-          address-length (addressIn (getD ws at 0)),
-          line-length (decimal (length body)),
-        )
+  -- the lines of a block by its words
+  pub block-is : kindAt ws at ≡ 0 → blockPart ws at ≡ blockText ws at
+  unfolding blockPart blockLines blockText memoryLines
+  block-is e =
+      let a = textLine (hex4 (addressIn (getD ws at 0))) in
+      let count : length (map memoryIn body) ≡ length body = length-map body memoryIn in
+      ap (λ (t : Bool). if t then blockLines (blockAt ws at) else []) (eq-eqb (kindAt ws at) 0 e)
+      ∙ ap (λ (n : ℕ). a ++ textLine (decimal n) ++ flatMap (λ w. textLine (memoryText w)) (map memoryIn body)) count
+      ∙ ap (λ (r : List ℕ). a ++ textLine (decimal (length body)) ++ r) (flatMap-map (λ w. textLine (memoryText w)) memoryIn body)
 
 -- .LINKER_INFO
 module _ (ws : List ℕ) (at : ℕ) (rs : List Record) where
@@ -113,24 +77,23 @@ pub relocations-walk : Table relocationRows relocationPart
 unfolding relocationRows emptyObject flatMap
 relocations-walk = record { none = refl; more = relocation-more }
 
-module _ (ws : List ℕ) (at : ℕ) where
-  pub relocation-other : (kindAt ws at ≡ 5 → ⊥) → relocationPart ws at ≡ []
-  unfolding relocationPart
-  relocation-other n = rw (ne-eqb (kindAt ws at) 5 n)
-
-  pub relocation-row :
-      (end n : ℕ) → kindAt ws at ≡ 5 → Text (bodyAt ws (at + 1)) → end ≡ at + 1 + length (bodyAt ws (at + 1)) → n ≡ textLen ws
-      (at + 1) end
-      → linkerLine (addressIn (getD ws at 0)) (textBytes ws (at + 1) n) ≡ relocationPart ws at
-  unfolding relocationPart
-  relocation-row end n e t q m =
-      let size : n ≡ length (textAt ws (at + 1)) = m ∙ ap (textLen ws (at + 1)) q ∙ text-len ws (at + 1) t in
-      ap (λ (k : ℕ). linkerLine (addressIn (getD ws at 0)) (textBytes ws (at + 1) k)) size
-      ∙ ap (linkerLine (addressIn (getD ws at 0))) (text-bytes ws (at + 1) t)
-      ∙ sym (ap (λ (b : Bool). if b then textLine (linkerRow (relocationAt ws at)) else []) (eq-eqb (kindAt ws at) 5 e))
+-- the row of a record that is no relocation, or one whose name is a text, by its words
+pub relocation-is :
+    (ws : List ℕ) (at : ℕ) → (kindAt ws at ≡ 5 → Text (bodyAt ws (at + 1))) → linkText ws at ≡ relocationPart ws at
+unfolding relocationPart
+relocation-is ws at f =
+    by-test (eqb (kindAt ws at) 5)
+    (λ t. let e = eqb-true (kindAt ws at) 5 t in
+    let end : ℕ = at + 1 + length (bodyAt ws (at + 1)) in
+    sym (link-row ws at end (textLen ws (at + 1) end) e refl refl)
+    ∙ ap (λ (k : ℕ). linkerLine (addressIn (getD ws at 0)) (textBytes ws (at + 1) k)) (text-len ws (at + 1) (f e))
+    ∙ ap (linkerLine (addressIn (getD ws at 0))) (text-bytes ws (at + 1) (f e))
+    ∙ sym (ap (λ (b : Bool). if b then textLine (linkerRow (relocationAt ws at)) else []) t))
+    (λ t. link-other ws at (eqb-false (kindAt ws at) 5 t)
+    ∙ sym (ap (λ (b : Bool). if b then textLine (linkerRow (relocationAt ws at)) else []) t))
 
 -- the name of a relocation is a text
 pub relocation-name : {A : Type 0} (ws : List ℕ) (F : ObjectFile → A) (at : ℕ) (v : A) → at < length ws → Left ws at F v
     → kindAt ws at ≡ 5
     → Text (bodyAt ws (at + 1))
-relocation-name ws F at v h l e = relocation-is ws at (recordAt ws at) (here ws F at v h l .head) e .1
+relocation-name ws F at v h l e = access.relocation-is ws at (recordAt ws at) (here ws F at v h l .head) e .1

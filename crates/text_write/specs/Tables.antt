@@ -6,16 +6,12 @@ use Rattle.format.specs.Basics.{givenOr, if_then_else_}
 use Rattle.format.specs.ObjectFile.{ObjectFile}
 use Rattle.format.specs.Records.{emptyObject}
 use Rattle.format.specs.Words.{objectOf}
-use Rattle.format.specs.TextWriter.{memoryText, textLine, blockLines, linkerRow}
-use Rattle.object.specs.Access.{memoryIn, kindAt, blockAt, relocationAt}
+use Rattle.format.specs.TextWriter.{textLine, blockLines, linkerRow}
+use Rattle.object.specs.Access.{kindAt, blockAt, relocationAt}
 
 -- the object of well formed words; an empty one of others, which no caller has
 abbrev pub objectIn : List ℕ → ObjectFile
 objectIn ws = givenOr (objectOf ws) emptyObject
-
--- memory words, a line each
-unfoldable pub memoryLines : List ℕ → List ℕ
-memoryLines ws = flatMap (λ w. textLine (memoryText (memoryIn w))) ws
 
 -- the lines of an object's blocks
 unfoldable pub blockTable : ObjectFile → List ℕ

@@ -11,6 +11,7 @@ use Rattle.measuring.proofs.RoomLaws.{part-fits, part-short}
 use Rattle.text_write.specs.Tables.{objectIn, blocksText}
 use Rattle.text_write.specs.Groups.{headLines, groupsText, fileText}
 use Rattle.text_write.proofs.GroupLaws.{file-measured}
+use Rattle.text_write.proofs.WalkedLaws.{blocks-are}
 use Rattle.text_write.proofs.measure_file.Statement.{statement}
 use Rattle.text_write.proofs.measure_file.Tie as tie
 
@@ -51,18 +52,21 @@ module _ (c : tie.After-measure-blocks) where
       part-fits (s k1 .args .room) (lines k1) (blocksText (ws k1) ++ groupsText (ws k1)) refl
       (sym (ap roomOf (c .before .before .a .given .1)) ∙ taken k1) ∙ whole k1
 
+  measured : roomOf (c .measure-blocks .result) ≡ lessPart left1 (blocksText (ws k1))
+  measured = c .measure-blocks .ensures ∙ ap (lessPart left1) (blocks-are (ws k1) (s k1 .pre .0))
+
 returns-2 : tie.Need-returns-2
 returns-2 c =
     let m = c .before .before in
     part-short (left1 m) (blocksText (ws (k1 m))) (groupsText (ws (k1 m))) refl
-    (sym (ap roomOf (c .enum-told2 .given .1)) ∙ m .measure-blocks .ensures) ∙ fits1 m
+    (sym (ap roomOf (c .enum-told2 .given .1)) ∙ measured m) ∙ fits1 m
 
 returns-3 : tie.Need-returns-3
 returns-3 c =
     let m = c .before .before .before .before in
     c .measure-groups .ensures
     ∙ part-fits (left1 m) (blocksText (ws (k1 m))) (groupsText (ws (k1 m))) refl
-    (sym (ap roomOf (c .before .before .b .given .1)) ∙ m .measure-blocks .ensures) ∙ fits1 m
+    (sym (ap roomOf (c .before .before .b .given .1)) ∙ measured m) ∙ fits1 m
 
 pub measure-file-spec : {M : Type 1} → statement M
 measure-file-spec =

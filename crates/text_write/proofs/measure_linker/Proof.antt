@@ -9,6 +9,7 @@ use Rattle.format.specs.ObjectFile.{Relocation}
 use Rattle.measuring.specs.Room.{roomOf, lessPart}
 use Rattle.text_write.specs.Tables.{objectIn, relocationRows, relocationsText}
 use Rattle.text_write.proofs.GroupLaws.{linker-nothing, linker-left, linker-short}
+use Rattle.text_write.proofs.WalkedLaws.{links-are}
 use Rattle.text_write.proofs.measure_linker.Statement.{statement}
 use Rattle.text_write.proofs.measure_linker.Tie as tie
 
@@ -18,7 +19,8 @@ returns c =
     let m = c .before .before in
     let s = m .before .before in
     linker-short (objectIn (now (s .args .ws)) .relocations) (s .args .room)
-    (sym (ap roomOf (c .enum-told .given .1)) ∙ m .measure-relocations .ensures)
+    (sym (ap roomOf (c .enum-told .given .1)) ∙ m .measure-relocations .ensures
+    ∙ ap (lessPart (s .args .room)) (links-are (now (s .args .ws)) (s .args .from) (s .pre)))
 
 -- the rows have room
 module _ (c : tie.After-known-told) where
@@ -33,6 +35,7 @@ module _ (c : tie.After-known-told) where
 
   fits : some left ≡ lessPart (s .args .room) (relocationsText (now (s .args .ws)))
   fits = sym (ap roomOf (c .before .left .given .1)) ∙ c .before .before .before .measure-relocations .ensures
+      ∙ ap (lessPart (s .args .room)) (links-are (now (s .args .ws)) (s .args .from) (s .pre))
 
 returns-2 : tie.Need-returns-2
 unfolding relocationRows
@@ -48,7 +51,7 @@ pub measure-linker-spec : {M : Type 1} → statement M
 measure-linker-spec =
     tie.close
     (tie.spec
-    (λ c κs. c .before .pre)
+    (λ c κs. search needs)
     (λ c. search needs)
     (λ c. search needs)
     returns

@@ -1,19 +1,24 @@
 -- The fixed lines, the label table, a divider line, and the source. Assumes nothing.
 use borrow.Author.Needs.{needs}
 use native.Mathlib.Omega.{arith}
-use mathlib.Core.Path.{refl, sym, ap, subst}
+use mathlib.Core.Path.{_≡_, refl, sym, ap, subst}
 use mathlib.Core.List.{List, [], _++_, append-nil}
-use Prim.Native.Nat.{ℕ, _^_, _<_}
+use Prim.Native.Nat.{ℕ, _^_, _≤_, _<_}
 use lib.ListN.{length}
 use denote.Ref.{now}
 use Rattle.format.specs.Basics.{ascii}
 use Rattle.format.specs.ObjectFile.{ObjectFile}
-use Rattle.format.specs.TextWriter.{labelTable, barLine}
+use Rattle.format.specs.TextWriter.{labelTable, labelHeader, barLine}
 use Rattle.writing.specs.Written.{Put}
 use Rattle.writing.proofs.Parts.{State, Emits, rest, after, begin, emit, emitted, within, small, same}
 use Rattle.text_escape.proofs.EscapeLaws.{part-room}
 use Rattle.text_lines_out.specs.Walk.{sourceTable}
+use Rattle.label_order.specs.Labels.{labelPlaces}
+use Rattle.label_tables.specs.Rows.{labelLine}
+use Rattle.label_tables.specs.Tables.{namesWidth, indicesWidth, byStart, labelsOf}
 use Rattle.label_tables.proofs.TableLaws.{labels-text}
+use Rattle.label_windows.specs.Fits.{tableFitting}
+use Rattle.label_windows.proofs.FitLaws.{table-put}
 use Rattle.text_write.specs.Tables.{objectIn}
 use Rattle.text_write.specs.Groups.{debugLines, sourcePart, debugGroup, debugText}
 use Rattle.text_write.proofs.put_debug.Statement.{statement}
@@ -54,6 +59,19 @@ module _ (c : tie.After-put-bytes) where
   unfolding debugGroup ascii
   emits1 = emit (emits0 start) debugLines left1 refl (c .put-bytes .ensures)
 
+wide : (k : tie.After-shared-slice-known)
+    → (s k .args .p .names ≡ namesWidth (ws k)) × (s k .args .p .indices ≡ indicesWidth (ws k))
+wide k = s k .pre .2 .wide (s k .pre .3)
+
+subst₂ : (P : ℕ → ℕ → Type 0) {a b c d : ℕ} → a ≡ b → c ≡ d → P a c → P b d
+subst₂ P {a} {b} {c} {d} e f p = subst (λ (x : ℕ). P b x) f (subst (λ (x : ℕ). P x c) e p)
+
+labels-fit : (c : tie.After-put-bytes) → length (labelsOf (ws (start c))) ≤ length (rest (state1 c))
+labels-fit c =
+    let k = start c in
+    let table = labelTable (object k .labels) in
+    omega (arith, ap length (labels-text (ws k) (s k .pre .0)), part-room (emits1 c) table (barLine ++ sourcePart (object k)) refl)
+
 module _ (c : tie.After-put-label-table) where
   abbrev put1 : tie.After-put-bytes
   put1 = c .before .before .before .before
@@ -66,7 +84,11 @@ module _ (c : tie.After-put-label-table) where
       let k = start put1 in
       emit (emits1 put1) (labelTable (object k .labels)) (barLine ++ sourcePart (object k)) refl
       (subst (λ (l : List ℕ). Put l (rest (state1 put1)) (c .put-label-table .result) (c .put-label-table .last .0)) (labels-text (ws k) (s k .pre .0))
-      (c .put-label-table .ensures))
+      (table-put (labelHeader (namesWidth (ws k)) (indicesWidth (ws k))) (labelLine (namesWidth (ws k)) (indicesWidth (ws k)) (ws k))
+      (labelPlaces (ws k)) (byStart (ws k)) (rest (state1 put1)) (c .put-label-table .last .0) (c .put-label-table .result) (labels-fit put1)
+      (subst₂ (λ x y. Put (tableFitting (labelHeader x y) (labelLine x y (ws k)) (labelPlaces (ws k)) (byStart (ws k))
+      (length (rest (state1 put1)))) (rest (state1 put1)) (c .put-label-table .result) (c .put-label-table .last .0))
+      (wide k .0) (wide k .1) (c .put-label-table .ensures))))
 
 module _ (c : tie.After-put-bytes2) where
   abbrev put2 : tie.After-put-label-table
@@ -90,14 +112,6 @@ module _ (c : tie.After-put-source) where
       (after (state3 put3) (c .put-source .result) (c .put-source .last .0))
   emits4 = emit (emits3 put3) (sourceTable (ws (from put3))) [] (sym (append-nil _)) (c .put-source .ensures)
 
-put-label-table-requires : tie.Need-put-label-table-requires
-put-label-table-requires c κs =
-    let p = c .before .before .before in
-    let k = start p in
-    let table = labelTable (object k .labels) in
-    let w = s k .pre .2 .wide (s k .pre .3) in
-    (omega (arith, ap length (labels-text (ws k) (s k .pre .0)), part-room (emits1 p) table (barLine ++ sourcePart (object k)) refl), w .0, w .1)
-
 put-source-requires : tie.Need-put-source-requires
 put-source-requires c κs =
     let p = c .before .before .before in
@@ -116,7 +130,7 @@ put-debug-spec =
     (λ c. within (emits1 (c .before .before)))
     (λ c. within (emits1 (c .before .before)))
     (λ c. search needs)
-    put-label-table-requires
+    (λ c κs. search needs)
     (λ c. let p = c .before .before in small (emits2 p) (long (start (put1 p))))
     (λ c. within (emits2 (c .before .before)))
     (λ c. within (emits2 (c .before .before)))

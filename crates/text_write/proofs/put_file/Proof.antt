@@ -7,11 +7,12 @@ use lib.ListN.{length}
 use denote.Ref.{now}
 use Rattle.format.specs.Basics.{ascii}
 use Rattle.format.specs.TextWriter.{textLine}
-use Rattle.writing.proofs.Parts.{State, Emits, after, begin, emit, emitted, within, small, same}
+use Rattle.writing.proofs.Parts.{State, Emits, rest, after, begin, emit, emitted, within, small, same}
 use Rattle.text_escape.proofs.EscapeLaws.{part-room}
 use Rattle.text_write.specs.Tables.{objectIn, blocksText}
 use Rattle.text_write.specs.Groups.{headLines, groupsText, fileText}
 use Rattle.text_write.proofs.GroupLaws.{file-parts}
+use Rattle.text_write.proofs.WalkedLaws.{blocks-put}
 use Rattle.text_write.proofs.put_file.Statement.{statement}
 use Rattle.text_write.proofs.put_file.Tie as tie
 
@@ -57,7 +58,9 @@ module _ (c : tie.After-put-blocks) where
   emits2 : Emits (fileText (ws (start put1))) (room (start put1)) (textLine [] ++ groupsText (ws (start put1))) state2
   emits2 =
       let k = start put1 in
-      emit (emits1 put1) (blocksText (ws k)) (textLine [] ++ groupsText (ws k)) refl (c .put-blocks .ensures)
+      emit (emits1 put1) (blocksText (ws k)) (textLine [] ++ groupsText (ws k)) refl
+      (blocks-put (ws k) (s k .pre .0) (rest (state1 put1)) (c .put-blocks .last .0) (c .put-blocks .result)
+      (part-room (emits1 put1) (blocksText (ws k)) (textLine [] ++ groupsText (ws k)) refl) (c .put-blocks .ensures))
 
 module _ (c : tie.After-put-u8) where
   abbrev put2 : tie.After-put-blocks
@@ -80,11 +83,6 @@ module _ (c : tie.After-put-groups) where
       (after (state3 put3) (c .put-groups .result) (c .put-groups .last .0))
   emits4 = emit (emits3 put3) (groupsText (ws (from put3))) [] (sym (append-nil _)) (c .put-groups .ensures)
 
-put-blocks-requires : tie.Need-put-blocks-requires
-put-blocks-requires c κs =
-    let p = c .before .before .before in
-    let k = start p in (s k .pre .0, part-room (emits1 p) (blocksText (ws k)) (textLine [] ++ groupsText (ws k)) refl)
-
 put-groups-requires : tie.Need-put-groups-requires
 put-groups-requires c κs =
     let p = c .before .before .before in
@@ -103,7 +101,7 @@ put-file-spec =
     (λ c. within (emits1 (c .before .before)))
     (λ c. within (emits1 (c .before .before)))
     (λ c. search needs)
-    put-blocks-requires
+    (λ c κs. search needs)
     (λ c. let p = c .before .before in small (emits2 p) (long (start (put1 p))))
     (λ c. within (emits2 (c .before .before)))
     (λ c. within (emits2 (c .before .before)))

@@ -7,13 +7,14 @@ use lib.ListN.{length}
 use denote.Ref.{now}
 use Rattle.format.specs.Basics.{ascii}
 use Rattle.format.specs.TextWriter.{textLine, linkerHeader}
-use Rattle.writing.proofs.Parts.{State, Emits, after, begin, emit, emitted, within, small, same}
+use Rattle.writing.proofs.Parts.{State, Emits, rest, after, begin, emit, emitted, within, small, same}
 use Rattle.text_escape.proofs.EscapeLaws.{part-room}
 use Rattle.text_write.specs.Tables.{objectIn, relocationRows, relocationsText}
 use Rattle.text_write.specs.Groups.{linkerText}
 use Rattle.text_lines_out.proofs.BlockLaws.{nothing-put}
 use Rattle.text_write.proofs.GroupLaws.{linker-none, linker-some}
 use Rattle.text_write.proofs.PastLaws.{links-none, links-some}
+use Rattle.text_write.proofs.WalkedLaws.{links-put}
 use Rattle.text_write.proofs.put_linker.Statement.{statement}
 use Rattle.text_write.proofs.put_linker.Tie as tie
 
@@ -66,13 +67,12 @@ module _ (c : tie.After-put-relocations) where
 
   emits2 : Emits (linkerText (ws (start put))) (room (start put)) []
       (after (state1 put) (c .put-relocations .result) (c .put-relocations .last .0))
-  emits2 = emit (emits1 put) _ [] (sym (append-nil _)) (c .put-relocations .ensures)
-
-put-relocations-requires : tie.Need-put-relocations-requires
-put-relocations-requires c κs =
-    let p = c .before .before .before in
-    let rows = relocationsText (ws (start p)) in
-    (s (start p) .pre .0, part-room (emits1 p) rows [] (sym (append-nil rows)))
+  emits2 =
+      let k = start put in
+      let rows = relocationsText (ws k) in
+      emit (emits1 put) rows [] (sym (append-nil rows))
+      (links-put (ws k) (s k .args .from) (s k .pre .0) (rest (state1 put)) (c .put-relocations .last .0) (c .put-relocations .result)
+      (part-room (emits1 put) rows [] (sym (append-nil rows))) (c .put-relocations .ensures))
 
 pub put-linker-spec : {M : Type 1} → statement M
 put-linker-spec =
@@ -88,7 +88,7 @@ put-linker-spec =
     (λ c. within (emits1 (c .before .before)))
     (λ c. within (emits1 (c .before .before)))
     (λ c. search needs)
-    put-relocations-requires
+    (λ c κs. search needs)
     (λ c. let p = c .before .before in small (emits2 p) (long (start (put p))))
     (λ c. same (emits2 (c .before .before)))
     (λ c. emitted (emits2 (c .before .before)) refl))

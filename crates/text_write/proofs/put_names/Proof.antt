@@ -3,16 +3,20 @@ use borrow.Author.Needs.{needs}
 use native.Mathlib.Omega.{arith}
 use mathlib.Core.Path.{refl, sym, ap, subst}
 use mathlib.Core.List.{List, [], _++_, append-nil}
-use Prim.Native.Nat.{ℕ, _^_, _<_}
+use Prim.Native.Nat.{ℕ, _^_, _≤_, _<_}
 use lib.ListN.{length}
 use denote.Ref.{now}
 use Rattle.format.specs.Basics.{ascii}
 use Rattle.format.specs.ObjectFile.{ObjectFile}
-use Rattle.format.specs.TextWriter.{textLine, symbolTable}
+use Rattle.format.specs.TextWriter.{textLine, symbolTable, symbolHeader}
 use Rattle.writing.specs.Written.{Put}
 use Rattle.writing.proofs.Parts.{State, Emits, rest, after, begin, emit, emitted, within, small, same}
 use Rattle.text_escape.proofs.EscapeLaws.{part-room}
+use Rattle.label_order.specs.Labels.{labelPlaces}
+use Rattle.label_tables.specs.Rows.{symbolLine}
+use Rattle.label_tables.specs.Tables.{byAddress, symbolsOf}
 use Rattle.label_tables.proofs.TableLaws.{symbols-text}
+use Rattle.label_windows.proofs.FitLaws.{table-put}
 use Rattle.text_write.specs.Tables.{objectIn}
 use Rattle.text_write.specs.Groups.{linkerLines, nameGroups, linkerText, namesText}
 use Rattle.text_write.proofs.put_names.Statement.{statement}
@@ -53,6 +57,12 @@ module _ (c : tie.After-put-bytes) where
   unfolding nameGroups ascii
   emits1 = emit (emits0 start) (textLine (ascii ".SYMBOL")) left1 refl (c .put-bytes .ensures)
 
+symbols-fit : (c : tie.After-put-bytes) → length (symbolsOf (ws (start c))) ≤ length (rest (state1 c))
+symbols-fit c =
+    let k = start c in
+    let table = symbolTable (object k .labels) in
+    omega (arith, ap length (symbols-text (ws k) (s k .pre .0)), part-room (emits1 c) table (linkerLines ++ linkerText (ws k)) refl)
+
 module _ (c : tie.After-put-symbol-table) where
   abbrev put1 : tie.After-put-bytes
   put1 = c .before .before .before .before
@@ -65,7 +75,8 @@ module _ (c : tie.After-put-symbol-table) where
       let k = start put1 in
       emit (emits1 put1) (symbolTable (object k .labels)) (linkerLines ++ linkerText (ws k)) refl
       (subst (λ (l : List ℕ). Put l (rest (state1 put1)) (c .put-symbol-table .result) (c .put-symbol-table .last .0)) (symbols-text (ws k) (s k .pre .0))
-      (c .put-symbol-table .ensures))
+      (table-put symbolHeader (symbolLine (ws k)) (labelPlaces (ws k)) (byAddress (ws k)) (rest (state1 put1)) (c .put-symbol-table .last .0)
+      (c .put-symbol-table .result) (symbols-fit put1) (c .put-symbol-table .ensures)))
 
 module _ (c : tie.After-put-bytes2) where
   abbrev put2 : tie.After-put-symbol-table
@@ -89,13 +100,6 @@ module _ (c : tie.After-put-linker) where
       (after (state3 put3) (c .put-linker .result) (c .put-linker .last .0))
   emits4 = emit (emits3 put3) (linkerText (ws (from put3))) [] (sym (append-nil _)) (c .put-linker .ensures)
 
-put-symbol-table-requires : tie.Need-put-symbol-table-requires
-put-symbol-table-requires c κs =
-    let p = c .before .before .before in
-    let k = start p in
-    let table = symbolTable (object k .labels) in
-    omega (arith, ap length (symbols-text (ws k) (s k .pre .0)), part-room (emits1 p) table (linkerLines ++ linkerText (ws k)) refl)
-
 put-linker-requires : tie.Need-put-linker-requires
 put-linker-requires c κs =
     let p = c .before .before .before in
@@ -114,7 +118,7 @@ put-names-spec =
     (λ c. within (emits1 (c .before .before)))
     (λ c. within (emits1 (c .before .before)))
     (λ c. search needs)
-    put-symbol-table-requires
+    (λ c κs. search needs)
     (λ c. let p = c .before .before in small (emits2 p) (long (start (put1 p))))
     (λ c. within (emits2 (c .before .before)))
     (λ c. within (emits2 (c .before .before)))
