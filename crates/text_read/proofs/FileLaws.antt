@@ -3,15 +3,11 @@ use mathlib.Core.Path.{_≡_, refl, sym, ap, ap₂, _∙_, subst}
 use mathlib.Core.Bool.{Bool, true, false, _&&_, not}
 use mathlib.Core.List.{List, [], _++_, map, flatMap, append-assoc}
 use mathlib.Core.Option.{Option, none, some}
-use Prim.Native.Nat.{ℕ, _-_, _^_, _%_, _≤_, _<_}
+use Prim.Native.Nat.{ℕ, _+_, _-_, _^_, _%_, _≤_, _<_}
 use native.Mathlib.Omega.{arith}
 use lib.ListN.{length, take, length-append, length-take}
 use borrow.Author.Tests.{lt-leb}
 use Rattle.format.specs.Calls.{fill, measured, readText}
-use Rattle.writing.specs.Written.{Put}
-use Rattle.writing.proofs.WriteLaws.{put-fills}
-use Rattle.text_words.specs.Room.{roomAfter}
-use Rattle.text_words.proofs.RoomLaws.{room-is, room-lacks}
 use Rattle.format.specs.Basics.{Outcome, refused, given, _>>=_, if_then_else_, isEmpty, isSome}
 use Rattle.format.specs.Utf8.{trim}
 use Rattle.format.specs.ObjectFile.{Block, Label, LineBlock, ObjectFile, sourceText}
@@ -31,11 +27,12 @@ use Rattle.text_rows.proofs.FileLaws.{PartsOf, text-parts}
 use Rattle.text_labels.specs.Labels.{labelsOf}
 use Rattle.text_labels.proofs.FileLaws.{text-words}
 use Rattle.text_debug.specs.DebugGroup.{lineBlocksIn}
-use Rattle.text_read.specs.Runs.{blockWords}
-use Rattle.text_read.proofs.RunLaws.{runs-words}
+use Rattle.text_runs.specs.Runs.{blockWords}
+use Rattle.text_runs.proofs.RunLaws.{runs-words}
+use Rattle.known_labels.specs.Known.{labelParts}
 use Rattle.text_read.specs.SourceText.{sourceAt, Unescapes, Counted}
-use Rattle.text_read.specs.Parts.{joined, rowParts, labelParts, lineParts, sourceParts, relocationParts, keepsRelocations, objectParts}
-use Rattle.text_read.proofs.PartLaws.{lines-some, from1, from3, from4, joined-parts, joined1, joined2, joined3}
+use Rattle.text_read.specs.Parts.{joined, rowParts, lineParts, sourceParts, relocationParts, keepsRelocations, objectParts, debugWords, fixedWords, restWords}
+use Rattle.text_read.proofs.PartLaws.{lines-some, from1, from3, from4, joined-parts, joined1, joined2, joined3, total-words, debug-is}
 
 -- the words of records, one after the other
 records-joined : (rs : List Record) → flatMap recordWords rs ≡ joined (map recordWords rs)
@@ -223,35 +220,34 @@ module _ (s t : List ℕ) (r : Scanned) (q : Scans t (textObject s) r) (z : r .n
   pub read-inside : r .end ≡ length t
   read-inside = let x = read-given s t r q z in x .2 .end
 
-  pub length-fits : (room : ℕ) → length s ≤ room → none ≡ roomAfter (objectParts (trim s) t (r .sourced) (r .rows)) room → ⊥
-  length-fits room l o = omega (arith, all-few, room-lacks (objectParts (trim s) t (r .sourced) (r .rows)) room o)
+  -- as many words are of blocks, line blocks and source as were counted
+  pub read-fixed : length s < 2 ^ 63 → r .words + debugWords (r .sourced) (r .lines) ≡ fixedWords (trim s) t (r .sourced) (r .rows)
+  read-fixed l = ap₂ (λ (a b : ℕ). a + b) (read-words l) (debug-is (r .sourced) t (r .rows) (r .lines) (read-counted l))
 
-  module _ (room m : ℕ) (o : some m ≡ roomAfter (objectParts (trim s) t (r .sourced) (r .rows)) room) where
-    pub length-left : m ≤ room
-    length-left = omega (arith, room-is (objectParts (trim s) t (r .sourced) (r .rows)) room m o)
+  pub read-few : fixedWords (trim s) t (r .sourced) (r .rows) + restWords (trim s) (r .sourced) ≤ length s
+  read-few = omega (arith, all-few, total-words (trim s) t (r .sourced) (r .rows))
 
-    pub length-given : record { number = 0; len = room - m } ≡ measured (readText s)
-    unfolding measured
-    length-given =
-        let n : room - m ≡ length (joined (objectParts (trim s) t (r .sourced) (r .rows))) =
-        omega (arith, room-is (objectParts (trim s) t (r .sourced) (r .rows)) room m o) in
-        ap (λ (k : ℕ). record { number = 0; len = k }) n ∙ sym (ap measured answer)
+  pub length-given : (n : ℕ) → n ≡ fixedWords (trim s) t (r .sourced) (r .rows) + restWords (trim s) (r .sourced)
+      → record { number = 0; len = n } ≡ measured (readText s)
+  unfolding measured
+  length-given n e =
+      ap (λ (k : ℕ). record { number = 0; len = k }) (e ∙ sym (total-words (trim s) t (r .sourced) (r .rows))) ∙ sym (ap measured answer)
 
-module _ (s t : List ℕ) (r : Scanned) (buffer : List ℕ) (q : Scans t (textObject s) r) (z : r .number ≡ 0) where
-  pub read-short : none ≡ roomAfter (objectParts (trim s) t (r .sourced) (r .rows)) (length buffer)
-      → record { number = 3; len = 0; buffer = buffer } ≡ fill (readText s) buffer
-  unfolding fill
-  read-short o =
-      sym (ap (λ (x : Outcome (List ℕ)). fill x buffer) (answer s t r q z)
-      ∙ rw (lt-leb _ _ (room-lacks (objectParts (trim s) t (r .sourced) (r .rows)) (length buffer) o)) refl)
+  pub read-fill : (buffer : List ℕ) → fill (given (joined (objectParts (trim s) t (r .sourced) (r .rows)))) buffer ≡ fill (readText s) buffer
+  read-fill buffer = sym (ap (λ (x : Outcome (List ℕ)). fill x buffer) answer)
 
-  module _ (m : ℕ) (o : some m ≡ roomAfter (objectParts (trim s) t (r .sourced) (r .rows)) (length buffer)) where
-    pub read-fits : length (joined (objectParts (trim s) t (r .sourced) (r .rows))) ≤ length buffer
-    read-fits = omega (arith, room-is (objectParts (trim s) t (r .sourced) (r .rows)) (length buffer) m o)
+-- a buffer that is too short
+pub fill-short : (ws buffer : List ℕ) → length buffer < length ws → record { number = 3; len = 0; buffer = buffer } ≡ fill (given ws) buffer
+unfolding fill
+fill-short ws buffer h = rw (lt-leb (length ws) (length buffer) h) refl
 
-    pub read-put : (n : ℕ) (after : List ℕ) → Put (joined (objectParts (trim s) t (r .sourced) (r .rows))) buffer n after
-        → record { number = 0; len = n; buffer = after } ≡ fill (readText s) buffer
-    read-put n after w = put-fills _ buffer read-fits w ∙ sym (ap (λ (x : Outcome (List ℕ)). fill x buffer) (answer s t r q z))
+module _ (u t : List ℕ) (sourced : Bool) (rows fixed : ℕ) (e : fixed ≡ fixedWords u t sourced rows) (buffer : List ℕ) where
+  pub fill-lacks : length buffer < fixed + restWords u sourced
+      → record { number = 3; len = 0; buffer = buffer } ≡ fill (given (joined (objectParts u t sourced rows))) buffer
+  fill-lacks h = fill-short _ buffer (omega (arith, h, e, total-words u t sourced rows))
+
+  pub fill-fits : (m : ℕ) → fixed + restWords u sourced + m ≡ length buffer → length (joined (objectParts u t sourced rows)) ≤ length buffer
+  fill-fits m h = omega (arith, h, e, total-words u t sourced rows)
 
 -- THE FILE'S RANGES, as the calls lend them: what trimming leaves, and the file up to the end of it
 module _ (s : List ℕ) (r : Scanned) (q : Scans (take (r .end) s) (textObject s) r) (z : r .number ≡ 0) where
@@ -264,12 +260,33 @@ module _ (s : List ℕ) (r : Scanned) (q : Scans (take (r .end) s) (textObject s
   pub lent-unescapes : r .sourced ≡ true → Unescapes (take (r .end - 0) s) (r .rows)
   lent-unescapes y = subst (λ (t : List ℕ). Unescapes t (r .rows)) cut-is (read-unescapes s (take (r .end) s) r q z y)
 
-  pub lent-counted : length s < 2 ^ 63 → r .sourced ≡ true → Counted (take (r .end - 0) s) (r .rows) (r .lines)
-  lent-counted l y = subst (λ (t : List ℕ). Counted t (r .rows) (r .lines)) cut-is (read-counted s (take (r .end) s) r q z l y)
+  module _ (l : length s < 2 ^ 63) where
+    abbrev fixed : ℕ
+    fixed = r .words + debugWords (r .sourced) (r .lines)
 
-  pub lent-words : length s < 2 ^ 63 → (u : List ℕ) → trim s ≡ u → r .words ≡ length (joined (rowParts 0 u))
-  lent-words l u w = read-words s (take (r .end) s) r q z l ∙ ap (λ (x : List ℕ). length (joined (rowParts 0 x))) w
+    pub lent-small : fixed < 2 ^ 64
+    lent-small = omega (arith, read-fixed s (take (r .end) s) r q z l, read-few s (take (r .end) s) r q z)
 
-  pub lent-parts : (u : List ℕ) → trim s ≡ u
-      → objectParts u (take (r .end - 0) s) (r .sourced) (r .rows) ≡ objectParts (trim s) (take (r .end) s) (r .sourced) (r .rows)
-  lent-parts u w = ap₂ (λ (u t : List ℕ). objectParts u t (r .sourced) (r .rows)) (sym w) (sym cut-is)
+    pub lent-length : r .sourced ≡ true → r .lines .len < 2 ^ 63
+    lent-length y = read-counted s (take (r .end) s) r q z l y .1
+
+    module _ (u : List ℕ) (w : trim s ≡ u) where
+      pub lent-few : fixed + restWords u (r .sourced) < 2 ^ 64
+      lent-few =
+          subst (λ (x : List ℕ). fixed + restWords x (r .sourced) < 2 ^ 64) w
+          (omega (arith, read-fixed s (take (r .end) s) r q z l, read-few s (take (r .end) s) r q z))
+
+      pub lent-given : (n : ℕ) → n ≡ fixed + restWords u (r .sourced) → record { number = 0; len = n } ≡ measured (readText s)
+      lent-given n e =
+          length-given s (take (r .end) s) r q z n
+          (e ∙ ap₂ (λ (a : ℕ) (x : List ℕ). a + restWords x (r .sourced)) (read-fixed s (take (r .end) s) r q z l) (sym w))
+
+      pub lent-fixed : fixed ≡ fixedWords u (take (r .end - 0) s) (r .sourced) (r .rows)
+      lent-fixed =
+          read-fixed s (take (r .end) s) r q z l ∙ ap₂ (λ (u t : List ℕ). fixedWords u t (r .sourced) (r .rows)) w cut-is
+
+  pub lent-fill : (u : List ℕ) → trim s ≡ u → (buffer : List ℕ)
+      → fill (given (joined (objectParts u (take (r .end - 0) s) (r .sourced) (r .rows)))) buffer ≡ fill (readText s) buffer
+  lent-fill u w buffer =
+      ap₂ (λ (u t : List ℕ). fill (given (joined (objectParts u t (r .sourced) (r .rows)))) buffer) (sym w) (sym cut-is)
+      ∙ read-fill s (take (r .end) s) r q z buffer

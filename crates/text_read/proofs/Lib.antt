@@ -1,4 +1,3 @@
-pub mod RunLaws
 pub mod TextLaws
 pub mod PartLaws
 pub mod FileLaws

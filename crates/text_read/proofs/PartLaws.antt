@@ -1,32 +1,36 @@
 -- The five parts of a text file's object: where they are empty, and the room that they leave. Assumes nothing.
 use mathlib.Core.Path.{_≡_, refl, sym, ap, _∙_}
 use mathlib.Core.Bool.{Bool, true, false, _&&_, _||_, not}
-use mathlib.Core.List.{List, [], _∷_, _++_, map, flatMap}
+use mathlib.Core.List.{List, [], _∷_, _++_, map, flatMap, append-assoc, append-nil}
 use mathlib.Core.Option.{Option, none, some}
-use Prim.Native.Nat.{ℕ, suc, _+_, _-_, _/_, _≤_}
+use Prim.Native.Nat.{ℕ, suc, _+_, _-_, _/_, _≤_, _<_}
 use native.Mathlib.Omega.{arith}
-use lib.ListN.{length}
-use lib.Dec.{eqb}
-use borrow.Author.Tests.{ne-eqb}
-use Rattle.format.specs.Basics.{isEmpty}
+use lib.ListN.{length, length-append}
+use lib.Dec.{eqb, leb}
+use borrow.Author.Tests.{ne-eqb, leb-true, leb-false}
+use Rattle.format.specs.Basics.{isEmpty, andThen, if_then_else_}
 use Rattle.format.specs.ObjectFile.{Label}
 use Rattle.format.specs.Records.{label, sourceRecords}
 use Rattle.format.specs.Words.{textWords, recordWords}
-use Rattle.format.proofs.ListLaws.{flatMap-append}
+use Rattle.format.proofs.ListLaws.{flatMap-append, by-test}
 use Rattle.writing.specs.Written.{Put}
+use Rattle.writing.proofs.Parts.{State, Emits, rest, after, emit}
 use Rattle.writing.proofs.TextLaws.{length-words}
+use Rattle.text_runs.proofs.RunLaws.{room-for}
 use Rattle.text_tables.specs.Debug.{lineView}
 use Rattle.text_debug.specs.DebugGroup.{lineBlocksIn}
 use Rattle.text_scan.specs.Walk.{lineBlocksOf, sourceOf}
 use Rattle.text_labels.specs.Labels.{labelsOf}
 use Rattle.text_words.specs.Written.{putEach, PutEach}
 use Rattle.text_words.specs.Room.{roomFor, roomAfter}
-use Rattle.text_words.proofs.RoomLaws.{room-short, room-left, room-one, rooms-none, rooms-short, rooms-on, room-is, room-lacks}
+use Rattle.text_words.proofs.RoomLaws.{room-is, room-lacks}
 use Rattle.text_words.proofs.PutLaws.{put-fits}
-use Rattle.text_read.specs.Runs.{blockWords}
-use Rattle.text_read.specs.SourceText.{sourceAt}
-use Rattle.text_read.specs.Parts.{joined, rowParts, labelParts, lineParts, linesRoom, sourceParts, sourceRoom, relocationParts}
-use Rattle.text_read.specs.Parts.{keepsRelocations, objectParts}
+use Rattle.text_runs.specs.Runs.{blockWords}
+use Rattle.known_labels.specs.Known.{labelParts}
+use Rattle.text_debug.specs.declared.Lines.{Lines}
+use Rattle.text_read.specs.SourceText.{sourceAt, Counted}
+use Rattle.text_read.specs.Parts.{joined, rowParts, lineParts, sourceParts, relocationParts, keepsRelocations, objectParts}
+use Rattle.text_read.specs.Parts.{frontParts, backParts, debugWords, fixedWords, restWords, othersRoom}
 
 module _ (sourced : Bool) (t : List ℕ) (rows : ℕ) where
   pub lines-none : sourced ≡ false → lineParts sourced t rows ≡ []
@@ -72,67 +76,60 @@ pub same-each : (ps qs : List (List ℕ)) (room : List ℕ) (r : ℕ) (after : L
     → PutEach qs room r after
 same-each ps qs room r after w e = w ∙ ap (λ (x : List (List ℕ)). putEach x 0 room) e
 
-pub same-room : (ps qs : List (List ℕ)) (room : ℕ) (o : Option ℕ) → o ≡ roomAfter ps room → ps ≡ qs → o ≡ roomAfter qs room
-same-room ps qs room o w e = w ∙ ap (λ (x : List (List ℕ)). roomAfter x room) e
+-- parts at the front of what is left
+pub emit-each : {whole room left : List ℕ} {s : State ℕ} (f : Emits whole room left s) (ps : List (List ℕ)) (left′ : List ℕ) {ys : List ℕ} {r : ℕ}
+    → left ≡ joined ps ++ left′ → PutEach ps (rest s) r ys → Emits whole room left′ (after s r ys)
+emit-each {s = s} f ps left′ {ys = ys} {r = r} e w = emit f (joined ps) left′ e (put-fits ps (rest s) r ys (room-for f (joined ps) left′ e) w)
 
--- THE BLOCKS' ROOM, AND THE LINE BLOCKS'
-room-all : (ps : List (List ℕ)) (room : ℕ) → roomFor (length (joined ps)) room ≡ roomAfter ps room
-unfolding roomFor
-room-all ps room = go (roomAfter ps room) refl
-  where
-    go : (o : Option ℕ) → o ≡ roomAfter ps room → roomFor (length (joined ps)) room ≡ roomAfter ps room
-    go none e = sym (room-short (length (joined ps)) room (room-lacks ps room e)) ∙ e
-    go (some m) e =
-        sym (room-left (length (joined ps)) room m (omega (arith, room-is ps room m e)) (omega (arith, room-is ps room m e))) ∙ e
+-- HOW MANY WORDS line blocks and source have
+pub debug-is : (sourced : Bool) (t : List ℕ) (rows : ℕ) (lines : Lines) → (sourced ≡ true → Counted t rows lines)
+    → debugWords sourced lines ≡ length (joined (lineParts sourced t rows)) + length (joined (sourceParts sourced t rows))
+unfolding debugWords flatMap
+debug-is true t rows lines q =
+    let c = q refl in
+    let m : ℕ = length (sourceAt t rows) in
+    let size : length (joined (sourceParts true t rows)) ≡ suc ((m + 2) / 3) =
+    ap (λ (ps : List (List ℕ)). length (joined ps)) (source-some true t rows refl) ∙ ap (λ (k : List ℕ). length (0x8000_0000 ∷ k)) (append-nil (textWords (sourceAt t rows)))
+    ∙ ap suc (length-words (sourceAt t rows)) in
+    let same : lines .words ≡ length (joined (lineParts true t rows)) =
+    c .2 ∙ ap (λ (ps : List (List ℕ)). length (joined ps)) (lines-some true t rows refl) in
+    omega (arith, size, same, c .0)
+debug-is false t rows lines q =
+    let a : length (joined (lineParts false t rows)) ≡ 0 = ap (λ (ps : List (List ℕ)). length (joined ps)) (lines-none false t rows refl) in
+    let b : length (joined (sourceParts false t rows)) ≡ 0 = ap (λ (ps : List (List ℕ)). length (joined ps)) (source-none false t rows refl) in
+    omega (arith, a, b)
 
--- the blocks' room, of so many words
-pub blocks-room-is : (u : List ℕ) (words room : ℕ) → words ≡ length (joined (rowParts 0 u)) → roomFor words room ≡ roomAfter (rowParts 0 u) room
-blocks-room-is u words room q = ap (λ (n : ℕ). roomFor n room) q ∙ room-all (rowParts 0 u) room
+pub debug-none : (sourced : Bool) (lines : Lines) (words : ℕ) → sourced ≡ false → words ≡ words + debugWords sourced lines
+unfolding debugWords
+debug-none sourced lines words e = rw e (omega arith)
 
-pub lines-room-none : (sourced : Bool) (words room : ℕ) → sourced ≡ false → some room ≡ linesRoom sourced words room
-unfolding linesRoom
-lines-room-none sourced words room e = simp e
+pub debug-some : (sourced : Bool) (lines : Lines) → sourced ≡ true → lines .words + (1 + (lines .len + 2) / 3) ≡ debugWords sourced lines
+unfolding debugWords
+debug-some sourced lines e = rw e refl
 
-pub lines-room-some : (sourced : Bool) (words room : ℕ) → sourced ≡ true → roomFor words room ≡ linesRoom sourced words room
-unfolding linesRoom
-lines-room-some sourced words room e = simp e
+-- THE ROOM after n words and parts
+module _ (n : ℕ) (ps : List (List ℕ)) (room : ℕ) where
+  pub others-short : none ≡ roomFor n room → none ≡ othersRoom n ps room
+  unfolding othersRoom
+  others-short o = ap (λ (x : Option ℕ). andThen x λ left. roomAfter ps left) o
 
-pub lines-room-is : (sourced : Bool) (t : List ℕ) (rows words room : ℕ)
-    → (sourced ≡ true → words ≡ length (joined (blockWords (lineBlocksIn (lineView t rows .0)))))
-    → linesRoom sourced words room ≡ roomAfter (lineParts sourced t rows) room
-unfolding linesRoom
-lines-room-is true t rows words room q =
-    ap (λ (n : ℕ). roomFor n room) (q refl ∙ ap (λ (ps : List (List ℕ)). length (joined ps)) (lines-some true t rows refl))
-    ∙ room-all (lineParts true t rows) room
-lines-room-is false t rows words room q = rooms-none _ room (lines-none false t rows refl)
+  pub others-on : (left : ℕ) → some left ≡ roomFor n room → (o : Option ℕ) → o ≡ roomAfter ps left → o ≡ othersRoom n ps room
+  unfolding othersRoom
+  others-on left e o w = w ∙ ap (λ (x : Option ℕ). andThen x λ left. roomAfter ps left) e
 
--- THE SOURCE'S ROOM
-module _ (sourced : Bool) (t : List ℕ) (rows : ℕ) (e : sourced ≡ true) (room : ℕ) where
-  size : length (0x8000_0000 ∷ textWords (sourceAt t rows)) ≡ suc ((length (sourceAt t rows) + 2) / 3)
-  size = ap suc (length-words (sourceAt t rows))
+  pub others-lack : none ≡ othersRoom n ps room → room < n + length (joined ps)
+  unfolding othersRoom roomFor
+  others-lack o =
+      by-test (leb n room)
+      (λ e. let k : none ≡ roomAfter ps (room - n) = rw e at o in omega (arith, room-lacks ps (room - n) k, leb-true n room e))
+      (λ e. omega (arith, leb-false n room e))
 
-  source-counted : (n : ℕ) → n ≡ length (sourceAt t rows) → (o : Option ℕ) → o ≡ roomFor (1 + (n + 2) / 3) room
-      → o ≡ roomAfter (sourceParts sourced t rows) room
-  source-counted n q o w =
-      let m : ℕ = length (sourceAt t rows) in
-      let z : 1 + (n + 2) / 3 ≡ suc ((m + 2) / 3) = omega (arith, q) in
-      same-room _ _ room o
-      (room-one (0x8000_0000 ∷ textWords (sourceAt t rows)) room o (w ∙ ap (λ (k : ℕ). roomFor k room) (z ∙ sym size)))
-      (sym (source-some sourced t rows e))
-
-pub source-room-none : (sourced : Bool) (len room : ℕ) → sourced ≡ false → some room ≡ sourceRoom sourced len room
-unfolding sourceRoom
-source-room-none sourced len room e = simp e
-
-pub source-room-some : (sourced : Bool) (len room : ℕ) → sourced ≡ true → roomFor (1 + (len + 2) / 3) room ≡ sourceRoom sourced len room
-unfolding sourceRoom
-source-room-some sourced len room e = simp e
-
-pub source-room-is : (sourced : Bool) (t : List ℕ) (rows len room : ℕ) → (sourced ≡ true → len ≡ length (sourceAt t rows))
-    → sourceRoom sourced len room ≡ roomAfter (sourceParts sourced t rows) room
-unfolding sourceRoom
-source-room-is true t rows len room q = source-counted true t rows refl room len (q refl) _ refl
-source-room-is false t rows len room q = rooms-none _ room (source-none false t rows refl)
+  pub others-left : (m : ℕ) → some m ≡ othersRoom n ps room → n + length (joined ps) + m ≡ room
+  unfolding othersRoom roomFor
+  others-left m o =
+      by-test (leb n room)
+      (λ e. let k : some m ≡ roomAfter ps (room - n) = rw e at o in omega (arith, room-is ps (room - n) m k, leb-true n room e))
+      (λ e. let k : some m ≡ none = rw e at o in let z : _≡_ {A = ℕ} 0 1 = cc in absurd (let w : ⊥ = omega arith in w))
 
 -- RELOCATIONS are kept where there are words of labels, or a source
 labels-words : (ls : List Label) → isEmpty ls ≡ eqb (length (joined (map recordWords (map label ls)))) 0
@@ -186,40 +183,58 @@ module _ (u t : List ℕ) (sourced : Bool) (rows : ℕ) where
   pub joined3 : joined from3 ≡ joined (sourceParts sourced t rows) ++ joined from4
   joined3 = flatMap-append (λ (p : List ℕ). p) (sourceParts sourced t rows) from4
 
-  -- the room that they leave
-  module _ (room : ℕ) where
-    pub short0 : none ≡ roomAfter (rowParts 0 u) room → none ≡ roomAfter (objectParts u t sourced rows) room
-    short0 o = rooms-short (rowParts 0 u) from1 _ room object-parts o
+  -- the first two and the last three
+  pub joined-front : joined (objectParts u t sourced rows) ≡ joined (frontParts u) ++ joined (backParts u t sourced rows (keepsRelocations sourced u))
+  joined-front =
+      ap joined (object-parts ∙ sym (append-assoc (rowParts 0 u) (labelParts u) from2))
+      ∙ flatMap-append (λ (p : List ℕ). p) (frontParts u) from2
 
-    module _ (a : ℕ) (o : some a ≡ roomAfter (rowParts 0 u) room) where
-      on0 : roomAfter from1 a ≡ roomAfter (objectParts u t sourced rows) room
-      on0 = rooms-on (rowParts 0 u) from1 _ room object-parts a o
+  pub joined-kept : (kept : Bool) → kept ≡ keepsRelocations sourced u
+      → joined (objectParts u t sourced rows) ≡ joined (frontParts u) ++ joined (backParts u t sourced rows kept)
+  joined-kept kept e = joined-front ∙ ap (λ (b : Bool). joined (frontParts u) ++ joined (backParts u t sourced rows b)) (sym e)
 
-      pub short1 : none ≡ roomAfter (labelParts u) a → none ≡ roomAfter (objectParts u t sourced rows) room
-      short1 p = rooms-short (labelParts u) from2 from1 a refl p ∙ on0
+  -- how many words they have
+  pub total-words : length (joined (objectParts u t sourced rows)) ≡ fixedWords u t sourced rows + restWords u sourced
+  total-words =
+      omega (
+        arith,
+        ap length joined-parts,
+        length-append (joined (rowParts 0 u)) (joined from1),
+        ap length joined1,
+        length-append (joined (labelParts u)) (joined from2),
+        ap length joined2,
+        length-append (joined (lineParts sourced t rows)) (joined from3),
+        ap length joined3,
+        length-append (joined (sourceParts sourced t rows)) (joined from4),
+      )
 
-      module _ (b : ℕ) (p : some b ≡ roomAfter (labelParts u) a) where
-        on1 : roomAfter from2 b ≡ roomAfter (objectParts u t sourced rows) room
-        on1 = rooms-on (labelParts u) from2 from1 a refl b p ∙ on0
+module _ (u t : List ℕ) (sourced : Bool) (rows : ℕ) (kept : Bool) where
+  pub joined-back : joined (backParts u t sourced rows kept)
+      ≡ joined (lineParts sourced t rows) ++ joined (sourceParts sourced t rows ++ relocationParts kept u)
+  joined-back = flatMap-append (λ (p : List ℕ). p) (lineParts sourced t rows) (sourceParts sourced t rows ++ relocationParts kept u)
 
-        pub label-count : a - b ≡ length (joined (labelParts u))
-        label-count = omega (arith, room-is (labelParts u) a b p)
+  pub joined-last : joined (sourceParts sourced t rows ++ relocationParts kept u) ≡ joined (sourceParts sourced t rows) ++ joined (relocationParts kept u)
+  joined-last = flatMap-append (λ (p : List ℕ). p) (sourceParts sourced t rows) (relocationParts kept u)
 
-        pub below1 : b ≤ a
-        below1 = omega (arith, room-is (labelParts u) a b p)
+-- THE ROOM after the labels, and after all
+pub labels-lack : (u : List ℕ) (sourced : Bool) (fixed room : ℕ) → none ≡ roomAfter (labelParts u) room → room < fixed + restWords u sourced
+labels-lack u sourced fixed room o = omega (arith, room-lacks (labelParts u) room o)
 
-        pub short2 : none ≡ roomAfter (lineParts sourced t rows) b → none ≡ roomAfter (objectParts u t sourced rows) room
-        short2 q = rooms-short (lineParts sourced t rows) from3 from2 b refl q ∙ on1
+module _ (u : List ℕ) (room left : ℕ) (p : some left ≡ roomAfter (labelParts u) room) where
+  pub labels-below : left ≤ room
+  labels-below = omega (arith, room-is (labelParts u) room left p)
 
-        module _ (c : ℕ) (q : some c ≡ roomAfter (lineParts sourced t rows) b) where
-          on2 : roomAfter from3 c ≡ roomAfter (objectParts u t sourced rows) room
-          on2 = rooms-on (lineParts sourced t rows) from3 from2 b refl c q ∙ on1
+  module _ (sourced kept : Bool) (k : kept ≡ (sourced || not (eqb (room - left) 0))) where
+    pub kept-is : kept ≡ keepsRelocations sourced u
+    kept-is = k ∙ keeps-is sourced u (room - left) (omega (arith, room-is (labelParts u) room left p))
 
-          pub short3 : none ≡ roomAfter (sourceParts sourced t rows) c → none ≡ roomAfter (objectParts u t sourced rows) room
-          short3 r = rooms-short (sourceParts sourced t rows) from4 from3 c refl r ∙ on2
+    same-rest : (o : Option ℕ) (fixed : ℕ) → o ≡ othersRoom fixed (relocationParts kept u) left → o ≡ othersRoom fixed (relocationParts (keepsRelocations sourced u) u) left
+    same-rest o fixed w = w ∙ ap (λ (b : Bool). othersRoom fixed (relocationParts b u) left) kept-is
 
-          pub on3 : (d : ℕ) → some d ≡ roomAfter (sourceParts sourced t rows) c → (kept : Bool) → kept ≡ (sourced || not (eqb (a - b) 0))
-              → (x : Option ℕ) → x ≡ roomAfter (relocationParts kept u) d → x ≡ roomAfter (objectParts u t sourced rows) room
-          on3 d r kept k x w =
-              w ∙ ap (λ (z : Bool). roomAfter (relocationParts z u) d) (k ∙ keeps-is sourced u (a - b) label-count)
-              ∙ rooms-on (sourceParts sourced t rows) from4 from3 c refl d r ∙ on2
+    pub all-lack : (fixed : ℕ) → none ≡ othersRoom fixed (relocationParts kept u) left → room < fixed + restWords u sourced
+    all-lack fixed o =
+        omega (arith, room-is (labelParts u) room left p, others-lack fixed (relocationParts (keepsRelocations sourced u) u) left (same-rest none fixed o))
+
+    pub all-left : (fixed m : ℕ) → some m ≡ othersRoom fixed (relocationParts kept u) left → fixed + restWords u sourced + m ≡ room
+    all-left fixed m o =
+        omega (arith, room-is (labelParts u) room left p, others-left fixed (relocationParts (keepsRelocations sourced u) u) left m (same-rest (some m) fixed o))

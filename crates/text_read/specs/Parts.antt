@@ -2,9 +2,11 @@
 -- trimming leaves, where the rows of the line table are. Assumes nothing.
 use mathlib.Core.Bool.{Bool, _&&_, not}
 use mathlib.Core.List.{List, [], _++_, map, flatMap}
-use mathlib.Core.Option.{Option, some}
+use mathlib.Core.Path.{_≡_}
+use mathlib.Core.Option.{Option, none, some}
 use Prim.Native.Nat.{ℕ, _+_, _/_}
-use Rattle.format.specs.Basics.{if_then_else_, isEmpty}
+use lib.ListN.{length}
+use Rattle.format.specs.Basics.{if_then_else_, isEmpty, andThen}
 use Rattle.format.specs.Sorted.{sorted}
 use Rattle.format.specs.Records.{label, sourceRecords}
 use Rattle.format.specs.Words.{recordWords}
@@ -12,8 +14,13 @@ use Rattle.text_tables.specs.Debug.{lineView}
 use Rattle.text_scan.specs.Walk.{lineBlocksOf, sourceOf}
 use Rattle.text_rows.specs.Rows.{rowKey, rowsOf}
 use Rattle.text_labels.specs.Labels.{labelsOf}
-use Rattle.text_words.specs.Room.{roomFor}
-use Rattle.text_read.specs.Runs.{blockWords}
+use Rattle.text_words.specs.Room.{roomFor, roomAfter}
+use Rattle.text_debug.specs.declared.Lines.{Lines}
+use Rattle.text_runs.specs.Runs.{blockWords}
+use Rattle.label_cache.specs.Caches.{HoldsLabels}
+use Rattle.known_labels.specs.Known.{labelParts}
+use Rattle.text_read.specs.declared.Gathered.{Gathered}
+use Rattle.text_read.specs.declared.Gathered.the-variants as gathered
 
 abbrev pub joined : List (List ℕ) → List ℕ  -- parts one after the other
 joined ps = flatMap (λ p. p) ps
@@ -21,20 +28,11 @@ joined ps = flatMap (λ p. p) ps
 abbrev pub rowParts : ℕ → List ℕ → List (List ℕ)  -- the words of each row of a kind
 rowParts kind u = map recordWords (sorted rowKey (rowsOf kind u))
 
-abbrev pub labelParts : List ℕ → List (List ℕ)  -- of each label
-labelParts u = map recordWords (map label (labelsOf u))
-
 abbrev pub lineParts : Bool → List ℕ → ℕ → List (List ℕ)  -- of each line block
 lineParts sourced t rows = blockWords (lineBlocksOf sourced (lineView t rows .0))
 
 abbrev pub sourceParts : Bool → List ℕ → ℕ → List (List ℕ)  -- of the source
 sourceParts sourced t rows = map recordWords (sourceRecords (sourceOf sourced (lineView t rows .0)))
-
-unfoldable pub linesRoom : Bool → ℕ → ℕ → Option ℕ  -- the room after the line blocks, where they have so many words
-linesRoom sourced words room = if sourced then roomFor words room else some room
-
-unfoldable pub sourceRoom : Bool → ℕ → ℕ → Option ℕ  -- and after the source, of so many bytes
-sourceRoom sourced len room = if sourced then roomFor (1 + (len + 2) / 3) room else some room
 
 unfoldable pub relocationParts : Bool → List ℕ → List (List ℕ)  -- of each relocation, if they are kept
 relocationParts kept u = if kept then rowParts 2 u else []
@@ -48,3 +46,30 @@ unfoldable pub objectParts : List ℕ → List ℕ → Bool → ℕ → List (Li
 objectParts u t sourced rows =
     rowParts 0 u
     ++ (labelParts u ++ (lineParts sourced t rows ++ (sourceParts sourced t rows ++ relocationParts (keepsRelocations sourced u) u)))
+
+abbrev pub frontParts : List ℕ → List (List ℕ)  -- the first two of them
+frontParts u = rowParts 0 u ++ labelParts u
+
+abbrev pub backParts : List ℕ → List ℕ → Bool → ℕ → Bool → List (List ℕ)  -- and the last three
+backParts u t sourced rows kept = lineParts sourced t rows ++ (sourceParts sourced t rows ++ relocationParts kept u)
+
+-- how many words line blocks and source have, as a scan counts them
+unfoldable pub debugWords : Bool → Lines → ℕ
+debugWords sourced lines = if sourced then lines .words + (1 + (lines .len + 2) / 3) else 0
+
+-- how many words blocks, line blocks and source have, and how many the labels and relocations
+abbrev pub fixedWords : List ℕ → List ℕ → Bool → ℕ → ℕ
+fixedWords u t sourced rows =
+    length (joined (rowParts 0 u)) + (length (joined (lineParts sourced t rows)) + length (joined (sourceParts sourced t rows)))
+
+abbrev pub restWords : List ℕ → Bool → ℕ
+restWords u sourced = length (joined (labelParts u)) + length (joined (relocationParts (keepsRelocations sourced u) u))
+
+-- the room after n words and parts
+unfoldable pub othersRoom : ℕ → List (List ℕ) → ℕ → Option ℕ
+othersRoom n ps room = andThen (roomFor n room) λ left. roomAfter ps left
+
+-- labels in arrays, and the room after them
+abbrev pub Gathers : List ℕ → List ℕ → List ℕ → List ℕ → List ℕ → ℕ → Gathered → Type 0
+Gathers u ss es hs xs room (gathered.Left cached left) = HoldsLabels u ss es hs xs cached × (some left ≡ roomAfter (labelParts u) room)
+Gathers u ss es hs xs room gathered.Short = none ≡ roomAfter (labelParts u) room

@@ -1,279 +1,46 @@
 // The text reader: how many words a text file makes, and the words.
-use encode::encode_scalar;
+use known_labels::all_labels_room;
+use known_labels::known_room;
+use known_labels::put_known;
 use label_cache::Cached;
-use label_cache::cached_room;
 use label_cache::gather_labels;
-use label_cache::put_cached;
 use text_debug::Lines;
-use text_labels::labels_room;
-use text_labels::put_labels;
-use text_lines::Line;
+use text_push::Held;
+use text_push::flush;
+use text_push::push;
+use text_push::push_bytes;
+use text_push::push_scalar;
+use text_runs::put_line_blocks;
+use text_scan::Scanned;
 use text_scan::scan_text;
 use text_source::Source;
 use text_source::Token;
 use text_source::next_token;
-use text_tables::LineRow;
-use text_tables::next_source_line;
-use text_tables::parse_line_row;
 use text_words::Room;
 use text_words::put_rows;
 use text_words::rows_room;
+use text_words::take_room;
 use trim::trim;
 use units::Filled;
 use units::Measured;
-use writing::put_number_words;
 use writing::put_word;
 ghost use mathlib.Core.Path.{_≡_};
 ghost use mathlib.Core.Bool.{true, _||_, not};
-ghost use mathlib.Core.List.{[], _∷_, map};
 ghost use Prim.Native.Nat.{_+_, _^_, _≤_, _<_};
 ghost use lib.ListN.{length, take};
 ghost use lib.Dec.{eqb};
+ghost use Rattle.format.specs.Basics.{given};
 ghost use Rattle.format.specs.Calls.{readText, fill, measured};
+ghost use Rattle.format.specs.TextReader.{textObject};
 ghost use Rattle.units.specs.Filled.{filledOf, measuredOf};
-ghost use Rattle.format.specs.Utf8.{isScalar, encodeScalar};
-ghost use Rattle.format.specs.Words.{memoryWord, textWords};
+ghost use Rattle.format.specs.Words.{textWords};
 ghost use Rattle.writing.specs.Written.{Put};
-ghost use Rattle.text_tables.specs.Debug.{lineView};
-ghost use Rattle.text_debug.specs.LineRuns.{addressIn};
-ghost use Rattle.text_debug.specs.DebugGroup.{lineBlocksIn};
+ghost use Rattle.text_scan.specs.Scan.{Scans};
 ghost use Rattle.label_cache.specs.Caches.{HoldsLabels};
 ghost use Rattle.text_words.specs.Written.{PutEach};
-ghost use Rattle.text_words.specs.Room.{roomOf, roomFor, roomAfter};
-ghost use Rattle.text_read.specs.Runs.{addressesFrom, KeepsWord, Kept, NextRun, blockWords, runParts};
-ghost use Rattle.text_read.specs.Parts.{joined, rowParts, labelParts, lineParts, linesRoom, sourceParts, sourceRoom, relocationParts, objectParts};
-ghost use Rattle.text_read.specs.SourceText.{sourceAt, Unescapes, Counted, Ready, Pushes, Flushes};
-
-// A run of rows with an address: how many, and the place after the row without one that ends it; or one that reaches the last row.
-enum Run {
-    Ends(usize, usize),
-    Last,
-}
-
-// The memory word of a row's address.
-fn address_word(l: &[u8]) -> u32
-    ensures { λ r. ⌜ r ≡ memoryWord (addressIn (now (l .entry))) ⌝ }
-{
-    match parse_line_row(l) {
-        LineRow::Known(_, a) => 0x2001_0000 + a as u32,
-        LineRow::Unknown(_) => 0x2000_0000,
-        LineRow::Bad => 0x2000_0000,
-    }
-}
-
-// One more of the words that are kept, as many as there is room for: how many there would be.
-fn keep_word(kept: &mut [u32], n: usize, w: u32) -> usize
-    requires { ⌜ n < 2 ^ 63 ⌝ }
-    ensures { λ r. ⌜ (r ≡ n + 1) × KeepsWord n w (now (kept .entry)) (now (kept .exit)) ⌝ }
-{
-    if kept.len() <= n {
-        return n + 1;
-    }
-    kept[n] = w;
-    n + 1
-}
-
-// The run of rows that begins at a place. The memory words of its addresses are kept, if there is room for them all.
-fn next_run(t: &[u8], from: usize, kept: &mut [u32]) -> Run
-    ensures { λ r. ⌜ NextRun (now (t .entry)) from (now (kept .exit)) r ⌝ }
-{
-    let mut at = from;
-    let mut n = 0;
-    loop {
-        let Line::At { start, end, next } = next_source_line(t, at) else {
-            return Run::Last;
-        };
-        let w = address_word(&t[start..end]);
-        if w == 0x2000_0000 {
-            return Run::Ends(n, next);
-        }
-        n = keep_word(kept, n, w);
-        at = next;
-    }
-}
-
-// The words of others.
-fn put_words(out: &mut [u32], s: &[u32]) -> usize
-    ensures { λ r. ⌜ Put (now (s .entry)) (now (out .entry)) r (now (out .exit)) ⌝ }
-{
-    if out.len() < s.len() {
-        return 0;
-    }
-    let mut i = 0;
-    while i < s.len() {
-        out[i] = s[i];
-        i += 1;
-    }
-    i
-}
-
-// The memory words of the addresses of the next n rows.
-fn put_addresses(out: &mut [u32], t: &[u8], from: usize, n: usize) -> usize
-    requires { ⌜ (n ≤ length (now out)) × (n ≤ length (addressesFrom (now t) from)) ⌝ }
-    ensures { λ r. ⌜ Put (map memoryWord (take n (addressesFrom (now (t .entry)) from))) (now (out .entry)) r (now (out .exit)) ⌝ }
-{
-    let mut i = 0;
-    let mut at = from;
-    while i < n {
-        let Line::At { start, end, next } = next_source_line(t, at) else {
-            return i;
-        };
-        out[i] = address_word(&t[start..end]);
-        i += 1;
-        at = next;
-    }
-    i
-}
-
-// The same, from the words that are kept if these are all.
-fn put_run_words(out: &mut [u32], t: &[u8], from: usize, n: usize, kept: &[u32]) -> usize
-    requires { ⌜ (n ≤ length (now out)) × (n ≤ length (addressesFrom (now t) from)) × Kept (now t) from n (now kept) ⌝ }
-    ensures { λ r. ⌜ Put (map memoryWord (take n (addressesFrom (now (t .entry)) from))) (now (out .entry)) r (now (out .exit)) ⌝ }
-{
-    if n <= kept.len() {
-        return put_words(out, &kept[0..n]);
-    }
-    put_addresses(out, t, from, n)
-}
-
-// The line block of the next n rows, the first of which is line `first`; none of no rows.
-fn put_run(out: &mut [u32], t: &[u8], from: usize, first: u64, n: usize, kept: &[u32]) -> usize
-    requires { ⌜ (n ≤ length (addressesFrom (now t) from)) × Kept (now t) from n (now kept) ⌝ }
-    ensures { λ r. ⌜ PutEach (runParts first (take n (addressesFrom (now (t .entry)) from))) (now (out .entry)) r (now (out .exit)) ⌝ }
-{
-    if n == 0 {
-        return 0;
-    }
-    if out.len() < 4 {
-        return 0;
-    }
-    if out.len() - 4 < n {
-        return 0;
-    }
-    let mut at = 0;
-    at += put_word(&mut out[at..], 0x6000_0000);
-    at += put_number_words(&mut out[at..], first);
-    at += put_run_words(&mut out[at..], t, from, n, kept);
-    at
-}
-
-// The line blocks of the rows from a place on.
-fn put_line_blocks(out: &mut [u32], t: &[u8], rows: usize, kept: &mut [u32]) -> usize
-    ensures { λ r. ⌜ PutEach (blockWords (lineBlocksIn (lineView (now (t .entry)) rows .0))) (now (out .entry)) r (now (out .exit)) ⌝ }
-{
-    let mut at = 0;
-    let mut row = rows;
-    let mut line: u64 = 0;
-    loop {
-        let Run::Ends(n, next) = next_run(t, row, kept) else {
-            return at;
-        };
-        at += put_run(&mut out[at..], t, row, line, n, kept);
-        line += n as u64 + 1;
-        row = next;
-    }
-}
-
-// A text that is being written: the place of its next word, and the bytes that are held over for it, how many and their value.
-struct Held {
-    at: usize,
-    count: u8,
-    value: u32,
-}
-
-// One more byte of a text.
-fn push(out: &mut [u32], h: Held, b: u8) -> Held
-    requires { ⌜ Ready (b ∷ []) h (now out) ⌝ }
-    ensures { λ r. ⌜ Pushes (b ∷ []) h (now (out .entry)) r (now (out .exit)) ⌝ }
-{
-    let at = h.at;
-    let v = b as u32;
-    if h.count == 0 {
-        return Held {
-            at: at,
-            count: 1,
-            value: v,
-        };
-    }
-    if h.count == 1 {
-        return Held {
-            at: at,
-            count: 2,
-            value: h.value + 256 * v,
-        };
-    }
-    out[at] = 0xE300_0000 + h.value + 65536 * v;
-    Held {
-        at: at + 1,
-        count: 0,
-        value: 0,
-    }
-}
-
-// Three more bytes of a text, a word, where none are held over.
-fn push_three(out: &mut [u32], h: Held, a: u8, b: u8, c: u8) -> Held
-    requires { ⌜ (h .count ≡ 0) × Ready (a ∷ b ∷ c ∷ []) h (now out) ⌝ }
-    ensures { λ r. ⌜ Pushes (a ∷ b ∷ c ∷ []) h (now (out .entry)) r (now (out .exit)) ⌝ }
-{
-    let at = h.at;
-    let low = a as u32;
-    let mid = b as u32;
-    let high = c as u32;
-    out[at] = 0xE300_0000 + low + 256 * mid + 65536 * high;
-    Held {
-        at: at + 1,
-        count: 0,
-        value: 0,
-    }
-}
-
-// More bytes of a text, word by word where none are held over.
-fn push_bytes(out: &mut [u32], start: Held, s: &[u8]) -> Held
-    requires { ⌜ Ready (now s) start (now out) ⌝ }
-    ensures { λ r. ⌜ Pushes (now (s .entry)) start (now (out .entry)) r (now (out .exit)) ⌝ }
-{
-    let mut h = start;
-    let mut i = 0;
-    while i < s.len() {
-        if h.count == 0 {
-            if 3 <= s.len() - i {
-                h = push_three(out, h, s[i], s[i + 1], s[i + 2]);
-                i += 3;
-                continue;
-            }
-        }
-        h = push(out, h, s[i]);
-        i += 1;
-    }
-    h
-}
-
-// The bytes of a scalar value.
-fn push_scalar(out: &mut [u32], h: Held, v: u32) -> Held
-    requires { ⌜ (isScalar v ≡ true) × Ready (encodeScalar v) h (now out) ⌝ }
-    ensures { λ r. ⌜ Pushes (encodeScalar v) h (now (out .entry)) r (now (out .exit)) ⌝ }
-{
-    let mut bytes = [0u8; 4];
-    let n = encode_scalar(&mut bytes, v);
-    push_bytes(out, h, &bytes[0..n])
-}
-
-// The word of the bytes that are left over at the end: the length of all that is written.
-fn flush(out: &mut [u32], h: Held) -> usize
-    requires { ⌜ Ready [] h (now out) ⌝ }
-    ensures { λ r. ⌜ Flushes h (now (out .entry)) r (now (out .exit)) ⌝ }
-{
-    let at = h.at;
-    if h.count == 0 {
-        return at;
-    }
-    if h.count == 1 {
-        out[at] = 0xE100_0000 + h.value;
-        return at + 1;
-    }
-    out[at] = 0xE200_0000 + h.value;
-    at + 1
-}
+ghost use Rattle.text_words.specs.Room.{roomOf};
+ghost use Rattle.text_read.specs.Parts.{joined, lineParts, sourceParts, relocationParts, keepsRelocations, frontParts, backParts, objectParts, fixedWords, restWords, debugWords, othersRoom, Gathers};
+ghost use Rattle.text_read.specs.SourceText.{sourceAt, Unescapes};
 
 // The text of the source, token by token.
 fn put_source_text(out: &mut [u32], t: &[u8], rows: usize) -> usize
@@ -283,7 +50,8 @@ fn put_source_text(out: &mut [u32], t: &[u8], rows: usize) -> usize
     let mut h = Held {
         at: 0,
         count: 0,
-        value: 0,
+        low: 0,
+        mid: 0,
     };
     let mut cur = Source {
         at: 0,
@@ -315,58 +83,6 @@ fn put_source_text(out: &mut [u32], t: &[u8], rows: usize) -> usize
     }
 }
 
-// The room after n words.
-fn take_room(room: usize, n: usize) -> Room
-    ensures { λ r. ⌜ roomOf r ≡ roomFor n room ⌝ }
-{
-    if room < n {
-        return Room::Short;
-    }
-    Room::Left(room - n)
-}
-
-// The room after the source, if there is one, of so many bytes.
-fn source_room(sourced: bool, len: usize, room: usize) -> Room
-    requires { ⌜ (sourced ≡ true → len < 2 ^ 63) ⌝ }
-    ensures { λ r. ⌜ roomOf r ≡ sourceRoom sourced len room ⌝ }
-{
-    if !sourced {
-        return Room::Left(room);
-    }
-    take_room(room, 1 + (len + 2) / 3)
-}
-
-// The room after the line blocks, if there are rows of lines, of so many words.
-fn lines_room(sourced: bool, words: usize, room: usize) -> Room
-    ensures { λ r. ⌜ roomOf r ≡ linesRoom sourced words room ⌝ }
-{
-    if !sourced {
-        return Room::Left(room);
-    }
-    take_room(room, words)
-}
-
-// The room after the relocations, if they are kept.
-fn relocations_room(u: &[u8], kept: bool, room: usize) -> Room
-    ensures { λ r. ⌜ roomOf r ≡ roomAfter (relocationParts kept (now (u .entry))) room ⌝ }
-{
-    if !kept {
-        return Room::Left(room);
-    }
-    rows_room(u, 2, room)
-}
-
-// The line blocks, if there are rows of lines.
-fn put_lines(out: &mut [u32], t: &[u8], sourced: bool, rows: usize) -> usize
-    ensures { λ r. ⌜ PutEach (lineParts sourced (now (t .entry)) rows) (now (out .entry)) r (now (out .exit)) ⌝ }
-{
-    if !sourced {
-        return 0;
-    }
-    let mut kept = [0u32; 256];
-    put_line_blocks(out, t, rows, &mut kept)
-}
-
 // The source, if there is one.
 fn put_source(out: &mut [u32], t: &[u8], sourced: bool, rows: usize) -> usize
     requires { ⌜ (sourced ≡ true → Unescapes (now t) rows) × (length (joined (sourceParts sourced (now t) rows)) ≤ length (now out)) ⌝ }
@@ -379,6 +95,16 @@ fn put_source(out: &mut [u32], t: &[u8], sourced: bool, rows: usize) -> usize
     at += put_word(&mut out[at..], 0x8000_0000);
     at += put_source_text(&mut out[at..], t, rows);
     at
+}
+
+// The line blocks, if there are rows of lines.
+fn put_lines(out: &mut [u32], t: &[u8], sourced: bool, rows: usize) -> usize
+    ensures { λ r. ⌜ PutEach (lineParts sourced (now (t .entry)) rows) (now (out .entry)) r (now (out .exit)) ⌝ }
+{
+    if !sourced {
+        return 0;
+    }
+    put_line_blocks(out, t, rows)
 }
 
 // The relocations, if they are kept.
@@ -401,27 +127,8 @@ fn keeps_relocations(sourced: bool, labels: usize) -> bool
     labels != 0
 }
 
-// The room after the labels, from arrays if they hold all.
-fn known_room(
-    u: &[u8],
-    starts: &[usize],
-    ends: &[usize],
-    heads: &[u32],
-    indices: &[u64],
-    cached: Cached,
-    room: usize,
-) -> Room
-    requires { ⌜ HoldsLabels (now u) (now starts) (now ends) (now heads) (now indices) cached ⌝ }
-    ensures { λ r. ⌜ roomOf r ≡ roomAfter (labelParts (now (u .entry))) room ⌝ }
-{
-    if cached.whole {
-        return cached_room(u, starts, ends, heads, indices, cached.count, room);
-    }
-    labels_room(u, room)
-}
-
-// The labels, from arrays if they hold all.
-fn put_known(
+// The blocks and the labels.
+fn put_front(
     out: &mut [u32],
     u: &[u8],
     starts: &[usize],
@@ -431,46 +138,24 @@ fn put_known(
     cached: Cached,
 ) -> usize
     requires { ⌜ HoldsLabels (now u) (now starts) (now ends) (now heads) (now indices) cached ⌝ }
-    ensures { λ r. ⌜ PutEach (labelParts (now (u .entry))) (now (out .entry)) r (now (out .exit)) ⌝ }
+    ensures { λ r. ⌜ PutEach (frontParts (now (u .entry))) (now (out .entry)) r (now (out .exit)) ⌝ }
 {
-    if cached.whole {
-        return put_cached(out, u, starts, ends, heads, indices, cached.count);
-    }
-    put_labels(out, u)
+    let mut at = 0;
+    at += put_rows(&mut out[at..], u, 0);
+    at += put_known(&mut out[at..], u, starts, ends, heads, indices, cached);
+    at
 }
 
-// The room after the five parts; the blocks have so many words.
-fn object_room(
-    u: &[u8],
-    t: &[u8],
-    sourced: bool,
-    rows: usize,
-    lines: Lines,
-    words: usize,
-    starts: &[usize],
-    ends: &[usize],
-    heads: &[u32],
-    indices: &[u64],
-    cached: Cached,
-    room: usize,
-) -> Room
-    requires { ⌜ (sourced ≡ true → Counted (now t) rows lines) × (words ≡ length (joined (rowParts 0 (now u))))
-        × HoldsLabels (now u) (now starts) (now ends) (now heads) (now indices) cached ⌝ }
-    ensures { λ r. ⌜ roomOf r ≡ roomAfter (objectParts (now (u .entry)) (now (t .entry)) sourced rows) room ⌝ }
+// The line blocks, the source and the relocations.
+fn put_back(out: &mut [u32], u: &[u8], t: &[u8], sourced: bool, rows: usize, kept: bool) -> usize
+    requires { ⌜ (sourced ≡ true → Unescapes (now t) rows) × (length (joined (backParts (now u) (now t) sourced rows kept)) ≤ length (now out)) ⌝ }
+    ensures { λ r. ⌜ Put (joined (backParts (now (u .entry)) (now (t .entry)) sourced rows kept)) (now (out .entry)) r (now (out .exit)) ⌝ }
 {
-    let Room::Left(a) = take_room(room, words) else {
-        return Room::Short;
-    };
-    let Room::Left(b) = known_room(u, starts, ends, heads, indices, cached, a) else {
-        return Room::Short;
-    };
-    let Room::Left(c) = lines_room(sourced, lines.words, b) else {
-        return Room::Short;
-    };
-    let Room::Left(d) = source_room(sourced, lines.len, c) else {
-        return Room::Short;
-    };
-    relocations_room(u, keeps_relocations(sourced, a - b), d)
+    let mut at = 0;
+    at += put_lines(&mut out[at..], t, sourced, rows);
+    at += put_source(&mut out[at..], t, sourced, rows);
+    at += put_relocations(&mut out[at..], u, kept);
+    at
 }
 
 // The five parts, one after the other.
@@ -480,6 +165,7 @@ fn put_object(
     t: &[u8],
     sourced: bool,
     rows: usize,
+    kept: bool,
     starts: &[usize],
     ends: &[usize],
     heads: &[u32],
@@ -488,82 +174,68 @@ fn put_object(
 ) -> usize
     requires { ⌜ (sourced ≡ true → Unescapes (now t) rows)
         × (length (joined (objectParts (now u) (now t) sourced rows)) ≤ length (now out))
+        × (kept ≡ keepsRelocations sourced (now u))
         × HoldsLabels (now u) (now starts) (now ends) (now heads) (now indices) cached ⌝ }
     ensures { λ r. ⌜ Put (joined (objectParts (now (u .entry)) (now (t .entry)) sourced rows)) (now (out .entry)) r (now (out .exit)) ⌝ }
 {
     let mut at = 0;
-    at += put_rows(&mut out[at..], u, 0);
-    let n = put_known(&mut out[at..], u, starts, ends, heads, indices, cached);
-    at += n;
-    at += put_lines(&mut out[at..], t, sourced, rows);
-    at += put_source(&mut out[at..], t, sourced, rows);
-    let kept = keeps_relocations(sourced, n);
-    at += put_relocations(&mut out[at..], u, kept);
+    at += put_front(&mut out[at..], u, starts, ends, heads, indices, cached);
+    at += put_back(&mut out[at..], u, t, sourced, rows, kept);
     at
 }
 
-// How many words a text file makes, by way of arrays for its labels.
-fn length_in(
-    s: &[u8],
-    starts: &mut [usize],
-    ends: &mut [usize],
-    heads: &mut [u32],
-    indices: &mut [u64],
-) -> Measured
+// How many words blocks, line blocks and source have; the blocks have so many.
+fn fixed_words(sourced: bool, lines: Lines, words: usize) -> usize
+    requires { ⌜ (words + debugWords sourced lines < 2 ^ 64) × (sourced ≡ true → lines .len < 2 ^ 63) ⌝ }
+    ensures { λ r. ⌜ r ≡ words + debugWords sourced lines ⌝ }
+{
+    if !sourced {
+        return words;
+    }
+    words + (lines.words + (1 + (lines.len + 2) / 3))
+}
+
+// The room after so many words, and the relocations if they are kept.
+fn others_room(u: &[u8], kept: bool, fixed: usize, room: usize) -> Room
+    ensures { λ r. ⌜ roomOf r ≡ othersRoom fixed (relocationParts kept (now (u .entry))) room ⌝ }
+{
+    let Room::Left(left) = take_room(room, fixed) else {
+        return Room::Short;
+    };
+    if !kept {
+        return Room::Left(left);
+    }
+    rows_room(u, 2, left)
+}
+
+// How many words an object has, of which blocks, line blocks and source have so many.
+fn object_length(u: &[u8], sourced: bool, fixed: usize) -> usize
+    requires { ⌜ fixed + restWords (now u) sourced < 2 ^ 64 ⌝ }
+    ensures { λ r. ⌜ r ≡ fixed + restWords (now (u .entry)) sourced ⌝ }
+{
+    let most = 0xFFFF_FFFF_FFFF_FFFF;
+    let Room::Left(left) = all_labels_room(u, most) else {
+        return 0;
+    };
+    let kept = keeps_relocations(sourced, most - left);
+    let Room::Left(last) = others_room(u, kept, fixed, left) else {
+        return 0;
+    };
+    most - last
+}
+
+// How many words a text file makes that was scanned.
+fn length_scanned(s: &[u8], scanned: Scanned) -> Measured
+    requires { ⌜ Scans (take (scanned .end) (now s)) (textObject (now s)) scanned × (scanned .number ≡ 0) ⌝ }
     ensures { λ r. ⌜ measuredOf r ≡ measured (readText (now (s .entry))) ⌝ }
 {
-    let scanned = scan_text(s);
-    let number = scanned.number;
-    if number != 0 {
-        return Measured { number, len: 0 };
-    }
     let w = trim(s, 0, s.len());
     let from = w.start;
     let to = w.end;
-    let end = scanned.end;
-    let lines = scanned.lines;
-    let most = 0xFFFF_FFFF_FFFF_FFFF;
-    let cached = gather_labels(&s[from..to], starts, ends, heads, indices);
-    let Room::Left(left) = object_room(
-        &s[from..to],
-        &s[0..end],
-        scanned.sourced,
-        scanned.rows,
-        lines,
-        scanned.words,
-        starts,
-        ends,
-        heads,
-        indices,
-        cached,
-        most,
-    ) else {
-        return Measured { number: 3, len: 0 };
-    };
-    let n = most - left;
+    let sourced = scanned.sourced;
+    let fixed = fixed_words(sourced, scanned.lines, scanned.words);
+    let n = object_length(&s[from..to], sourced, fixed);
     Measured { number: 0, len: n }
-}
-
-// The same, of a short text: small arrays are cleared sooner.
-fn length_few(s: &[u8]) -> Measured
-    ensures { λ r. ⌜ measuredOf r ≡ measured (readText (now (s .entry))) ⌝ }
-{
-    let mut starts = [0usize; 1024];
-    let mut ends = [0usize; 1024];
-    let mut heads = [0u32; 1024];
-    let mut indices = [0u64; 1024];
-    length_in(s, &mut starts, &mut ends, &mut heads, &mut indices)
-}
-
-// The same, of any text.
-fn length_many(s: &[u8]) -> Measured
-    ensures { λ r. ⌜ measuredOf r ≡ measured (readText (now (s .entry))) ⌝ }
-{
-    let mut starts = [0usize; 4096];
-    let mut ends = [0usize; 4096];
-    let mut heads = [0u32; 4096];
-    let mut indices = [0u64; 4096];
-    length_in(s, &mut starts, &mut ends, &mut heads, &mut indices)
 }
 
 // How many words a text file makes, or the number of the first question that is answered no, 20 to 31. The room is never too short: a file
@@ -571,55 +243,69 @@ fn length_many(s: &[u8]) -> Measured
 pub fn text_length(s: &[u8]) -> Measured
     ensures { λ r. ⌜ measuredOf r ≡ measured (readText (now (s .entry))) ⌝ }
 {
-    if s.len() < 32768 {
-        return length_few(s);
+    let scanned = scan_text(s);
+    let number = scanned.number;
+    if number != 0 {
+        return Measured { number, len: 0 };
     }
-    length_many(s)
+    length_scanned(s, scanned)
 }
 
-// The words of a text file, by way of arrays for its labels.
-fn read_in(
-    s: &[u8],
+// Labels in arrays and the room after them, or too short a room.
+enum Gathered {
+    Left(Cached, usize),
+    Short,
+}
+
+// The labels in arrays, if they have room for all, and the room after them.
+fn gather_room(
+    u: &[u8],
+    starts: &mut [usize],
+    ends: &mut [usize],
+    heads: &mut [u32],
+    indices: &mut [u64],
+    room: usize,
+) -> Gathered
+    ensures { λ r. ⌜ Gathers (now (u .entry)) (now (starts .exit)) (now (ends .exit)) (now (heads .exit)) (now (indices .exit)) room r ⌝ }
+{
+    let cached = gather_labels(u, starts, ends, heads, indices);
+    let Room::Left(left) = known_room(u, starts, ends, heads, indices, cached, room) else {
+        return Gathered::Short;
+    };
+    Gathered::Left(cached, left)
+}
+
+// The words of an object, by way of arrays for its labels.
+fn fill_in(
     out: &mut [u32],
+    u: &[u8],
+    t: &[u8],
+    sourced: bool,
+    rows: usize,
+    fixed: usize,
     starts: &mut [usize],
     ends: &mut [usize],
     heads: &mut [u32],
     indices: &mut [u64],
 ) -> Filled
-    ensures { λ r. ⌜ filledOf r (now (out .exit)) ≡ fill (readText (now (s .entry))) (now (out .entry)) ⌝ }
+    requires { ⌜ (sourced ≡ true → Unescapes (now t) rows) × (fixed ≡ fixedWords (now u) (now t) sourced rows) ⌝ }
+    ensures { λ r. ⌜ filledOf r (now (out .exit)) ≡ fill (given (joined (objectParts (now (u .entry)) (now (t .entry)) sourced rows))) (now (out .entry)) ⌝ }
 {
-    let scanned = scan_text(s);
-    if scanned.number != 0 {
-        return Filled::refused(scanned.number);
-    }
-    let w = trim(s, 0, s.len());
-    let from = w.start;
-    let to = w.end;
-    let end = scanned.end;
-    let lines = scanned.lines;
-    let cached = gather_labels(&s[from..to], starts, ends, heads, indices);
-    let Room::Left(_) = object_room(
-        &s[from..to],
-        &s[0..end],
-        scanned.sourced,
-        scanned.rows,
-        lines,
-        scanned.words,
-        starts,
-        ends,
-        heads,
-        indices,
-        cached,
-        out.len(),
-    ) else {
+    let room = out.len();
+    let Gathered::Left(cached, left) = gather_room(u, starts, ends, heads, indices, room) else {
+        return Filled::refused(3);
+    };
+    let kept = keeps_relocations(sourced, room - left);
+    let Room::Left(_) = others_room(u, kept, fixed, left) else {
         return Filled::refused(3);
     };
     let n = put_object(
         out,
-        &s[from..to],
-        &s[0..end],
-        scanned.sourced,
-        scanned.rows,
+        u,
+        t,
+        sourced,
+        rows,
+        kept,
         starts,
         ends,
         heads,
@@ -629,34 +315,98 @@ fn read_in(
     Filled::given(n)
 }
 
-// The same, of a short text.
-fn read_few(s: &[u8], out: &mut [u32]) -> Filled
-    ensures { λ r. ⌜ filledOf r (now (out .exit)) ≡ fill (readText (now (s .entry))) (now (out .entry)) ⌝ }
+// The same, of a short text: small arrays are cleared sooner.
+fn fill_few(out: &mut [u32], u: &[u8], t: &[u8], sourced: bool, rows: usize, fixed: usize) -> Filled
+    requires { ⌜ (sourced ≡ true → Unescapes (now t) rows) × (fixed ≡ fixedWords (now u) (now t) sourced rows) ⌝ }
+    ensures { λ r. ⌜ filledOf r (now (out .exit)) ≡ fill (given (joined (objectParts (now (u .entry)) (now (t .entry)) sourced rows))) (now (out .entry)) ⌝ }
 {
     let mut starts = [0usize; 1024];
     let mut ends = [0usize; 1024];
     let mut heads = [0u32; 1024];
     let mut indices = [0u64; 1024];
-    read_in(s, out, &mut starts, &mut ends, &mut heads, &mut indices)
+    fill_in(
+        out,
+        u,
+        t,
+        sourced,
+        rows,
+        fixed,
+        &mut starts,
+        &mut ends,
+        &mut heads,
+        &mut indices,
+    )
 }
 
 // The same, of any text.
-fn read_many(s: &[u8], out: &mut [u32]) -> Filled
-    ensures { λ r. ⌜ filledOf r (now (out .exit)) ≡ fill (readText (now (s .entry))) (now (out .entry)) ⌝ }
+fn fill_many(
+    out: &mut [u32],
+    u: &[u8],
+    t: &[u8],
+    sourced: bool,
+    rows: usize,
+    fixed: usize,
+) -> Filled
+    requires { ⌜ (sourced ≡ true → Unescapes (now t) rows) × (fixed ≡ fixedWords (now u) (now t) sourced rows) ⌝ }
+    ensures { λ r. ⌜ filledOf r (now (out .exit)) ≡ fill (given (joined (objectParts (now (u .entry)) (now (t .entry)) sourced rows))) (now (out .entry)) ⌝ }
 {
     let mut starts = [0usize; 4096];
     let mut ends = [0usize; 4096];
     let mut heads = [0u32; 4096];
     let mut indices = [0u64; 4096];
-    read_in(s, out, &mut starts, &mut ends, &mut heads, &mut indices)
+    fill_in(
+        out,
+        u,
+        t,
+        sourced,
+        rows,
+        fixed,
+        &mut starts,
+        &mut ends,
+        &mut heads,
+        &mut indices,
+    )
+}
+
+// The words of an object, of which blocks, line blocks and source have so many.
+fn fill_object(
+    out: &mut [u32],
+    u: &[u8],
+    t: &[u8],
+    sourced: bool,
+    rows: usize,
+    fixed: usize,
+) -> Filled
+    requires { ⌜ (sourced ≡ true → Unescapes (now t) rows) × (fixed ≡ fixedWords (now u) (now t) sourced rows) ⌝ }
+    ensures { λ r. ⌜ filledOf r (now (out .exit)) ≡ fill (given (joined (objectParts (now (u .entry)) (now (t .entry)) sourced rows))) (now (out .entry)) ⌝ }
+{
+    if u.len() < 32768 {
+        return fill_few(out, u, t, sourced, rows, fixed);
+    }
+    fill_many(out, u, t, sourced, rows, fixed)
+}
+
+// The words of a text file that was scanned.
+fn read_scanned(s: &[u8], out: &mut [u32], scanned: Scanned) -> Filled
+    requires { ⌜ Scans (take (scanned .end) (now s)) (textObject (now s)) scanned × (scanned .number ≡ 0) ⌝ }
+    ensures { λ r. ⌜ filledOf r (now (out .exit)) ≡ fill (readText (now (s .entry))) (now (out .entry)) ⌝ }
+{
+    let w = trim(s, 0, s.len());
+    let from = w.start;
+    let to = w.end;
+    let end = scanned.end;
+    let sourced = scanned.sourced;
+    let fixed = fixed_words(sourced, scanned.lines, scanned.words);
+    fill_object(out, &s[from..to], &s[0..end], sourced, scanned.rows, fixed)
 }
 
 // The words of a text file, or the number of the first question that is answered no, 20 to 31; 3 where the buffer is too short.
 pub fn read_text(s: &[u8], out: &mut [u32]) -> Filled
     ensures { λ r. ⌜ filledOf r (now (out .exit)) ≡ fill (readText (now (s .entry))) (now (out .entry)) ⌝ }
 {
-    if s.len() < 32768 {
-        return read_few(s, out);
+    let scanned = scan_text(s);
+    if scanned.number != 0 {
+        return Filled::refused(scanned.number);
     }
-    read_many(s, out)
+    read_scanned(s, out, scanned)
 }

@@ -313,7 +313,7 @@ pub enum Room {
 }
 
 // The room after n words.
-fn take_room(room: usize, n: usize) -> Room
+pub fn take_room(room: usize, n: usize) -> Room
     ensures { λ r. ⌜ roomOf r ≡ roomFor n room ⌝ }
 {
     if room < n {

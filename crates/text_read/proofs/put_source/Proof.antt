@@ -11,7 +11,7 @@ use Rattle.format.specs.Words.{textWords}
 use Rattle.writing.proofs.Parts.{State, Emits, after, begin, emit, emitted, within, small, same}
 use Rattle.text_read.specs.SourceText.{sourceAt}
 use Rattle.text_read.specs.Parts.{joined, sourceParts}
-use Rattle.text_read.proofs.RunLaws.{room-for}
+use Rattle.text_runs.proofs.RunLaws.{room-for}
 use Rattle.text_read.proofs.PartLaws.{source-none, source-whole, none-put}
 use Rattle.text_read.proofs.put_source.Statement.{statement}
 use Rattle.text_read.proofs.put_source.Tie as tie

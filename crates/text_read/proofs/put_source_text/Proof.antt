@@ -7,7 +7,7 @@ use denote.Ref.{now}
 use Rattle.text_source.specs.Stream.{bytesLeft}
 use Rattle.text_source.specs.Unescape.{NextToken}
 use Rattle.text_source.specs.declared.Token.the-variants as tk
-use Rattle.text_read.proofs.TextLaws.{Draining, draining-begin, draining-long, draining-ready, draining-on, draining-last, draining-end, drains-bad}
+use Rattle.text_read.proofs.TextLaws.{Draining, draining-begin, draining-long, draining-on, draining-scalar, draining-end, drains-bad}
 use Rattle.text_read.proofs.put_source_text.Statement.{statement}
 use Rattle.text_read.proofs.put_source_text.Tie as tie
 
@@ -19,13 +19,6 @@ abbrev μ-loop : tie.MeasureT-loop
 
 loop-holds : tie.Need-loop-holds Inv-loop μ-loop
 loop-holds c = draining-begin _ _ _ (c .before .before .pre .0) (c .before .before .pre .1)
-
-push-requires : tie.Need-push-requires Inv-loop μ-loop
-push-requires c κs =
-    let d = c .before .before in
-    let l = d .before .before .before in
-    let k = subst (NextToken (now (l .before .before .before .args .t)) (l .loop .cur)) (d .token .given .1) (d .before .before .next-token .ensures) in
-    draining-ready _ _ _ _ _ _ (l .loop .inv) _ _ k
 
 loop-less : tie.Need-loop-less Inv-loop μ-loop
 loop-less c =
@@ -42,13 +35,6 @@ loop-again c =
     let k = subst (NextToken (now (l .before .before .before .args .t)) (l .loop .cur)) (d .token .given .1) (d .before .before .next-token .ensures) in
     draining-on _ _ _ _ _ _ (l .loop .inv) _ _ k _ _ (p .push .ensures)
 
-push-scalar-requires : tie.Need-push-scalar-requires Inv-loop μ-loop
-push-scalar-requires c κs =
-    let d = c .before .before in
-    let l = d .before .before .before in
-    let k = subst (NextToken (now (l .before .before .before .args .t)) (l .loop .cur)) (d .token2 .given .1) (d .before .before .next-token .ensures) in
-    (k .1, draining-ready _ _ _ _ _ _ (l .loop .inv) _ _ (k .0))
-
 loop-less-2 : tie.Need-loop-less-2 Inv-loop μ-loop
 loop-less-2 c =
     let d = c .before .before .before .before .before in
@@ -62,15 +48,10 @@ loop-again-2 c =
     let d = p .before .before .before in
     let l = d .before .before .before in
     let k = subst (NextToken (now (l .before .before .before .args .t)) (l .loop .cur)) (d .token2 .given .1) (d .before .before .next-token .ensures) in
-    draining-on _ _ _ _ _ _ (l .loop .inv) _ _ (k .0) _ _ (p .push-scalar .ensures)
+    draining-scalar _ _ _ _ _ _ (l .loop .inv) _ (k .1) _ (k .0) _ _ (p .push-scalar .ensures)
 
 stretch : (d : tie.After-token3 Inv-loop μ-loop) → NextToken (now (d .before .before .before .before .before .before .args .t)) (d .before .before .before .loop .cur) (tk.Stretch (d .token3 .given .0 .0) (d .token3 .given .0 .1 .0) (d .token3 .given .0 .1 .1 .0))
 stretch d = subst (NextToken (now (d .before .before .before .before .before .before .args .t)) (d .before .before .before .loop .cur)) (d .token3 .given .1) (d .before .before .next-token .ensures)
-
-push-bytes-requires : tie.Need-push-bytes-requires Inv-loop μ-loop
-push-bytes-requires c κs =
-    let d = c .before .before .before in
-    draining-ready _ _ _ _ _ _ (d .before .before .before .loop .inv) _ _ (stretch d .2)
 
 loop-again-3 : tie.Need-loop-again-3 Inv-loop μ-loop
 loop-again-3 c =
@@ -87,13 +68,6 @@ returns c =
     absurd
     (drains-bad _ _ _ (l .loop .inv .drains)
     (subst (NextToken (now (l .before .before .before .args .t)) (l .loop .cur)) (c .enum-told .given .1) (c .before .before .next-token .ensures)))
-
-flush-requires : tie.Need-flush-requires Inv-loop μ-loop
-flush-requires c κs =
-    let d = c .before in
-    let l = d .before .before .before in
-    draining-last _ _ _ _ _ _ (l .loop .inv)
-    (subst (NextToken (now (l .before .before .before .args .t)) (l .loop .cur)) (d .enum-told2 .given .1) (d .before .before .next-token .ensures))
 
 same-length-2 : tie.Need-same-length-2 Inv-loop μ-loop
 same-length-2 c =
@@ -112,7 +86,7 @@ returns-2 c =
 pub put-source-text-spec : {M : Type 1} → statement M
 put-source-text-spec =
     tie.close
-    (tie.spec Inv-loop μ-loop loop-holds (λ c κs. search needs) (λ c. search needs) push-requires loop-less loop-again (λ c. search needs)
-    push-scalar-requires loop-less-2 loop-again-2 (λ c. search needs) (λ c. omega (arith, stretch (c .before .before) .0))
-    (λ c. omega (arith, stretch (c .before .before) .0)) (λ c. omega (arith, stretch (c .before .before) .1)) push-bytes-requires
-    (λ c. stretch (c .before .before .before .before .before .before) .2 .less) loop-again-3 (λ c. search needs) same-length returns (λ c. search needs) flush-requires same-length-2 returns-2)
+    (tie.spec Inv-loop μ-loop loop-holds (λ c κs. search needs) (λ c. search needs) (λ c κs. search needs) loop-less loop-again (λ c. search needs)
+    (λ c κs. search needs) loop-less-2 loop-again-2 (λ c. search needs) (λ c. omega (arith, stretch (c .before .before) .0))
+    (λ c. omega (arith, stretch (c .before .before) .0)) (λ c. omega (arith, stretch (c .before .before) .1)) (λ c κs. search needs)
+    (λ c. stretch (c .before .before .before .before .before .before) .2 .less) loop-again-3 (λ c. search needs) same-length returns (λ c. search needs) (λ c κs. search needs) same-length-2 returns-2)

@@ -1,0 +1,17 @@
+-- The words of a text file's labels, from arrays that hold them or from the rows. Assumes nothing.
+use mathlib.Core.Bool.{Bool}
+use mathlib.Core.List.{List, map}
+use Prim.Native.Nat.{ℕ}
+use Rattle.format.specs.Basics.{if_then_else_}
+use Rattle.format.specs.Records.{label}
+use Rattle.format.specs.Words.{recordWords}
+use Rattle.label_cache.specs.declared.Cached.{Cached}
+use Rattle.label_cache.specs.Caches.{cachedLabels}
+use Rattle.text_labels.specs.Labels.{labelsOf}
+
+abbrev pub labelParts : List ℕ → List (List ℕ)  -- of each label
+labelParts u = map recordWords (map label (labelsOf u))
+
+-- those that arrays hold, if they hold all
+unfoldable pub knownParts : List ℕ → List ℕ → List ℕ → List ℕ → List ℕ → Cached → List (List ℕ)
+knownParts u ss es hs xs r = if r .whole then map recordWords (map label (cachedLabels u ss es hs xs (r .count))) else labelParts u
