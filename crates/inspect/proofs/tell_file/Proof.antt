@@ -3,7 +3,7 @@ use denote.Ref.{now}
 use Rattle.format.specs.Calls.{Filled, readBinary, readText}
 use Rattle.io.specs.Counts.{Counts}
 use Rattle.units.specs.Filled.{filledOf}
-use Rattle.conversion.proofs.PrintLaws.{fill-counts}
+use Rattle.text_format.proofs.PrintLaws.{fill-counts}
 use Rattle.inspect.proofs.tell_file.Statement.{statement}
 use Rattle.inspect.proofs.tell_file.Tie as tie
 

@@ -2,9 +2,9 @@ use borrow.Author.Needs.{needs}
 use denote.Ref.{now}
 use Rattle.format.specs.Calls.{Filled}
 use Rattle.units.specs.Filled.{filledOf}
-use Rattle.conversion.proofs.PrintLaws.{binary-number, binary-file}
-use Rattle.conversion.proofs.text2bin.Statement.{statement}
-use Rattle.conversion.proofs.text2bin.Tie as tie
+use Rattle.text_format.proofs.PrintLaws.{binary-number, binary-file}
+use Rattle.text_format.proofs.conversion.text2bin.Statement.{statement}
+use Rattle.text_format.proofs.conversion.text2bin.Tie as tie
 
 module _ (c : tie.After-binary-of-text) where
   abbrev start : tie.Start

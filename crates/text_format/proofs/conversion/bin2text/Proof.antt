@@ -2,9 +2,9 @@ use borrow.Author.Needs.{needs}
 use denote.Ref.{now}
 use Rattle.format.specs.Calls.{Filled}
 use Rattle.units.specs.Filled.{filledOf}
-use Rattle.conversion.proofs.PrintLaws.{text-number, text-file}
-use Rattle.conversion.proofs.bin2text.Statement.{statement}
-use Rattle.conversion.proofs.bin2text.Tie as tie
+use Rattle.text_format.proofs.PrintLaws.{text-number, text-file}
+use Rattle.text_format.proofs.conversion.bin2text.Statement.{statement}
+use Rattle.text_format.proofs.conversion.bin2text.Tie as tie
 
 module _ (c : tie.After-text-of-binary) where
   abbrev start : tie.Start

@@ -6,13 +6,13 @@ use lib.ListN.{take}
 use denote.Ref.{now}
 use Rattle.format.specs.Basics.{given}
 use Rattle.format.specs.Calls.{Filled, readBinary}
-use Rattle.io.specs.Counts.{Counts}
+use Rattle.text_format.specs.Programs.{Counts}
 use Rattle.units.specs.Filled.{filledOf}
-use Rattle.conversion.specs.Programs.{wordsRead}
-use Rattle.conversion.proofs.RefusalLaws.{binary-read}
-use Rattle.conversion.proofs.PrintLaws.{too-long, not-read, is-read, text-stops, text-goes-on}
-use Rattle.conversion.proofs.text_of_binary.Statement.{statement}
-use Rattle.conversion.proofs.text_of_binary.Tie as tie
+use Rattle.text_format.specs.Programs.{wordsRead}
+use Rattle.text_format.proofs.RefusalLaws.{binary-read}
+use Rattle.text_format.proofs.PrintLaws.{too-long, not-read, is-read, text-stops, text-goes-on}
+use Rattle.text_format.proofs.conversion.text_of_binary.Statement.{statement}
+use Rattle.text_format.proofs.conversion.text_of_binary.Tie as tie
 
 -- the read, and what it was lent
 module _ (c : tie.After-deserialize) where

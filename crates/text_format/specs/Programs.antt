@@ -2,8 +2,8 @@
 -- Assumes nothing.
 use mathlib.Core.Path.{_≡_}
 use mathlib.Core.List.{List}
-use Prim.Native.Nat.{ℕ}
-use lib.ListN.{length}
+use Prim.Native.Nat.{ℕ, _≤_}
+use lib.ListN.{length, take}
 use Rattle.format.specs.Basics.{Outcome, given, _>>=_}
 use Rattle.format.specs.ObjectFile.{Label, Relocation}
 use Rattle.format.specs.Calls.{Filled, fill, message, fitting, readBinary, readText, writeBinary, writeText, OrdersOf, bin2text}
@@ -41,6 +41,10 @@ abbrev pub PrintsBinary : List ℕ → List ℕ → ℕ → List ℕ → Type 0
 PrintsBinary input buffer r after =
     (ls : List Label) × (rs : List Relocation) × OrdersRead input ls rs
     × Put (text2bin 65536 16384 (length buffer) input ls rs) buffer r after
+
+-- what is printed stands at the front of the buffer, as a program that writes `&out[..r]` has to know
+abbrev pub Counts : ℕ → List ℕ → Type 0
+Counts r after = (r ≤ length after) × (r ≡ length (take r after))
 
 -- the promise of `bin2text`
 abbrev pub PrintsText : List ℕ → List ℕ → ℕ → List ℕ → Type 0

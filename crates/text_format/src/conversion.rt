@@ -2,10 +2,9 @@
 // bytes is refused with 3, and a refusal is printed as its number and a newline.
 ghost use mathlib.Core.Path.{_≡_};
 ghost use lib.ListN.{length};
-ghost use Rattle.io.specs.Counts.{Counts};
 ghost use Rattle.format.specs.Calls.{fill};
 ghost use Rattle.units.specs.Filled.{filledOf};
-ghost use Rattle.conversion.specs.Programs.{binaryToText, ConvertsText, PrintsText, PrintsBinary};
+ghost use Rattle.text_format.specs.Programs.{binaryToText, ConvertsText, PrintsText, PrintsBinary, Counts};
 use binary_format::BinaryFormat;
 use text_read::read_text;
 use text_rows_out::put_count_line;

@@ -14,12 +14,12 @@ use Rattle.format.specs.Calls.{Filled, fill, message, fitting, readBinary, read
 use Rattle.format.specs.Calls.{bin2text}
 use Rattle.format.proofs.ListLaws.{by-test}
 use Rattle.format.proofs.WordsOnly.{given-same}
-use Rattle.io.specs.Counts.{Counts}
+use Rattle.text_format.specs.Programs.{Counts}
 use Rattle.writing.specs.Written.{into, filled, written, Put}
 use Rattle.writing.proofs.WriteLaws.{filled-fits, written-fits}
 use Rattle.text_debug.proofs.RefusalLaws.{Numbered, numbered-bind, numbered-ask}
-use Rattle.conversion.specs.Programs.{wordsRead, binaryToText, textToBinary, ConvertsText, text2bin, PrintsBinary, PrintsText}
-use Rattle.conversion.proofs.RefusalLaws.{binary-read, text-read, binary-write, text-write}
+use Rattle.text_format.specs.Programs.{wordsRead, binaryToText, textToBinary, ConvertsText, text2bin, PrintsBinary, PrintsText}
+use Rattle.text_format.proofs.RefusalLaws.{binary-read, text-read, binary-write, text-write}
 
 -- A CALL THAT FILLS A BUFFER, as an outcome that asks for the buffer's length too
 

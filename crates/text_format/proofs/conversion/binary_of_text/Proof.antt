@@ -6,13 +6,13 @@ use lib.ListN.{take}
 use denote.Ref.{now}
 use Rattle.format.specs.Basics.{given}
 use Rattle.format.specs.Calls.{Filled, readText}
-use Rattle.io.specs.Counts.{Counts}
+use Rattle.text_format.specs.Programs.{Counts}
 use Rattle.units.specs.Filled.{filledOf}
-use Rattle.conversion.specs.Programs.{wordsRead, ConvertsText}
-use Rattle.conversion.proofs.RefusalLaws.{text-read}
-use Rattle.conversion.proofs.PrintLaws.{too-long, not-read, is-read, stops, goes-on}
-use Rattle.conversion.proofs.binary_of_text.Statement.{statement}
-use Rattle.conversion.proofs.binary_of_text.Tie as tie
+use Rattle.text_format.specs.Programs.{wordsRead, ConvertsText}
+use Rattle.text_format.proofs.RefusalLaws.{text-read}
+use Rattle.text_format.proofs.PrintLaws.{too-long, not-read, is-read, stops, goes-on}
+use Rattle.text_format.proofs.conversion.binary_of_text.Statement.{statement}
+use Rattle.text_format.proofs.conversion.binary_of_text.Tie as tie
 
 -- the read, and what it was lent
 module _ (c : tie.After-read-text) where
