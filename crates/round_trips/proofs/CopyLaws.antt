@@ -6,7 +6,7 @@ use native.Mathlib.Numerals.{add-one}
 use native.Mathlib.Omega.{arith}
 use lib.ListN.{length, take, getD, set}
 use Rattle.io.specs.Counts.{Counts}
-use Rattle.binary_trips.proofs.StepLaws.{counted}
+use Rattle.round_trips.proofs.StepLaws.{counted}
 use lib.Seq.{take-suc, take-suc-set, take-all}
 
 -- one word more

@@ -1,3 +1,4 @@
+pub mod StepLaws
 pub mod ListLaws
 pub mod CopyLaws
 pub mod RunLaws

@@ -8,8 +8,8 @@ use lib.Seq.{take-append-le, length-take-le}
 use borrow.Author.Tests.{ne-eqb}
 use Rattle.format.specs.Trips.{Trip, LogEntry, logEntry}
 use Rattle.writing.proofs.EachLaws.{drop-at-place}
-use Rattle.binary_trips.specs.declared.Made.{Made}
-use Rattle.binary_trips.specs.Steps.{tripOf, standing, Step}
+use Rattle.round_trips.specs.declared.Made.{Made}
+use Rattle.round_trips.specs.TripSteps.{tripOf, standing, Step}
 use Rattle.round_trips.specs.Steps.{StepsMade, none-left, one-more}
 use Rattle.round_trips.specs.Rows.{formOf, TripRow, rowOf, row, rows, Ran}
 

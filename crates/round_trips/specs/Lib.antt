@@ -1,2 +1,3 @@
+pub mod TripSteps
 pub mod Steps
 pub mod Rows

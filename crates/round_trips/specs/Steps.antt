@@ -7,8 +7,8 @@ use Rattle.format.specs.Basics.{if_then_else_, All}
 use Rattle.format.specs.Words.{wordsOf}
 use Rattle.format.specs.Fair.{Fair}
 use Rattle.format.specs.Trips.{Form, binary, Trip, LogEntry, logEntry, AsExpected, evenBinaryTrips, swapRelocations}
-use Rattle.binary_trips.specs.declared.Made.{Made}
-use Rattle.binary_trips.specs.Steps.{tripOf, standing, Step}
+use Rattle.round_trips.specs.declared.Made.{Made}
+use Rattle.round_trips.specs.TripSteps.{tripOf, standing, Step}
 
 -- a list of such steps from ws, each from what stands after the one before it: the trips, their log, and the words that stand last
 pub data StepsMade : List ℕ → List Trip → List LogEntry → List ℕ → Type 0 where

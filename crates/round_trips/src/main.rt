@@ -7,11 +7,10 @@ ghost use mathlib.Core.List.{[], _∷_};
 ghost use Prim.Native.Nat.{_≤_, min};
 ghost use lib.ListN.{length, take};
 ghost use Rattle.io.specs.Counts.{Counts};
-ghost use Rattle.format.specs.Trips.{text};
-ghost use Rattle.binary_trips.specs.Steps.{Step};
+ghost use Rattle.format.specs.Trips.{binary, text};
+ghost use Rattle.round_trips.specs.TripSteps.{Step};
 ghost use Rattle.round_trips.specs.Rows.{formOf, row, rows, Ran};
-use binary_trips::Made;
-use binary_trips::binary_trip;
+use binary_format::BinaryFormat;
 use text_format::TextFormat;
 
 // The forms of trips in a list.
@@ -53,6 +52,33 @@ const TURNED: [u32; 8] = [
     0xA0000201,
     0xE2004342,
 ];
+
+// The trip's number; and how many words were filled, 0 where it was refused.
+struct Made {
+    number: u8,
+    len: usize,
+}
+
+// A binary trip: a write of the object and, if that gives 0, a read of exactly the length filled.
+fn binary_trip(object: &[u32], bytes: &mut [u8], words: &mut [u32]) -> Made
+    ensures { λ r. ⌜ Step binary (now (object .entry)) (now (bytes .entry)) (now (words .entry)) r (now (words .exit)) ⌝ }
+    ensures { λ r. ⌜ Counts (r .len) (now (words .exit)) ⌝ }
+{
+    let format = BinaryFormat::new();
+    let w = format.serialize(object, bytes);
+    if w.number != 0 {
+        return Made {
+            number: w.number,
+            len: 0,
+        };
+    }
+    let n = w.len;
+    let r = format.deserialize(&bytes[..n], words);
+    Made {
+        number: r.number,
+        len: r.len,
+    }
+}
 
 // A text trip: a write of the object in the text form and, if that gives 0, a read of exactly the length filled.
 fn text_trip(object: &[u32], bytes: &mut [u8], words: &mut [u32]) -> Made

@@ -4,7 +4,7 @@ use mathlib.Core.Path.{_≡_, refl}
 use Prim.Native.Nat.{_-_, _≤_}
 use lib.ListN.{length, take}
 use denote.Ref.{now}
-use Rattle.binary_trips.proofs.StepLaws.{counted}
+use Rattle.round_trips.proofs.StepLaws.{counted}
 use Rattle.round_trips.proofs.RunLaws.{RanTo, ran-start, ran-next, ran-end}
 use Rattle.round_trips.proofs.run.Statement.{statement}
 use Rattle.round_trips.proofs.run.Tie as tie

@@ -1,7 +1,7 @@
 use borrow.Author.Needs.{needs}
 use Rattle.format.specs.Trips.{text}
 use Rattle.units.specs.Filled.{filledOf}
-use Rattle.binary_trips.proofs.StepLaws.{counted, write-within, stopped, went-on}
+use Rattle.round_trips.proofs.StepLaws.{counted, write-within, stopped, went-on}
 use Rattle.round_trips.proofs.text_trip.Statement.{statement}
 use Rattle.round_trips.proofs.text_trip.Tie as tie
 

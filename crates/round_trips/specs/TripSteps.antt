@@ -5,7 +5,7 @@ use lib.ListN.{take}
 use lib.Dec.{eqb}
 use Rattle.format.specs.Basics.{if_then_else_}
 use Rattle.format.specs.Trips.{Form, Trip, TripMade, IsSlice}
-use Rattle.binary_trips.specs.declared.Made.{Made}
+use Rattle.round_trips.specs.declared.Made.{Made}
 
 -- a trip of the form f that is lent these bytes and these words
 abbrev pub tripOf : Form → List ℕ → List ℕ → Trip

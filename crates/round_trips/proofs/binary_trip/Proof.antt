@@ -1,9 +1,9 @@
 use borrow.Author.Needs.{needs}
 use Rattle.format.specs.Trips.{binary}
 use Rattle.units.specs.Filled.{filledOf}
-use Rattle.binary_trips.proofs.StepLaws.{counted, write-within, stopped, went-on}
-use Rattle.binary_trips.proofs.binary_trip.Statement.{statement}
-use Rattle.binary_trips.proofs.binary_trip.Tie as tie
+use Rattle.round_trips.proofs.StepLaws.{counted, write-within, stopped, went-on}
+use Rattle.round_trips.proofs.binary_trip.Statement.{statement}
+use Rattle.round_trips.proofs.binary_trip.Tie as tie
 
 returns : tie.Need-returns
 returns c =

@@ -13,8 +13,8 @@ use Rattle.format.specs.Basics.{Outcome, refused, given, if_then_else_}
 use Rattle.format.specs.Calls.{Filled, fill}
 use Rattle.format.specs.Trips.{Form, binary, text, Writes, Reads, filledPart, TripMade, write-refused, read-refused, completed, IsSlice}
 use Rattle.io.specs.Counts.{Counts}
-use Rattle.binary_trips.specs.declared.Made.{Made}
-use Rattle.binary_trips.specs.Steps.{tripOf, Step}
+use Rattle.round_trips.specs.declared.Made.{Made}
+use Rattle.round_trips.specs.TripSteps.{tripOf, Step}
 
 pub counted : (n : ℕ) (xs : List ℕ) → n ≤ length xs → Counts n xs
 counted n xs h = (h, sym (length-take-le n xs h))
