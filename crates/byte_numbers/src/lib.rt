@@ -27,27 +27,30 @@ pub fn put_u16_be(out: &mut [u8], v: u16) -> usize
     2
 }
 
-// Eight bytes, low byte first.
+// The four lowest bytes, low byte first.
+fn put_four(out: &mut [u8], v: u64) -> usize
+    ensures { λ r. ⌜ Put (digitsOf 8 4 v) (now (out .entry)) r (now (out .exit)) ⌝ }
+{
+    if out.len() < 4 {
+        return 0;
+    }
+    let v1 = v / 256;
+    let v2 = v1 / 256;
+    let v3 = v2 / 256;
+    out[0] = (v % 256) as u8;
+    out[1] = (v1 % 256) as u8;
+    out[2] = (v2 % 256) as u8;
+    out[3] = (v3 % 256) as u8;
+    4
+}
+
+// Eight bytes, low byte first: twice four.
 pub fn put_u64_le(out: &mut [u8], v: u64) -> usize
     ensures { λ r. ⌜ Put (digitsOf 8 8 v) (now (out .entry)) r (now (out .exit)) ⌝ }
 {
     if out.len() < 8 {
         return 0;
     }
-    let v1 = v / 256;
-    let v2 = v1 / 256;
-    let v3 = v2 / 256;
-    let v4 = v3 / 256;
-    let v5 = v4 / 256;
-    let v6 = v5 / 256;
-    let v7 = v6 / 256;
-    out[0] = (v % 256) as u8;
-    out[1] = (v1 % 256) as u8;
-    out[2] = (v2 % 256) as u8;
-    out[3] = (v3 % 256) as u8;
-    out[4] = (v4 % 256) as u8;
-    out[5] = (v5 % 256) as u8;
-    out[6] = (v6 % 256) as u8;
-    out[7] = (v7 % 256) as u8;
-    8
+    let n = put_four(out, v);
+    n + put_four(&mut out[n..], v / 0x1_0000_0000)
 }

@@ -59,8 +59,9 @@ fn put_four(out: &mut [u8], c: u32) -> usize
     4
 }
 
-// The bytes of a scalar value; none of a number that is no scalar value.
-pub fn encode_scalar(out: &mut [u8], c: u32) -> usize
+// The bytes of a scalar value below the surrogates.
+fn put_low(out: &mut [u8], c: u32) -> usize
+    requires { ⌜ c < 0xD800 ⌝ }
     ensures { λ r. ⌜ Put (scalarBytes c) (now (out .entry)) r (now (out .exit)) ⌝ }
 {
     if c < 0x80 {
@@ -69,8 +70,15 @@ pub fn encode_scalar(out: &mut [u8], c: u32) -> usize
     if c < 0x800 {
         return put_two(out, c);
     }
+    put_three(out, c)
+}
+
+// The bytes of a scalar value; none of a number that is no scalar value.
+pub fn encode_scalar(out: &mut [u8], c: u32) -> usize
+    ensures { λ r. ⌜ Put (scalarBytes c) (now (out .entry)) r (now (out .exit)) ⌝ }
+{
     if c < 0xD800 {
-        return put_three(out, c);
+        return put_low(out, c);
     }
     if c < 0xE000 {
         return 0;

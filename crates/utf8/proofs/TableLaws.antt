@@ -313,3 +313,24 @@ agree (suc n) = turn n (agree n)
 -- running the table's reader from the start over bytes and asking whether it stands between characters: whether the bytes are UTF-8
 pub run-is-utf8 : (bs : List ℕ) → isWhole (run whole bs) ≡ isUtf8 bs
 run-is-utf8 bs = sym (agree (length bs) bs (omega arith))
+
+-- THE TABLE'S ROWS of three and of four bytes
+module _ (b : ℕ) where
+  pub row-three : 0xE0 ≤ b → b < 0xF0
+      → firstByte b ≡ (if eqb b 0xE0 then more 2 0xA0 0xBF else if eqb b 0xED then more 2 0x80 0x9F else more 2 0x80 0xBF)
+  unfolding firstByte
+  row-three h k =
+      let x = le-ltb b 0x80 (omega arith) in
+      let y = le-ltb b 0xC2 (omega arith) in
+      simp (x, y, le-ltb b 0xE0 h, lt-ltb b 0xF0 k)
+
+  pub row-four : 0xF0 ≤ b
+      → firstByte b ≡ (if eqb b 0xF0 then more 3 0x90 0xBF else if ltb b 0xF4 then more 3 0x80 0xBF else if eqb b 0xF4 then more 3 0x80 0x8F else bad)
+  unfolding firstByte
+  row-four h =
+      let x = le-ltb b 0x80 (omega arith) in
+      let y = le-ltb b 0xC2 (omega arith) in
+      let z = le-ltb b 0xE0 (omega arith) in
+      let u = ne-eqb b 0xE0 (λ e. omega arith) in
+      let v = ne-eqb b 0xED (λ e. omega arith) in
+      simp (x, y, z, u, v, le-ltb b 0xF0 h)

@@ -27,6 +27,37 @@ fn waiting(need: u8, low: u8, high: u8) -> Utf8
     }
 }
 
+// The state after the first byte of three.
+fn first_of_three(b: u8) -> Utf8
+    requires { ⌜ (0xE0 ≤ b) × (b < 0xF0) ⌝ }
+    ensures { λ r. ⌜ r ≡ firstByte b ⌝ }
+{
+    if b == 0xE0 {
+        return waiting(2, 0xA0, 0xBF);
+    }
+    if b == 0xED {
+        return waiting(2, 0x80, 0x9F);
+    }
+    waiting(2, 0x80, 0xBF)
+}
+
+// The state after the first byte of four, or one that begins no character.
+fn first_of_four(b: u8) -> Utf8
+    requires { ⌜ 0xF0 ≤ b ⌝ }
+    ensures { λ r. ⌜ r ≡ firstByte b ⌝ }
+{
+    if b == 0xF0 {
+        return waiting(3, 0x90, 0xBF);
+    }
+    if b < 0xF4 {
+        return waiting(3, 0x80, 0xBF);
+    }
+    if b == 0xF4 {
+        return waiting(3, 0x80, 0x8F);
+    }
+    waiting(1, 1, 0)
+}
+
 // The state after the first byte of a character.
 pub fn first_byte(b: u8) -> Utf8
     ensures { λ r. ⌜ r ≡ firstByte b ⌝ }
@@ -40,25 +71,10 @@ pub fn first_byte(b: u8) -> Utf8
     if b < 0xE0 {
         return waiting(1, 0x80, 0xBF);
     }
-    if b == 0xE0 {
-        return waiting(2, 0xA0, 0xBF);
-    }
-    if b == 0xED {
-        return waiting(2, 0x80, 0x9F);
-    }
     if b < 0xF0 {
-        return waiting(2, 0x80, 0xBF);
+        return first_of_three(b);
     }
-    if b == 0xF0 {
-        return waiting(3, 0x90, 0xBF);
-    }
-    if b < 0xF4 {
-        return waiting(3, 0x80, 0xBF);
-    }
-    if b == 0xF4 {
-        return waiting(3, 0x80, 0x8F);
-    }
-    waiting(1, 1, 0)
+    first_of_four(b)
 }
 
 impl Utf8 {

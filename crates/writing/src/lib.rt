@@ -69,15 +69,16 @@ fn wide(b: u8) -> u32
 fn text_word(s: &[u8]) -> u32
     ensures { λ r. ⌜ r ≡ getD (textWords (now (s .entry))) 0 0 ⌝ }
 {
-    if s.len() == 0 {
+    let n = s.len();
+    if n == 0 {
         return 0;
     }
     let a = wide(s[0]);
-    if s.len() == 1 {
+    if n == 1 {
         return 0xE100_0000 + a;
     }
     let b = wide(s[1]);
-    if s.len() == 2 {
+    if n == 2 {
         return 0xE200_0000 + a + 256 * b;
     }
     let c = wide(s[2]);
