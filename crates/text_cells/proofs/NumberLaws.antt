@@ -81,6 +81,15 @@ module _ (base max v d : ℕ) (p : 0 < base) where
       (λ t. let e : (max - d) / base < v = div-lt-iff-lt-mul p .1 (ltb-true (max - d) (v * base) t) in absurd (omega arith))
       (λ t. let e : v * base ≤ max - d = ltb-false (max - d) (v * base) t in omega arith)
 
+-- a digit that is none, or makes too much
+pub number-stop : (base max v : ℕ) (s : List ℕ) (i : ℕ) → 0 < base → i < length s
+    → (digitOr16 (getD s i 0) < base → max + 1 ≤ v * base + digitOr16 (getD s i 0)) → belowLimit (max + 1) (digitsFrom base v (drop i s)) ≡ none
+number-stop base max v s i p h k =
+    by-test (ltb (digitOr16 (getD s i 0)) base)
+    (λ t. let l = ltb-true (digitOr16 (getD s i 0)) base t in
+    ap (belowLimit (max + 1)) (from-on base v s i h l) ∙ from-over (max + 1) base p (drop (i + 1) s) (v * base + digitOr16 (getD s i 0)) (k l))
+    (λ t. ap (belowLimit (max + 1)) (from-bad base v s i h (ltb-false (digitOr16 (getD s i 0)) base t)))
+
 pub below-some : (limit v : ℕ) → v < limit → belowLimit limit (some v) ≡ some v
 below-some limit v h = simp (lt-ltb v limit h)
 

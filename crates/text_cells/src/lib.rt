@@ -12,7 +12,7 @@ ghost use Rattle.format.specs.Basics.{eqs};
 ghost use Rattle.format.specs.Utf8.{trim};
 ghost use Rattle.format.specs.TextReader.{splitOnce, splitn, parseNumber, parseDecimal, hex2u16, maybeHex2u16, withoutPlus};
 ghost use Rattle.trim.specs.Span.{Spans};
-ghost use Rattle.text_cells.specs.Cells.{barAt, digitOr16, numberRead, entryOf, DigitsAlone, Cut};
+ghost use Rattle.text_cells.specs.Cells.{barAt, digitOr16, numberRead, entryOf, NextValue, DigitsAlone, Cut};
 
 // What a cell says.
 pub enum Number {
@@ -93,6 +93,23 @@ fn after_plus(s: &[u8]) -> usize
     0
 }
 
+// A value with one more digit of a base, if it is one and the value is at most `max`.
+fn next_value(v: u64, d: u64, base: u64, max: u64) -> Number
+    requires { ⌜ 0 < base ⌝ }
+    ensures { λ r. ⌜ NextValue base max v d r ⌝ }
+{
+    if base <= d {
+        return Number::Nothing;
+    }
+    if max < d {
+        return Number::Nothing;
+    }
+    if (max - d) / base < v {
+        return Number::Nothing;
+    }
+    Number::Value(v * base + d)
+}
+
 // A number in a base that is at most `max`.
 fn read_number(s: &[u8], base: u64, max: u64) -> Number
     requires { ⌜ (0 < base) × (base ≤ 16) ⌝ }
@@ -105,16 +122,10 @@ fn read_number(s: &[u8], base: u64, max: u64) -> Number
     let mut v = 0;
     while i < s.len() {
         let d = digit(s[i]);
-        if base <= d {
+        let Number::Value(n) = next_value(v, d, base, max) else {
             return Number::Nothing;
-        }
-        if max < d {
-            return Number::Nothing;
-        }
-        if (max - d) / base < v {
-            return Number::Nothing;
-        }
-        v = v * base + d;
+        };
+        v = n;
         i += 1;
     }
     Number::Value(v)

@@ -9,12 +9,11 @@ use borrow.Author.Tests.{eq-eqb, ne-eqb}
 use Rattle.format.specs.Basics.{andThen}
 use Rattle.trim.specs.Span.{part}
 use Rattle.text_lines.specs.Views.{StepAt}
-use Rattle.text_tables.specs.declared.LineRow.the-variants as lr
+use Rattle.text_tables.specs.declared.LineRow.{LineRow}
 use Rattle.text_tables.specs.Debug.{Groups, lineView}
-use Rattle.text_tables.specs.LineRows.{lineIn, lineOf, isLine}
+use Rattle.text_tables.specs.LineRows.{lineIn, lineOf}
 use Rattle.text_debug.specs.declared.Runs.{Runs}
-use Rattle.text_debug.specs.declared.RowStep.the-variants as rs
-use Rattle.text_debug.specs.LineRuns.{addressIn, runOn, wordsAfter, runEnd, runNext, runsOver, RowStepIs}
+use Rattle.text_debug.specs.LineRuns.{addressIn, rowAddress, runOn, wordsAfter, runEnd, runNext, runsOver}
 
 pub words-none : (words count : ℕ) → count ≡ 0 → words ≡ wordsAfter words count
 unfolding wordsAfter
@@ -32,28 +31,10 @@ pub risen : (rise fell : Bool) → fell ≡ false → rise ≡ (rise && not fell
 risen true fell e = sym (ap not e)
 risen false fell e = refl
 
--- a row
-module _ (l : List ℕ) where
-  address : (o : Option (ℕ × Option ℕ)) → o ≡ lineIn l → addressIn l ≡ andThen o λ r. r .1
-  unfolding addressIn
-  address o e = ap (λ (x : Option (ℕ × Option ℕ)). andThen x λ r. r .1) (sym e)
-
-  module _ (s : Runs) (i n : ℕ) where
-    pub known-on : (a : ℕ) → lineOf (lr.Known n a) ≡ lineIn l → n ≡ i → (r : Runs) → r ≡ runOn s a → RowStepIs s l i (rs.On r)
-    known-on a e h r q = (ap (isLine i) (sym e) ∙ eq-eqb n i h, q ∙ ap (runNext s) (sym (address (some (n, some a)) e)))
-
-    pub unknown-on : lineOf (lr.Unknown n) ≡ lineIn l → n ≡ i → (r : Runs) → r ≡ runEnd s → RowStepIs s l i (rs.On r)
-    unknown-on e h r q = (ap (isLine i) (sym e) ∙ eq-eqb n i h, q ∙ ap (runNext s) (sym (address (some (n, none)) e)))
-
-  module _ (i n : ℕ) (h : n ≡ i → ⊥) where
-    pub known-other : (a : ℕ) → lineOf (lr.Known n a) ≡ lineIn l → isLine i (lineIn l) ≡ false
-    known-other a e = ap (isLine i) (sym e) ∙ ne-eqb n i h
-
-    pub unknown-other : lineOf (lr.Unknown n) ≡ lineIn l → isLine i (lineIn l) ≡ false
-    unknown-other e = ap (isLine i) (sym e) ∙ ne-eqb n i h
-
-  pub row-bad : (i : ℕ) → lineOf lr.Bad ≡ lineIn l → isLine i (lineIn l) ≡ false
-  row-bad i e = ap (isLine i) (sym e)
+-- a row, as it was read
+pub row-next : (l : List ℕ) (row : LineRow) → lineOf row ≡ lineIn l → (s r : Runs) → r ≡ runNext s (rowAddress row) → r ≡ runNext s (addressIn l)
+unfolding addressIn
+row-next l row e s r q = q ∙ ap (λ (x : Option (ℕ × Option ℕ)). runNext s (andThen x λ p. p .1)) e
 
 pub count-on : (s r : Runs) (o : Option ℕ) → r ≡ runNext s o → r .count ≤ s .count + 1
 unfolding runOn runEnd

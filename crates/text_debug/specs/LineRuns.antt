@@ -8,15 +8,17 @@ use lib.Dec.{eqb, ltb}
 use Rattle.format.specs.Basics.{andThen, if_then_else_}
 use Rattle.format.specs.TextReader.{parseLineRows}
 use Rattle.format.specs.Calls.{refusalOf}
-use Rattle.text_tables.specs.LineRows.{lineIn, isLine}
+use Rattle.text_tables.specs.declared.LineRow.{LineRow}
+use Rattle.text_tables.specs.LineRows.{lineIn, lineOf}
 use Rattle.text_debug.specs.declared.Runs.{Runs}
-use Rattle.text_debug.specs.declared.RowStep.{RowStep}
-use Rattle.text_debug.specs.declared.RowStep.the-variants as rs
 use Rattle.text_debug.specs.declared.LineRows.{LineRows}
 
 -- a row's address, if it has one
 unfoldable pub addressIn : List ℕ → Option ℕ
 addressIn l = andThen (lineIn l) λ r. r .1
+
+abbrev pub rowAddress : LineRow → Option ℕ  -- as it was read
+rowAddress row = andThen (lineOf row) λ r. r .1
 
 -- the runs after a row with an address
 unfoldable pub runOn : Runs → ℕ → Runs
@@ -43,11 +45,6 @@ noRuns = record { count = 0; last = 0; fell = false; words = 0; rise = true }
 
 abbrev pub runsIn : List (List ℕ) → Runs  -- of a line table's rows
 runsIn ls = runsOver noRuns (map addressIn ls)
-
--- a row has this number and goes on the runs, or it does not read or has another
-abbrev pub RowStepIs : Runs → List ℕ → ℕ → RowStep → Type 0
-RowStepIs s l i (rs.On r) = (isLine i (lineIn l) ≡ true) × (r ≡ runNext s (addressIn l))
-RowStepIs s l i rs.Bad = isLine i (lineIn l) ≡ false
 
 -- rows, checked
 abbrev pub LineRowsAre : List (List ℕ) → LineRows → Type 0

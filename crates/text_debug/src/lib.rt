@@ -21,7 +21,8 @@ ghost use lib.Dec.{ltb};
 ghost use Rattle.format.specs.Utf8.{trim};
 ghost use Rattle.format.specs.TextReader.{splitn, sameCells};
 ghost use Rattle.text_tables.specs.Debug.{lineView};
-ghost use Rattle.text_debug.specs.LineRuns.{runOn, wordsAfter, runEnd, RowStepIs, LineRowsAre};
+ghost use Rattle.text_tables.specs.LineRows.{lineOf, isLine};
+ghost use Rattle.text_debug.specs.LineRuns.{rowAddress, runOn, wordsAfter, runEnd, runNext, LineRowsAre};
 ghost use Rattle.text_debug.specs.LineTable.{lineColumns, noLines, withoutLines, RowTableIs, LineTableIs};
 ghost use Rattle.text_debug.specs.DebugGroup.{LastBar, FirstRow, withoutRows, Barred, DebugChecked};
 
@@ -119,31 +120,26 @@ fn run_end(s: Runs) -> Runs
     }
 }
 
-// The runs after a row; or the row does not read, or has another number.
-pub enum RowStep {
-    On(Runs),
-    Bad,
+// Whether a row reads and has this number.
+fn has_number(row: LineRow, i: u64) -> bool
+    ensures { λ r. ⌜ r ≡ isLine i (lineOf row) ⌝ }
+{
+    match row {
+        LineRow::Known(n, _) => n == i,
+        LineRow::Unknown(n) => n == i,
+        LineRow::Bad => false,
+    }
 }
 
-// A row of the line table that should have this number.
-fn row_on(s: Runs, l: &[u8], i: u64) -> RowStep
+// After a row, by whether it has an address.
+fn run_next(s: Runs, row: LineRow) -> Runs
     requires { ⌜ s .count < 2 ^ 63 ⌝ }
-    ensures { λ r. ⌜ RowStepIs s (now (l .entry)) i r ⌝ }
+    ensures { λ r. ⌜ r ≡ runNext s (rowAddress row) ⌝ }
 {
-    match parse_line_row(l) {
-        LineRow::Known(n, a) => {
-            if n != i {
-                return RowStep::Bad;
-            }
-            RowStep::On(run_on(s, a))
-        }
-        LineRow::Unknown(n) => {
-            if n != i {
-                return RowStep::Bad;
-            }
-            RowStep::On(run_end(s))
-        }
-        LineRow::Bad => RowStep::Bad,
+    match row {
+        LineRow::Known(_, a) => run_on(s, a),
+        LineRow::Unknown(_) => run_end(s),
+        LineRow::Bad => run_end(s),
     }
 }
 
@@ -176,14 +172,15 @@ fn parse_line_rows(t: &[u8], from: usize) -> LineRows
                 rise: s.rise,
             };
         };
-        let RowStep::On(r) = row_on(s, &t[start..end], i) else {
+        let row = parse_line_row(&t[start..end]);
+        if !has_number(row, i) {
             return LineRows {
                 number: 28,
                 words: 0,
                 rise: false,
             };
-        };
-        s = r;
+        }
+        s = run_next(s, row);
         i += 1;
         at = next;
     }

@@ -86,16 +86,12 @@ block-on t at a e m n q l c s =
     }
 
 -- TABLES
-ends-other : (kind : ℕ) (l : List ℕ) → (kind ≡ 3 → ⊥) → endsTable kind l ≡ false
+pub ends-other : (kind : ℕ) (l : List ℕ) → (kind ≡ 3 → ⊥) → endsTable kind l ≡ false
 ends-other kind l h = rw (ne-eqb kind 3 h) refl
 
-ends-no : (kind : ℕ) (l : List ℕ) → beginsWith (61 ∷ []) l ≡ false → endsTable kind l ≡ false
+pub ends-bar : (kind : ℕ) (l : List ℕ) → kind ≡ 3 → beginsWith (61 ∷ []) l ≡ endsTable kind l
 unfolding ascii
-ends-no kind l h = rw h (and-no (eqb kind 3))
-
-ends-yes : (kind : ℕ) (l : List ℕ) → kind ≡ 3 → beginsWith (61 ∷ []) l ≡ true → endsTable kind l ≡ true
-unfolding ascii
-ends-yes kind l e h = rw (eq-eqb kind 3 e, h) refl
+ends-bar kind l e = rw (eq-eqb kind 3 e) refl
 
 pub first-block : (kind : ℕ) (t : List ℕ) (at : ℕ) → kind ≡ 0 → FirstRow kind t at at
 unfolding underHeader
@@ -115,39 +111,29 @@ module _ (kind : ℕ) (t : List ℕ) (at a e n : ℕ) (l : RowAt t at a e n) whe
   abbrev first : List ℕ
   first = part a e t
 
-  rows-end : endsTable kind first ≡ true → rowsIn kind 0 (partsFrom t at .before) ≡ []
+  pub row-none : endsTable kind first ≡ true → rowsIn kind 0 (partsFrom t at .before) ≡ []
   unfolding rowsIn
-  rows-end h = ap (rowsIn kind 0) (rows-on t at a e n l) ∙ rw h
+  row-none h = ap (rowsIn kind 0) (rows-on t at a e n l) ∙ rw h
 
-  pub row-none : kind ≡ 3 → beginsWith (61 ∷ []) first ≡ true → rowsIn kind 0 (partsFrom t at .before) ≡ []
-  row-none k h = rows-end (ends-yes kind first k h)
-
-  pub first-bar : (kind ≡ 0 → ⊥) → kind ≡ 3 → beginsWith (61 ∷ []) first ≡ true → FirstRow kind t at at
+  pub first-bar : (kind ≡ 0 → ⊥) → endsTable kind first ≡ true → FirstRow kind t at at
   unfolding underHeader rowsIn
-  first-bar z k h =
-      let y = ends-yes kind first k h in
+  first-bar z y =
       record {
         from = omega arith;
         inside = λ h. h;
-        rows = rows-end y ∙ sym (ap (λ (ls : List (List ℕ)). rowsIn kind 0 (underHeader kind ls)) (rows-on t at a e n l) ∙ rw (ne-eqb kind 0 z, y) refl);
+        rows = row-none y ∙ sym (ap (λ (ls : List (List ℕ)). rowsIn kind 0 (underHeader kind ls)) (rows-on t at a e n l) ∙ rw (ne-eqb kind 0 z, y) refl);
         groups = refl;
       }
 
-  first-after : (kind ≡ 0 → ⊥) → endsTable kind first ≡ false → FirstRow kind t at n
+  pub first-line : (kind ≡ 0 → ⊥) → endsTable kind first ≡ false → FirstRow kind t at n
   unfolding underHeader
-  first-after z h =
+  first-line z h =
       record {
         from = omega (arith, l .on);
         inside = λ _. l .next;
         rows = sym (ap (λ (ls : List (List ℕ)). rowsIn kind 0 (underHeader kind ls)) (rows-on t at a e n l) ∙ rw (ne-eqb kind 0 z, h) refl);
         groups = row-groups t at a e n l;
       }
-
-  pub first-line : (kind ≡ 0 → ⊥) → beginsWith (61 ∷ []) first ≡ false → FirstRow kind t at n
-  first-line z h = first-after z (ends-no kind first h)
-
-  pub first-other : (kind ≡ 0 → ⊥) → (kind ≡ 3 → ⊥) → FirstRow kind t at n
-  first-other z h = first-after z (ends-other kind first h)
 
   -- a row, and its lines after the first
   row-here : (q : ℕ) → endsTable kind first ≡ false → Skips t n (linesAfter kind (partsFrom t n .before)) q → FoundAt kind t at at q
@@ -183,18 +169,12 @@ module _ (kind : ℕ) (t : List ℕ) (at a e n : ℕ) (l : RowAt t at a e n) whe
       zero-lines : (ls : List (List ℕ)) → linesAfter kind ls ≡ suc (countIn ls)
       zero-lines ls = rw (eq-eqb kind 0 z) refl
 
-  row-single : (kind ≡ 0 → ⊥) → endsTable kind first ≡ false → FoundAt kind t at at n
+  pub row-line : (kind ≡ 0 → ⊥) → endsTable kind first ≡ false → FoundAt kind t at at n
   unfolding linesAfter
-  row-single z h = row-here n h (subst (λ (k : ℕ). Skips t n k n) (sym (none (partsFrom t n .before))) (skip-none t n))
+  row-line z h = row-here n h (subst (λ (k : ℕ). Skips t n k n) (sym (none (partsFrom t n .before))) (skip-none t n))
     where
       none : (ls : List (List ℕ)) → linesAfter kind ls ≡ 0
       none ls = rw (ne-eqb kind 0 z) refl
-
-  pub row-line : (kind ≡ 0 → ⊥) → beginsWith (61 ∷ []) first ≡ false → FoundAt kind t at at n
-  row-line z h = row-single z (ends-no kind first h)
-
-  pub row-other : (kind ≡ 0 → ⊥) → (kind ≡ 3 → ⊥) → FoundAt kind t at at n
-  row-other z h = row-single z (ends-other kind first h)
 
 pub row-span : (t : List ℕ) (at a e n : ℕ) → RowAt t at a e n → LineOf t at a e
 unfolding firstLine

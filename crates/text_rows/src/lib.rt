@@ -13,7 +13,7 @@ ghost use Prim.Native.Nat.{suc, _+_, _≤_, _<_};
 ghost use lib.ListN.{length};
 ghost use Rattle.format.specs.TextReader.{parseDecimal};
 ghost use Rattle.text_lines.specs.Groups.{partsFrom};
-ghost use Rattle.text_rows.specs.Rows.{orZero, countIn};
+ghost use Rattle.text_rows.specs.Rows.{orZero, countIn, endsTable};
 ghost use Rattle.text_rows.specs.Steps.{Skips, Headless, DotAfter, GroupEnd, FirstRow, NextTable, RowHere, NextPlace, BeginsAt};
 
 // A place in the input, or none.
@@ -71,7 +71,7 @@ fn block_end(t: &[u8], at: usize) -> usize
 
 // 1 for an LF before a `.`.
 fn is_head(a: u8, b: u8) -> u8
-    ensures { λ r. ⌜ (r ≤ 1) × (r ≡ 0 → a ≡ 0x0A → b ≡ 0x2E → ⊥) ⌝ }
+    ensures { λ r. ⌜ (r ≤ 1) × (r ≡ 0 → a ≡ 0x0A → b ≡ 0x2E → ⊥) × (r ≡ 1 → (a ≡ 0x0A) × (b ≡ 0x2E)) ⌝ }
 {
     if a != 0x0A {
         return 0;
@@ -119,10 +119,8 @@ fn next_dot(t: &[u8], at: usize) -> usize
 {
     let mut i = headless_blocks(t, at);
     while 1 < t.len() - i {
-        if t[i] == 0x0A {
-            if t[i + 1] == 0x2E {
-                return i + 1;
-            }
+        if is_head(t[i], t[i + 1]) == 1 {
+            return i + 1;
         }
         i += 1;
     }
@@ -142,6 +140,16 @@ fn end_of_group(t: &[u8], from: usize) -> usize
     next_dot(t, from)
 }
 
+// Whether a line ends a table of a kind, as the first bar ends .DEBUG's labels.
+fn ends_table(kind: u8, l: &[u8]) -> bool
+    ensures { λ r. ⌜ r ≡ endsTable kind (now (l .entry)) ⌝ }
+{
+    if kind != 3 {
+        return false;
+    }
+    begins_with(l, b'=')
+}
+
 // Past the header of a table; .TEXT has none.
 fn first_row(t: &[u8], kind: u8, at: usize) -> usize
     ensures { λ r. ⌜ FirstRow kind (now (t .entry)) at r ⌝ }
@@ -152,10 +160,8 @@ fn first_row(t: &[u8], kind: u8, at: usize) -> usize
     let Line::At { start, end, next } = next_row(t, at) else {
         return at;
     };
-    if kind == 3 {
-        if begins_with(&t[start..end], b'=') {
-            return at;
-        }
+    if ends_table(kind, &t[start..end]) {
+        return at;
     }
     next
 }
@@ -195,10 +201,8 @@ fn row_at(t: &[u8], kind: u8, at: usize) -> Found
     if kind == 0 {
         return Found::At(at, start, end, block_end(t, next));
     }
-    if kind == 3 {
-        if begins_with(&t[start..end], b'=') {
-            return Found::Nothing;
-        }
+    if ends_table(kind, &t[start..end]) {
+        return Found::Nothing;
     }
     Found::At(at, start, end, next)
 }

@@ -4,12 +4,15 @@ use text_cells::digit;
 use text_cells::third_cell;
 use text_lines::Line;
 use text_tables::next_source_line;
+use trim::Span;
 ghost use mathlib.Core.Path.{_≡_};
 ghost use mathlib.Core.Bool.{false};
 ghost use Prim.Native.Nat.{_+_, _≤_, _<_};
-ghost use lib.ListN.{length};
+ghost use mathlib.Core.List.{[]};
+ghost use lib.ListN.{length, getD};
 ghost use Rattle.format.specs.Utf8.{encodeScalar, isScalar};
-ghost use Rattle.format.specs.TextReader.{unescape};
+ghost use Rattle.format.specs.TextReader.{splitn, unescape};
+ghost use Rattle.trim.specs.Span.{Spans};
 ghost use Rattle.text_source.specs.Stream.{atMost, NextPiece, NextByte, bytesLeft};
 ghost use Rattle.text_source.specs.Unescape.{NextEscape, NextDigits, NextToken, Escapes, Plain, UnescapedIs, escapeByte, endsEscape};
 
@@ -35,13 +38,20 @@ fn at_most(x: usize, most: usize) -> usize
     x
 }
 
+// The SOURCE cell of a row, which is not trimmed.
+fn source_cell(l: &[u8]) -> Span
+    ensures { λ r. ⌜ Spans (now (l .entry)) (r .start) (r .end) (getD (splitn 2 (now (l .entry))) 2 []) ⌝ }
+{
+    third_cell(l)
+}
+
 // A cursor that is at a byte.
 pub enum Piece {
     At(Source),
     Done,
 }
 
-// The cursor at the next byte of the source column, of whatever cell, none of which is trimmed: a way that stays out of the fast one.
+// The cursor at the next byte of the source column, of whatever cell: a way that stays out of the fast one.
 fn find_piece(t: &[u8], c: Source) -> Piece
     ensures { λ r. ⌜ NextPiece (now (t .entry)) c r ⌝ }
 {
@@ -64,7 +74,7 @@ fn find_piece(t: &[u8], c: Source) -> Piece
         else {
             return Piece::Done;
         };
-        let cell = third_cell(&t[start..stop]);
+        let cell = source_cell(&t[start..stop]);
         at = start + cell.start;
         end = start + cell.end;
         next = n;

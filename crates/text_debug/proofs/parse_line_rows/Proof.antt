@@ -1,7 +1,8 @@
 -- Row by row: the same number and the same runs from here. Assumes nothing.
 use borrow.Author.Needs.{needs}
 use native.Mathlib.Omega.{arith}
-use mathlib.Core.Path.{_≡_, refl, ap, _∙_, subst}
+use borrow.Author.Tests.{not-true, not-false}
+use mathlib.Core.Path.{_≡_, refl, sym, ap, _∙_, subst}
 use mathlib.Core.List.{List, map}
 use Prim.Native.Nat.{ℕ, _-_, _≤_}
 use denote.Ref.{now}
@@ -12,11 +13,11 @@ use Rattle.trim.specs.Span.{part}
 use Rattle.text_lines.specs.Views.{StepAt}
 use Rattle.text_lines.specs.declared.Line.{Line}
 use Rattle.text_tables.specs.Debug.{NextIn, lineView}
+use Rattle.text_tables.specs.LineRows.{lineIn, isLine}
 use Rattle.text_tables.proofs.LineRowLaws.{lines-on, lines-bad, lines-done}
 use Rattle.text_debug.specs.declared.Runs.{Runs}
-use Rattle.text_debug.specs.declared.RowStep.the-variants as rs
-use Rattle.text_debug.specs.LineRuns.{addressIn, runsOver, runsIn, RowStepIs}
-use Rattle.text_debug.proofs.RunLaws.{count-on, runs-on, runs-done}
+use Rattle.text_debug.specs.LineRuns.{addressIn, runsOver, runsIn}
+use Rattle.text_debug.proofs.RunLaws.{row-next, count-on, runs-on, runs-done}
 use Rattle.text_debug.proofs.parse_line_rows.Statement.{statement}
 use Rattle.text_debug.proofs.parse_line_rows.Tie as tie
 
@@ -47,35 +48,28 @@ returns c =
     let e = runs-done (text l) (l .loop .at) d (l .loop .s) ∙ l .loop .inv .3 in
     (lines-done (text l) (l .loop .at) (l .loop .i) d ∙ l .loop .inv .2, λ z. (ap (λ (x : Runs). x .words) e, ap (λ (x : Runs). x .rise) e))
 
-row-on-requires : tie.Need-row-on-requires Inv-loop μ-loop
-row-on-requires c κs =
-    let s = c .before .before in
+-- the row, and what was read of it
+abbrev from : tie.After-parse-line-row Inv-loop μ-loop → tie.After-start Inv-loop μ-loop
+from p = p .before .before .before
+
+abbrev there : tie.After-parse-line-row Inv-loop μ-loop → List ℕ
+there p = let s = from p in part (s .start .given .0 .0) (s .start .given .0 .1 .0) (text (loop s))
+
+numbered : (c : tie.After-has-number Inv-loop μ-loop) → let i = loop (from (c .before)) .loop .i in isLine i (lineIn (there (c .before))) ≡ c .has-number .result
+numbered c = sym (ap (isLine (loop (from (c .before)) .loop .i)) (c .before .parse-line-row .ensures)) ∙ sym (c .has-number .ensures)
+
+run-next-requires : tie.Need-run-next-requires Inv-loop μ-loop
+run-next-requires c κs =
+    let s = from (c .before .before) in
     let l = loop s in
     let h = l .before .shared-slice-known .given in
     omega (arith, l .loop .inv .0, l .loop .inv .1, line s .on, line s .next)
 
-abbrev from : tie.After-row-on Inv-loop μ-loop → tie.After-start Inv-loop μ-loop
-from c = c .before .before .before
-
 returns-2 : tie.Need-returns-2 Inv-loop μ-loop
 returns-2 c =
-    let r = c .before .before in
-    let s = from r in
-    let l = loop s in (
-      lines-bad _ _ _ _ _ (line s) (l .loop .i)
-          (subst (RowStepIs (l .loop .s) (part (s .start .given .0 .0) (s .start .given .0 .1 .0) (text l)) (l .loop .i)) (c .enum-told2 .given .1) (r .row-on .ensures))
-          ∙ l .loop .inv .2,
-      λ z. absurd (omega (arith, z)),
-    )
-
-read : (c : tie.After-r Inv-loop μ-loop) →
     let s = from (c .before .before) in
     let l = loop s in
-    RowStepIs (l .loop .s) (part (s .start .given .0 .0) (s .start .given .0 .1 .0) (text l)) (l .loop .i) (rs.On (c .r .given .0 .0))
-read c =
-    let s = from (c .before .before) in
-    let l = loop s in
-    subst (RowStepIs (l .loop .s) (part (s .start .given .0 .0) (s .start .given .0 .1 .0) (text l)) (l .loop .i)) (c .r .given .1) (c .before .before .row-on .ensures)
+    (lines-bad _ _ _ _ _ (line s) (l .loop .i) (numbered (c .before) ∙ not-true _ (c .if1 .taken)) ∙ l .loop .inv .2, λ z. absurd (omega (arith, z)))
 
 add-i : tie.Need-add-i Inv-loop μ-loop
 add-i c =
@@ -87,14 +81,15 @@ loop-less c = let s = from (c .before .before .before) in omega (arith, line s .
 
 loop-again : tie.Need-loop-again Inv-loop μ-loop
 loop-again c =
-    let r = c .before in
-    let s = from (r .before .before) in
+    let p = c .before .before .before in
+    let s = from p in
     let l = loop s in
-    let v = l .loop .inv in (
+    let v = l .loop .inv in
+    let r = row-next (there p) (p .parse-line-row .result) (p .parse-line-row .ensures) (l .loop .s) (c .run-next .result) (c .run-next .ensures) in (
       omega (arith, v .0, line s .on),
-      omega (arith, v .1, count-on (l .loop .s) (r .r .given .0 .0) (addressIn (part (s .start .given .0 .0) (s .start .given .0 .1 .0) (text l))) (read r .1)),
-      lines-on _ _ _ _ _ (line s) (l .loop .i) (read r .0) ∙ v .2,
-      runs-on _ _ _ _ _ (line s) (l .loop .s) (r .r .given .0 .0) (read r .1) ∙ v .3,
+      omega (arith, v .1, count-on (l .loop .s) (c .run-next .result) (addressIn (there p)) r),
+      lines-on _ _ _ _ _ (line s) (l .loop .i) (numbered (c .before .before) ∙ not-false _ (c .before .if1 .left)) ∙ v .2,
+      runs-on _ _ _ _ _ (line s) (l .loop .s) (c .run-next .result) r ∙ v .3,
     )
 
 pub parse-line-rows-spec : {M : Type 1} → statement M
@@ -102,4 +97,4 @@ parse-line-rows-spec =
     tie.close
     (tie.spec Inv-loop μ-loop (λ c. (omega arith, omega arith, refl, refl)) (λ c κs. search needs) (λ c. search needs) (λ c. search needs) returns
     (λ c. omega (arith, line (c .before) .ordered)) (λ c. omega (arith, line (c .before) .ordered)) (λ c. omega (arith, line (c .before) .inside))
-    row-on-requires (λ c. search needs) (λ c. search needs) returns-2 add-i loop-less loop-again)
+    (λ c κs. search needs) (λ c κs. search needs) returns-2 run-next-requires add-i loop-less loop-again)

@@ -1,43 +1,41 @@
 use borrow.Author.Needs.{needs}
 use native.Mathlib.Omega.{arith}
 use mathlib.Core.Path.{sym, _∙_, subst}
+use mathlib.Core.List.{List}
+use Prim.Native.Nat.{ℕ}
 use denote.Ref.{now}
 use Rattle.text_lines.specs.Groups.{NextRow, RowAt}
-use Rattle.text_rows.proofs.StepLaws.{first-block, first-none, first-bar, first-line, first-other}
+use Rattle.text_rows.proofs.StepLaws.{first-block, first-none, first-bar, first-line}
 use Rattle.text_rows.proofs.first_row.Statement.{statement}
 use Rattle.text_rows.proofs.first_row.Tie as tie
 
-row : (c : tie.After-start) → RowAt (now (c .before .before .before .before .before .args .t)) (c .before .before .before .before .before .args .at) (c .start .given .0 .0) (c .start .given .0 .1 .0) (c .start .given .0 .1 .1 .0)
-row c = subst (NextRow (now (c .before .before .before .before .before .args .t)) (c .before .before .before .before .before .args .at)) (c .start .given .1) (c .before .before .next-row .ensures)
+abbrev text : tie.Start → List ℕ
+text k = now (k .args .t)
 
-returns : tie.Need-returns
-returns c = first-block _ _ _ (c .if1 .taken)
+abbrev start : tie.After-start → tie.Start
+start c = c .before .before .before .before .before
+
+row : (c : tie.After-start) → RowAt (text (start c)) (start c .args .at) (c .start .given .0 .0) (c .start .given .0 .1 .0) (c .start .given .0 .1 .1 .0)
+row c = subst (NextRow (text (start c)) (start c .args .at)) (c .start .given .1) (c .before .before .next-row .ensures)
 
 returns-2 : tie.Need-returns-2
 returns-2 c =
-    first-none _ _ _ (subst (NextRow (now (c .before .before .before .before .before .args .t)) (c .before .before .before .before .before .args .at)) (c .enum-told .given .1) (c .before .before .next-row .ensures))
-
-sub-begins-with : tie.Need-sub-begins-with
-sub-begins-with c = omega (arith, row (c .before .before) .ordered)
-
-part-begins-with-start : tie.Need-part-begins-with-start
-part-begins-with-start c = omega (arith, row (c .before .before) .ordered)
-
-part-begins-with-end : tie.Need-part-begins-with-end
-part-begins-with-end c = omega (arith, row (c .before .before) .inside)
+    let k = c .before .before .before .before .before in
+    first-none _ _ _ (subst (NextRow (text k) (k .args .at)) (c .enum-told .given .1) (c .before .before .next-row .ensures))
 
 returns-3 : tie.Need-returns-3
 returns-3 c =
-    first-bar _ _ _ _ _ _ (row (c .before .before .before .before .before)) (c .before .before .before .before .before .before .before .before .if1 .left)
-    (c .before .before .before .if2 .taken) (sym (c .before .begins-with .ensures) ∙ c .if3 .taken)
+    let s = c .before .before .before .before in
+    first-bar _ _ _ _ _ _ (row s) (s .before .before .before .if1 .left) (sym (c .before .ends-table .ensures) ∙ c .if2 .taken)
 
 returns-4 : tie.Need-returns-4
 returns-4 c =
-    first-line _ _ _ _ _ _ (row (c .before .before .before .before .before)) (c .before .before .before .before .before .before .before .before .if1 .left)
-    (sym (c .before .begins-with .ensures) ∙ c .if3 .left)
-
-returns-5 : tie.Need-returns-5
-returns-5 c = first-other _ _ _ _ _ _ (row (c .before .before)) (c .before .before .before .before .before .if1 .left) (c .if2 .left)
+    let s = c .before .before .before .before in
+    first-line _ _ _ _ _ _ (row s) (s .before .before .before .if1 .left) (sym (c .before .ends-table .ensures) ∙ c .if2 .left)
 
 pub first-row-spec : {M : Type 1} → statement M
-first-row-spec = tie.close (tie.spec returns (λ c κs. search needs) (λ c. search needs) (λ c. search needs) returns-2 sub-begins-with part-begins-with-start part-begins-with-end (λ c κs. search needs) returns-3 returns-4 returns-5)
+first-row-spec =
+    tie.close
+    (tie.spec (λ c. first-block _ _ _ (c .if1 .taken)) (λ c κs. search needs) (λ c. search needs) (λ c. search needs) returns-2
+    (λ c. omega (arith, row (c .before) .ordered)) (λ c. omega (arith, row (c .before) .ordered)) (λ c. omega (arith, row (c .before) .inside))
+    (λ c κs. search needs) returns-3 returns-4)

@@ -39,26 +39,26 @@ returns-2 : tie.Need-returns-2 Inv-loop μ-loop
 returns-2 c = let a = c .before .before .before .before .before .before .before .args in
     start (now (a .t)) (a .c .at) (a .c .end) (a .c .next) _ (c .before .before .before .before .before .at-most .ensures) ∙ byte-none _ _ _ _ _ (c .before .before .before .before .loop .inv .1) (c .before .before .before .if1 .left) (subst (NextIn (lineView (now (c .before .before .before .before .before .before .before .args .t))) (now (c .before .before .before .before .before .before .before .args .t)) (c .before .before .before .before .loop .next)) (c .enum-told .given .1) (c .before .before .next-source-line .ensures))
 
-sub-third-cell : tie.Need-sub-third-cell Inv-loop μ-loop
-sub-third-cell c = omega (arith, line (c .before) .ordered)
+sub-source-cell : tie.Need-sub-source-cell Inv-loop μ-loop
+sub-source-cell c = omega (arith, line (c .before) .ordered)
 
-part-third-cell-start : tie.Need-part-third-cell-start Inv-loop μ-loop
-part-third-cell-start c = omega (arith, line (c .before) .ordered)
+part-source-cell-start : tie.Need-part-source-cell-start Inv-loop μ-loop
+part-source-cell-start c = omega (arith, line (c .before) .ordered)
 
-part-third-cell-end : tie.Need-part-third-cell-end Inv-loop μ-loop
-part-third-cell-end c = omega (arith, line (c .before) .inside)
+part-source-cell-end : tie.Need-part-source-cell-end Inv-loop μ-loop
+part-source-cell-end c = omega (arith, line (c .before) .inside)
 
 add-at : tie.Need-add-at Inv-loop μ-loop
-add-at c = let r = byte-later _ _ _ _ _ (c .before .before .before .before .before .before .before .before .loop .inv .1) (c .before .before .before .before .before .before .before .if1 .left) _ _ _ _ _ (line (c .before .before .before .before)) (c .before .third-cell .ensures) in omega (arith, r .0, r .1)
+add-at c = let r = byte-later _ _ _ _ _ (c .before .before .before .before .before .before .before .before .loop .inv .1) (c .before .before .before .before .before .before .before .if1 .left) _ _ _ _ _ (line (c .before .before .before .before)) (c .before .source-cell .ensures) in omega (arith, r .0, r .1)
 
 add-end : tie.Need-add-end Inv-loop μ-loop
-add-end c = let r = byte-later _ _ _ _ _ (c .before .before .before .before .before .before .before .before .before .loop .inv .1) (c .before .before .before .before .before .before .before .before .if1 .left) _ _ _ _ _ (line (c .before .before .before .before .before)) (c .before .before .third-cell .ensures) in omega (arith, r .1)
+add-end c = let r = byte-later _ _ _ _ _ (c .before .before .before .before .before .before .before .before .before .loop .inv .1) (c .before .before .before .before .before .before .before .before .if1 .left) _ _ _ _ _ (line (c .before .before .before .before .before)) (c .before .before .source-cell .ensures) in omega (arith, r .1)
 
 loop-less : tie.Need-loop-less Inv-loop μ-loop
 loop-less c = omega (arith, line (c .before .before .before .before .before) .on, line (c .before .before .before .before .before) .next)
 
 loop-again : tie.Need-loop-again Inv-loop μ-loop
-loop-again c = let r = byte-later _ _ _ _ _ (c .before .before .before .before .before .before .before .before .before .loop .inv .1) (c .before .before .before .before .before .before .before .before .if1 .left) _ _ _ _ _ (line (c .before .before .before .before .before)) (c .before .before .third-cell .ensures) in (r .1, r .2)
+loop-again c = let r = byte-later _ _ _ _ _ (c .before .before .before .before .before .before .before .before .before .loop .inv .1) (c .before .before .before .before .before .before .before .before .if1 .left) _ _ _ _ _ (line (c .before .before .before .before .before)) (c .before .before .source-cell .ensures) in (r .1, r .2)
 
 pub find-piece-spec : {M : Type 1} → statement M
-find-piece-spec = tie.close (tie.spec Inv-loop μ-loop (λ c κs. search needs) loop-holds returns (λ c κs. search needs) (λ c. search needs) (λ c. search needs) returns-2 sub-third-cell part-third-cell-start part-third-cell-end (λ c κs. search needs) add-at add-end loop-less loop-again)
+find-piece-spec = tie.close (tie.spec Inv-loop μ-loop (λ c κs. search needs) loop-holds returns (λ c κs. search needs) (λ c. search needs) (λ c. search needs) returns-2 sub-source-cell part-source-cell-start part-source-cell-end (λ c κs. search needs) add-at add-end loop-less loop-again)
