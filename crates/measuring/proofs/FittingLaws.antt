@@ -164,3 +164,14 @@ pub lent-room : {whole room left : List ℕ} {s : State ℕ} (f : Emits whole ro
     → length part ≤ length (rest s)
 lent-room {s = s} f part left′ e =
     omega (arith, has-room f, ap length e, length-append part left′, ap length (part-to-end (s .out) (s .at)), length-drop (s .at) (s .out))
+
+-- several at the front
+pub fill-start : {A : Type 0} (part : A → List ℕ) (xs zs : List A) (room : List ℕ) {ys : List ℕ} {r : ℕ}
+    → Put (fitting part (length room) xs) room r ys
+    → Emits (fitting part (length room) (xs ++ zs)) room (fitting part (length room - r) zs) (record { at = r; out = ys })
+fill-start part xs zs room {ys} {r} p =
+    let f = fitting part (length room) xs in
+    let e : r ≡ length f = p .0 ∙ filled-fits f room (fitting-room part xs (length room)) in
+    first-put f (fitting part (length room - r) zs) room
+    (fitting-append part xs zs (length room) ∙ ap (λ (n : ℕ). f ++ fitting part (length room - n) zs) (sym e))
+    (fitting-room part (xs ++ zs) (length room)) p

@@ -22,7 +22,7 @@ use Rattle.text_numerals.proofs.DigitLaws.{right-length, right-full}
 use Rattle.text_numerals.specs.Memory.{knownWord}
 use Rattle.format.specs.Digits.{digitsOf}
 use Rattle.format.specs.TextWriter.{hex4, decimal, memoryText, spaces, toRight, tableDiv, textLine}
-use Rattle.text_escape.specs.Rows.{lineLine}
+use Rattle.text_escape.specs.Rows.{lineLine, rowHead, newlineBytes}
 use Rattle.utf8.proofs.CharLaws.{front, char-inside}
 use Rattle.word_chars.proofs.CharLaws.{char-low, byte-is, size-is}
 use Rattle.word_chars.specs.Stretches.{Stretch}
@@ -328,3 +328,17 @@ line-length width number o cell =
       length-append cell (0x0A ∷ []),
       memory-length o,
     )
+
+-- up to the last cell, and that with its newline
+pub row-parts : (width number : ℕ) (o : Option ℕ) (cell : List ℕ)
+    → lineLine width number o cell ≡ rowHead width number o ++ textLine cell
+row-parts width number o cell =
+    let a = toRight width (decimal number) in
+    let m = memoryText o in
+    line-parts a tableDiv m tableDiv cell ∙ regroup a tableDiv m tableDiv (textLine cell)
+  where
+    regroup : (a b c d e : List ℕ) → a ++ (b ++ (c ++ (d ++ e))) ≡ a ++ (b ++ (c ++ d)) ++ e
+    regroup a b c d e = simp append-assoc
+
+pub plain-parts : (span : List ℕ) → textLine (span ++ (0x5C ∷ 0x6E ∷ [])) ≡ span ++ newlineBytes
+plain-parts span = append-assoc span (0x5C ∷ 0x6E ∷ []) (0x0A ∷ [])

@@ -13,17 +13,18 @@ use writing::put_bytes;
 use writing::put_u8;
 ghost use mathlib.Core.Path.{_≡_};
 ghost use mathlib.Core.Bool.{true};
+ghost use mathlib.Core.List.{_++_};
 ghost use Prim.Native.Nat.{_+_, _-_, _≤_, _<_};
 ghost use lib.ListN.{length};
 ghost use lib.Dec.{leb};
-ghost use Rattle.format.specs.TextWriter.{escapeChar, decimal, toRight};
+ghost use Rattle.format.specs.TextWriter.{escapeChar, decimal, toRight, textLine};
 ghost use Rattle.writing.specs.Written.{Put};
 ghost use Rattle.measuring.specs.Room.{roomOf, less, lessPart};
 ghost use Rattle.text_numerals.specs.Memory.{knownWord};
-ghost use Rattle.object.specs.Texts.{EachIn};
+ghost use Rattle.object.specs.Texts.{EachIn, spanBytes};
 ghost use Rattle.word_chars.specs.Stretches.{Stretch};
 ghost use Rattle.text_escape.specs.Escaped.{letterOf, codeText, escapedIn, Itself, Plain};
-ghost use Rattle.text_escape.specs.Rows.{lineLine, plainCell, PlainUpTo};
+ghost use Rattle.text_escape.specs.Rows.{lineLine, addressCell, rowHead, newlineBytes, plainCell, PlainUpTo};
 
 // What a character is escaped with: \u{
 const UNICODE: [u8; 3] = [0x5C, 0x75, 0x7B];
@@ -340,6 +341,35 @@ fn row_fits(
     escaped_fits(room - 11 - head, ws, at, start, end)
 }
 
+// The second cell of a row between two dividers, into a room that suffices: an address, or ???? where it isn't known.
+fn put_address_cell(out: &mut [u8], known: bool, address: u16) -> usize
+    requires { ⌜ length (addressCell (knownWord known address)) ≤ length (now out) ⌝ }
+    ensures { λ r. ⌜ Put (addressCell (knownWord known address)) (now (out .entry)) r (now (out .exit)) ⌝ }
+{
+    let div = TABLE_DIV;
+    let mut k = put_bytes(out, &div);
+    k += put_memory(&mut out[k..], known, address);
+    k + put_bytes(&mut out[k..], &div)
+}
+
+// A row up to its last cell, into a room that suffices.
+fn put_row_head(out: &mut [u8], width: usize, number: u64, known: bool, address: u16) -> usize
+    requires { ⌜ length (rowHead width number (knownWord known address)) ≤ length (now out) ⌝ }
+    ensures { λ r. ⌜ Put (rowHead width number (knownWord known address)) (now (out .entry)) r (now (out .exit)) ⌝ }
+{
+    let k = put_right(out, width, number);
+    k + put_address_cell(&mut out[k..], known, address)
+}
+
+// The last cell of a row, escaped, and its newline, into a room that suffices.
+fn put_source_cell(out: &mut [u8], ws: &[u32], at: usize, start: usize, end: usize) -> usize
+    requires { ⌜ length (textLine (escapedIn (now ws) at start end)) ≤ length (now out) ⌝ }
+    ensures { λ r. ⌜ Put (textLine (escapedIn (now (ws .entry)) at start end)) (now (out .entry)) r (now (out .exit)) ⌝ }
+{
+    let k = put_chars(out, ws, at, start, end);
+    k + put_u8(&mut out[k..], 0x0A)
+}
+
 // It, written.
 pub fn put_line_row(
     out: &mut [u8],
@@ -358,15 +388,8 @@ pub fn put_line_row(
     if !row_fits(out.len(), width, number, ws, at, start, end) {
         return 0;
     }
-    let div = TABLE_DIV;
-    let mut k = 0;
-    k += put_right(&mut out[k..], width, number);
-    k += put_bytes(&mut out[k..], &div);
-    k += put_memory(&mut out[k..], known, address);
-    k += put_bytes(&mut out[k..], &div);
-    k += put_chars(&mut out[k..], ws, at, start, end);
-    k += put_u8(&mut out[k..], 0x0A);
-    k
+    let k = put_row_head(out, width, number, known, address);
+    k + put_source_cell(&mut out[k..], ws, at, start, end)
 }
 
 // Where the newline is of the line that begins at byte `start` of a text of `n` bytes, if all bytes before it stand for themselves, as
@@ -409,6 +432,16 @@ fn span_len(start: usize, end: usize) -> usize
     end - start
 }
 
+// The last cell of a row whose bytes stand for themselves, and its newline, into a room that suffices.
+fn put_plain_cell(out: &mut [u8], ws: &[u32], at: usize, start: usize, end: usize) -> usize
+    requires { ⌜ length (spanBytes (now ws) at start end ++ newlineBytes) ≤ length (now out) ⌝ }
+    ensures { λ r. ⌜ Put (spanBytes (now (ws .entry)) at start end ++ newlineBytes) (now (out .entry)) r (now (out .exit)) ⌝ }
+{
+    let last = NEWLINE;
+    let k = put_span(out, ws, at, start, end);
+    k + put_bytes(&mut out[k..], &last)
+}
+
 // The row of a line whose bytes stand for themselves from `start` up to its newline at `end`.
 pub fn put_plain_row(
     out: &mut [u8],
@@ -427,14 +460,6 @@ pub fn put_plain_row(
     let Room::Left(_) = measure_plain_row(out.len(), width, number, span_len(start, end)) else {
         return 0;
     };
-    let div = TABLE_DIV;
-    let last = NEWLINE;
-    let mut k = 0;
-    k += put_right(&mut out[k..], width, number);
-    k += put_bytes(&mut out[k..], &div);
-    k += put_memory(&mut out[k..], known, address);
-    k += put_bytes(&mut out[k..], &div);
-    k += put_span(&mut out[k..], ws, at, start, end);
-    k += put_bytes(&mut out[k..], &last);
-    k
+    let k = put_row_head(out, width, number, known, address);
+    k + put_plain_cell(&mut out[k..], ws, at, start, end)
 }

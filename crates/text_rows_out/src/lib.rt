@@ -77,6 +77,25 @@ pub fn measure_linker_row(room: usize, address: u16, ws: &[u32], at: usize, n: u
     measuring::take(room - 8, n)
 }
 
+// The address of a row and a divider, into a room that suffices.
+fn put_link_address(out: &mut [u8], address: u16) -> usize
+    requires { ⌜ length (hex4 address ++ tableDiv) ≤ length (now out) ⌝ }
+    ensures { λ r. ⌜ Put (hex4 address ++ tableDiv) (now (out .entry)) r (now (out .exit)) ⌝ }
+{
+    let div = TABLE_DIV;
+    let k = put_hex4(out, address);
+    k + put_bytes(&mut out[k..], &div)
+}
+
+// The first `n` bytes of a text and a newline, into a room that suffices.
+fn put_name_line(out: &mut [u8], ws: &[u32], at: usize, n: usize) -> usize
+    requires { ⌜ length (textLine (textBytes (now ws) at n)) ≤ length (now out) ⌝ }
+    ensures { λ r. ⌜ Put (textLine (textBytes (now (ws .entry)) at n)) (now (out .entry)) r (now (out .exit)) ⌝ }
+{
+    let k = put_text(out, ws, at, n);
+    k + put_u8(&mut out[k..], 0x0A)
+}
+
 // A row of the linker table: an address, and the name of `n` bytes at a place.
 pub fn put_linker_row(out: &mut [u8], address: u16, ws: &[u32], at: usize, n: usize) -> usize
     ensures { λ r. ⌜ Put (linkerLine address (textBytes (now (ws .entry)) at n)) (now (out .entry)) r (now (out .exit)) ⌝ }
@@ -87,13 +106,8 @@ pub fn put_linker_row(out: &mut [u8], address: u16, ws: &[u32], at: usize, n: us
     if out.len() - 8 < n {
         return 0;
     }
-    let div = TABLE_DIV;
-    let mut k = 0;
-    k += put_hex4(&mut out[k..], address);
-    k += put_bytes(&mut out[k..], &div);
-    k += put_text(&mut out[k..], ws, at, n);
-    k += put_u8(&mut out[k..], 0x0A);
-    k
+    let k = put_link_address(out, address);
+    k + put_name_line(&mut out[k..], ws, at, n)
 }
 
 // 1 for a byte that begins a character.

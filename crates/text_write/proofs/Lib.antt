@@ -4,6 +4,6 @@ pub mod PartLaws
 pub mod OnlyLaws
 pub mod GroupLaws
 pub mod FileLaws
-pub mod PlainLaws
 pub mod PastLaws
 pub mod WalkedLaws
+pub mod LineLaws

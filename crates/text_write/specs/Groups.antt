@@ -5,7 +5,8 @@ use Prim.Native.Nat.{ℕ}
 use Rattle.format.specs.Basics.{andThen, if_then_else_, ascii}
 use Rattle.format.specs.ObjectFile.{ObjectFile}
 use Rattle.format.specs.TextWriter.{textLine, symbolTable, linkerTable, labelTable, lineTable, barLine, blocksOnly, symbolGroups, textFile}
-use Rattle.text_write.specs.Tables.{objectIn}
+use Rattle.text_lines_out.specs.Walk.{sourceTable}
+use Rattle.text_write.specs.Tables.{objectIn, blocksText}
 
 -- the lines before the blocks
 abbrev pub headLines : List ℕ
@@ -38,14 +39,32 @@ groups h = if blocksOnly h then [] else symbolGroups h
 abbrev pub linkerText : List ℕ → List ℕ
 linkerText ws = linkerTable (objectIn ws .relocations)
 
+abbrev pub symbolsText : List ℕ → List ℕ
+symbolsText ws = textLine (ascii ".SYMBOL") ++ symbolTable (objectIn ws .labels)
+
+abbrev pub linksText : List ℕ → List ℕ
+linksText ws = linkerLines ++ linkerText ws
+
 abbrev pub namesText : List ℕ → List ℕ
 namesText ws = nameGroups (objectIn ws)
+
+abbrev pub labelsText : List ℕ → List ℕ
+labelsText ws = debugLines ++ labelTable (objectIn ws .labels)
+
+abbrev pub linesText : List ℕ → List ℕ
+linesText ws = barLine ++ sourceTable ws
 
 abbrev pub debugText : List ℕ → List ℕ
 debugText ws = debugGroup (objectIn ws)
 
 abbrev pub groupsText : List ℕ → List ℕ
 groupsText ws = groups (objectIn ws)
+
+abbrev pub frontText : List ℕ → List ℕ
+frontText ws = headLines ++ blocksText ws
+
+abbrev pub restText : List ℕ → List ℕ
+restText ws = textLine [] ++ groupsText ws
 
 abbrev pub fileText : List ℕ → List ℕ
 fileText ws = textFile (objectIn ws)

@@ -31,7 +31,9 @@ ghost use Rattle.units.specs.Filled.{filledOf};
 ghost use Rattle.format.specs.TextWriter.{blocksOnly};
 ghost use Rattle.writing.specs.Written.{Put};
 ghost use Rattle.measuring.specs.Room.{roomOf, lessPart};
-ghost use Rattle.text_write.specs.Groups.{linkerText, namesText, debugText, groupsText, fileText};
+ghost use Rattle.text_write.specs.Groups.{linkerText, symbolsText, linksText, namesText, labelsText, linesText, debugText};
+ghost use Rattle.text_write.specs.Groups.{groupsText, frontText, restText, fileText};
+ghost use Rattle.label_tables.specs.Tables.{namesWidth, indicesWidth};
 ghost use Rattle.text_write.specs.Layouts.{Links, PlanOf};
 ghost use Rattle.text_write.specs.Tables.{objectIn};
 
@@ -128,17 +130,50 @@ fn measure_file(room: usize, ws: &[u32], p: SourcePlan) -> Room
     measure_groups(b, ws, p)
 }
 
+// .SYMBOL.
+fn put_symbols(out: &mut [u8], ws: &[u32]) -> usize
+    requires { ⌜ (checked (now ws) ≡ 0) × (length (symbolsText (now ws)) ≤ length (now out)) ⌝ }
+    ensures { λ r. ⌜ Put (symbolsText (now (ws .entry))) (now (out .entry)) r (now (out .exit)) ⌝ }
+{
+    let n = put_bytes(out, b".SYMBOL\n");
+    n + put_symbol_table(&mut out[n..], ws)
+}
+
+// .LINKER_INFO, after an empty line.
+fn put_links(out: &mut [u8], ws: &[u32], from: usize) -> usize
+    requires { ⌜ (length (linksText (now ws)) ≤ length (now out)) × Links (now ws) from ⌝ }
+    ensures { λ r. ⌜ Put (linksText (now (ws .entry))) (now (out .entry)) r (now (out .exit)) ⌝ }
+{
+    let n = put_bytes(out, b"\n.LINKER_INFO\n");
+    n + put_linker(&mut out[n..], ws, from)
+}
+
 // .SYMBOL and .LINKER_INFO.
 fn put_names(out: &mut [u8], ws: &[u32], from: usize) -> usize
     requires { ⌜ (checked (now ws) ≡ 0) × (length (namesText (now ws)) ≤ length (now out)) × Links (now ws) from ⌝ }
     ensures { λ r. ⌜ Put (namesText (now (ws .entry))) (now (out .entry)) r (now (out .exit)) ⌝ }
 {
-    let mut n = 0;
-    n += put_bytes(&mut out[n..], b".SYMBOL\n");
-    n += put_symbol_table(&mut out[n..], ws);
-    n += put_bytes(&mut out[n..], b"\n.LINKER_INFO\n");
-    n += put_linker(&mut out[n..], ws, from);
-    n
+    let n = put_symbols(out, ws);
+    n + put_links(&mut out[n..], ws, from)
+}
+
+// The fixed lines of .DEBUG, after an empty line, and the label table, in columns of its widths.
+fn put_labels(out: &mut [u8], ws: &[u32], names: usize, indices: usize) -> usize
+    requires { ⌜ (checked (now ws) ≡ 0) × (length (labelsText (now ws)) ≤ length (now out)) × (names ≡ namesWidth (now ws))
+        × (indices ≡ indicesWidth (now ws)) ⌝ }
+    ensures { λ r. ⌜ Put (labelsText (now (ws .entry))) (now (out .entry)) r (now (out .exit)) ⌝ }
+{
+    let n = put_bytes(out, b"\n.DEBUG\n# DEBUG SYMBOLS FOR LC3TOOLS\n\n");
+    n + put_label_table(&mut out[n..], ws, names, indices)
+}
+
+// A divider line, and the line table.
+fn put_lines(out: &mut [u8], ws: &[u32], p: SourcePlan) -> usize
+    requires { ⌜ (checked (now ws) ≡ 0) × (length (linesText (now ws)) ≤ length (now out)) × PlanOf (now ws) p ⌝ }
+    ensures { λ r. ⌜ Put (linesText (now (ws .entry))) (now (out .entry)) r (now (out .exit)) ⌝ }
+{
+    let n = put_bytes(out, b"====================\n");
+    n + put_source(&mut out[n..], ws, p)
 }
 
 // .DEBUG, after an empty line.
@@ -147,12 +182,8 @@ fn put_debug(out: &mut [u8], ws: &[u32], p: SourcePlan) -> usize
         × (p .only ≡ false) ⌝ }
     ensures { λ r. ⌜ Put (debugText (now (ws .entry))) (now (out .entry)) r (now (out .exit)) ⌝ }
 {
-    let mut n = 0;
-    n += put_bytes(&mut out[n..], b"\n.DEBUG\n# DEBUG SYMBOLS FOR LC3TOOLS\n\n");
-    n += put_label_table(&mut out[n..], ws, p.names, p.indices);
-    n += put_bytes(&mut out[n..], b"====================\n");
-    n += put_source(&mut out[n..], ws, p);
-    n
+    let n = put_labels(out, ws, p.names, p.indices);
+    n + put_lines(&mut out[n..], ws, p)
 }
 
 // The groups past .TEXT; none where the object has blocks only.
@@ -169,17 +200,31 @@ fn put_groups(out: &mut [u8], ws: &[u32], p: SourcePlan) -> usize
     n
 }
 
+// The fixed lines at the front, and the blocks.
+fn put_text(out: &mut [u8], ws: &[u32]) -> usize
+    requires { ⌜ (checked (now ws) ≡ 0) × (length (frontText (now ws)) ≤ length (now out)) ⌝ }
+    ensures { λ r. ⌜ Put (frontText (now (ws .entry))) (now (out .entry)) r (now (out .exit)) ⌝ }
+{
+    let n = put_bytes(out, b"LC-3 OBJ FILE\n\n.TEXT\n");
+    n + put_blocks(&mut out[n..], ws)
+}
+
+// An empty line, and the groups.
+fn put_rest(out: &mut [u8], ws: &[u32], p: SourcePlan) -> usize
+    requires { ⌜ (checked (now ws) ≡ 0) × (length (restText (now ws)) ≤ length (now out)) × PlanOf (now ws) p ⌝ }
+    ensures { λ r. ⌜ Put (restText (now (ws .entry))) (now (out .entry)) r (now (out .exit)) ⌝ }
+{
+    let n = put_u8(out, 0x0A);
+    n + put_groups(&mut out[n..], ws, p)
+}
+
 // The text file of a well formed object.
 fn put_file(out: &mut [u8], ws: &[u32], p: SourcePlan) -> usize
     requires { ⌜ (checked (now ws) ≡ 0) × (length (fileText (now ws)) ≤ length (now out)) × PlanOf (now ws) p ⌝ }
     ensures { λ r. ⌜ Put (fileText (now (ws .entry))) (now (out .entry)) r (now (out .exit)) ⌝ }
 {
-    let mut n = 0;
-    n += put_bytes(&mut out[n..], b"LC-3 OBJ FILE\n\n.TEXT\n");
-    n += put_blocks(&mut out[n..], ws);
-    n += put_u8(&mut out[n..], 0x0A);
-    n += put_groups(&mut out[n..], ws, p);
-    n
+    let n = put_text(out, ws);
+    n + put_rest(&mut out[n..], ws, p)
 }
 
 // Writes the text file of an object. Every check comes before the first byte.

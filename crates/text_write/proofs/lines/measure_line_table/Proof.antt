@@ -5,18 +5,23 @@ use mathlib.Core.Path.{_≡_, refl, sym, ap, subst, _∙_}
 use mathlib.Core.Bool.{true}
 use mathlib.Core.List.{List, _++_}
 use mathlib.Core.Option.{some}
-use Prim.Native.Nat.{ℕ, _+_, _^_, _≤_}
+use Prim.Native.Nat.{ℕ, _+_, _^_, _≤_, _<_}
 use denote.Ref.{now}
-use Rattle.format.specs.TextWriter.{lineTable, lineHeader, textLine}
+use Rattle.format.specs.TextWriter.{Row, lineTable, lineHeader, textLine}
 use Rattle.measuring.specs.Room.{roomOf, lessPart}
 use Rattle.measuring.proofs.RoomLaws.{part-fits, part-short}
 use Rattle.text_lines_out.specs.Lines.{At, rowsText}
-use Rattle.text_lines_out.specs.Runs.{addressFrom, runRows, Measured}
+use Rattle.text_lines_out.specs.Merge.{smaller}
+use Rattle.text_lines_out.specs.Runs.{addressFrom, runRows}
+use Rattle.text_lines_out.specs.declared.Table.{Table}
+use Rattle.text_lines_out.specs.declared.Rows.{Rows}
 use Rattle.text_lines_out.specs.Walk.{walkRows, lineBlocksIn}
 use Rattle.text_lines_out.specs.declared.Wrapped.{Wrapped}
 use Rattle.text_lines_out.proofs.LineLaws.{at-start}
 use Rattle.text_lines_out.proofs.TableLaws.{table-parts, wrapped-passed}
+use Rattle.text_runs_out.specs.Lines.{rowLines, startPast, joined, Leaves}
 use Rattle.text_write.specs.Layouts.{plannedText, plannedWraps}
+use Rattle.text_write.proofs.LineLaws.{run-read, records-read}
 use Rattle.text_write.proofs.lines.measure_line_table.Statement.{statement}
 use Rattle.text_write.proofs.lines.measure_line_table.Tie as tie
 
@@ -77,12 +82,39 @@ module _ (c : tie.After-known-told) where
       part-fits (s f .args .room) (header f) (early f ++ late f) (parts f)
       (sym (ap roomOf (c .before .left .given .1)) ∙ c .before .before .before .measure-line-header .ensures)
 
-measure-run-requires : tie.Need-measure-run-requires
-measure-run-requires c κs = let g = f c in (
-  s g .pre .1 .short,
-  (let h = short g in omega (arith, h)),
-  at-start (text g) (s g .pre .1 .sound),
-)
+-- its rows are those of the plan
+module _ (c : tie.After-shared-slice-known) where
+  abbrev table : Table
+  table = record {
+    text = s c .args .p .text;
+    n = s c .args .p .n;
+    width = width c;
+    lines = s c .args .p .lines;
+    wraps = r c .count;
+  }
+
+  small : table .n + 1 < 2 ^ 64
+  small = let h = s c .pre .1 .short in search needs
+
+  many : table .lines < 2 ^ 64
+  many = search needs
+
+  wraps : table .wraps < 2 ^ 64
+  wraps = search needs
+
+  abbrev rows : List Row
+  rows = runRows 0 (addressFrom true (ws c) (r c .place)) 0 (r c .count)
+
+  abbrev on : ℕ
+  on = startPast (ws c) table rows 0
+
+  first : (joined (rowLines (ws c) table rows 0) ≡ early c) × At (text c) (0 + r c .count) on
+  first =
+      run-read (ws c) table small 0 (addressFrom true (ws c) (r c .place)) (r c .count) 0 (let h = short c in omega (arith, h))
+      (at-start (text c) (s c .pre .1 .sound))
+
+  abbrev Told : ℕ → Rows → Type 0
+  Told left answer = Leaves left (joined (rowLines (ws c) table rows 0)) on answer
 
 returns-2 : tie.Need-returns-2
 returns-2 c =
@@ -90,8 +122,7 @@ returns-2 c =
     let k = m .before in
     let g = f k in
     part-short (left k) (early g) (late g) refl
-    (subst (Measured (left k) (text g) (width g) (runRows 0 (addressFrom true (ws g) (r g .place)) 0 (r g .count)) (0 + r g .count))
-    (c .enum-told2 .given .1) (m .measure-run .ensures))
+    (subst (Told g (left k)) (c .enum-told2 .given .1) (m .measure-run .ensures) ∙ ap (lessPart (left k)) (first g .0))
     ∙ fits k
 
 -- the rows that wrapped have room
@@ -102,29 +133,27 @@ module _ (c : tie.After-known-told2) where
   abbrev rest : ℕ
   rest = c .before .rest .given .0 .0
 
-  told :
-      (some rest ≡ lessPart (left k) (early (f k))) × At (text (f k)) (0 + r (f k) .count) (c .before .rest .given .0 .1 .0)
+  told : (some rest ≡ lessPart (left k) (early (f k))) × At (text (f k)) (0 + r (f k) .count) (c .before .rest .given .0 .1 .0)
   told =
-      subst (Measured (left k) (text (f k)) (width (f k)) (runRows 0 (addressFrom true (ws (f k)) (r (f k) .place)) 0
-      (r (f k) .count)) (0 + r (f k) .count)) (c .before .rest .given .1) (c .before .before .before .measure-run .ensures)
+      let g = f k in
+      let t = subst (Told g (left k)) (c .before .rest .given .1) (c .before .before .before .measure-run .ensures) in
+      (t .0 ∙ ap (lessPart (left k)) (first g .0), subst (At (text g) (0 + r g .count)) (sym (t .1)) (first g .1))
 
-measure-line-records-requires : tie.Need-measure-line-records-requires
-measure-line-records-requires c κs = let g = f (k c) in
-    let a = s g .args in (
-      s g .pre .0,
-      s g .pre .1 .short,
-      s g .pre .1 .few,
-      s g .pre .1 .counted,
-      wrapped-passed (ws g) (text g) (a .p .lines) (width g) (r g) (s g .pre .0) (s g .pre .1 .counted) (few g) (short g)
-          (s g .pre .1 .wraps) (s g .pre .1 .wide) (c .before .rest .given .0 .1 .0) (told c .1),
-      s g .pre .1 .past,
-    )
+  passed : At (text (f k)) (smaller (r (f k) .count) (s (f k) .args .p .lines)) (c .before .rest .given .0 .1 .0)
+  passed =
+      let g = f k in
+      wrapped-passed (ws g) (text g) (s g .args .p .lines) (width g) (r g) (s g .pre .0) (s g .pre .1 .counted) (few g) (short g)
+      (s g .pre .1 .wraps) (s g .pre .1 .wide) (c .before .rest .given .0 .1 .0) (told .1)
 
 returns-3 : tie.Need-returns-3
 returns-3 c =
     let d = c .before in
     let g = f (k d) in
-    c .measure-line-records .ensures ∙ part-fits (left (k d)) (early g) (late g) refl (told d .0) ∙ fits (k d)
+    c .measure-line-records .ensures
+    ∙ ap (lessPart (rest d))
+    (records-read (ws g) (table g) (small g) (s g .pre .1 .counted) (many g) (wraps g) (s g .pre .0) (s g .args .p .first)
+    (d .before .rest .given .0 .1 .0) (s g .pre .1 .past) (passed d))
+    ∙ part-fits (left (k d)) (early g) (late g) refl (told d .0) ∙ fits (k d)
 
 pub measure-line-table-spec : {M : Type 1} → statement M
 measure-line-table-spec =
@@ -134,9 +163,9 @@ measure-line-table-spec =
     (λ c. search needs)
     (λ c. search needs)
     returns
-    measure-run-requires
+    (λ c κs. search needs)
     (λ c. search needs)
     (λ c. search needs)
     returns-2
-    measure-line-records-requires
+    (λ c κs. search needs)
     returns-3)
