@@ -9,7 +9,8 @@ use Rattle.format.specs.Records.{label}
 use Rattle.format.specs.Words.{recordWords}
 use Rattle.format.proofs.ListLaws.{by-test}
 use Rattle.label_cache.specs.declared.Cached.{Cached}
-use Rattle.label_cache.specs.Caches.{cachedLabels, HoldsLabels}
+use Rattle.label_items.specs.Items.{cachedLabels}
+use Rattle.label_cache.specs.Caches.{HoldsLabels}
 use Rattle.text_labels.specs.Labels.{labelsOf}
 use Rattle.text_words.specs.Written.{putEach, PutEach}
 use Rattle.text_words.specs.Room.{roomAfter}

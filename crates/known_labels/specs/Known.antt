@@ -6,7 +6,7 @@ use Rattle.format.specs.Basics.{if_then_else_}
 use Rattle.format.specs.Records.{label}
 use Rattle.format.specs.Words.{recordWords}
 use Rattle.label_cache.specs.declared.Cached.{Cached}
-use Rattle.label_cache.specs.Caches.{cachedLabels}
+use Rattle.label_items.specs.Items.{cachedLabels}
 use Rattle.text_labels.specs.Labels.{labelsOf}
 
 abbrev pub labelParts : List ℕ → List (List ℕ)  -- of each label

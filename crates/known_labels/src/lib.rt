@@ -1,8 +1,8 @@
 // The words of a text file's labels, by way of arrays where these have room for all labels, and else from the rows.
 use label_cache::Cached;
-use label_cache::cached_room;
 use label_cache::gather_labels;
-use label_cache::put_cached;
+use label_items::cached_room;
+use label_items::put_cached;
 use text_labels::labels_room;
 use text_labels::put_labels;
 use text_words::Room;

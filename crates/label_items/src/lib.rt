@@ -1,0 +1,167 @@
+// Labels in arrays of numbers, as items: their words, and the room after these.
+use text_words::Room;
+use text_words::put_label;
+use text_words::take_room;
+use trim::Span;
+ghost use mathlib.Core.Path.{_≡_};
+ghost use mathlib.Core.List.{map};
+ghost use lib.ListN.{length, getD};
+ghost use Rattle.format.specs.Records.{label};
+ghost use Rattle.format.specs.Words.{recordWords};
+ghost use Rattle.writing.specs.Written.{Put};
+ghost use Rattle.trim.specs.Span.{part, Spans};
+ghost use Rattle.text_words.specs.Room.{roomOf, roomFor, roomAfter};
+ghost use Rattle.text_words.specs.Written.{PutEach};
+ghost use Rattle.label_items.specs.Items.{labelOf, itemAt, cachedLabels};
+
+// A label: where its name stands, its address (65,536 more if it is external), and its source start.
+pub struct Item {
+    pub start: usize,
+    pub end: usize,
+    pub head: u32,
+    pub index: u64,
+}
+
+// Number i of an array of places; 0 past its end.
+pub fn place_at(a: &[usize], i: usize) -> usize
+    ensures { λ r. ⌜ r ≡ getD (now (a .entry)) i 0 ⌝ }
+{
+    if i < a.len() {
+        return a[i];
+    }
+    0
+}
+
+fn head_at(a: &[u32], i: usize) -> u32
+    ensures { λ r. ⌜ r ≡ getD (now (a .entry)) i 0 ⌝ }
+{
+    if i < a.len() {
+        return a[i];
+    }
+    0
+}
+
+fn index_at(a: &[u64], i: usize) -> u64
+    ensures { λ r. ⌜ r ≡ getD (now (a .entry)) i 0 ⌝ }
+{
+    if i < a.len() {
+        return a[i];
+    }
+    0
+}
+
+// Item i of four arrays.
+pub fn item_at(starts: &[usize], ends: &[usize], heads: &[u32], indices: &[u64], i: usize) -> Item
+    ensures { λ r. ⌜ r ≡ itemAt (now (starts .entry)) (now (ends .entry)) (now (heads .entry)) (now (indices .entry)) i ⌝ }
+{
+    let start = place_at(starts, i);
+    let end = place_at(ends, i);
+    let head = head_at(heads, i);
+    let index = index_at(indices, i);
+    Item {
+        start: start,
+        end: end,
+        head: head,
+        index: index,
+    }
+}
+
+// A range, within the text.
+pub fn clip(t: &[u8], start: usize, end: usize) -> Span
+    ensures { λ r. ⌜ Spans (now (t .entry)) (r .start) (r .end) (part start end (now (t .entry))) ⌝ }
+{
+    if end < start {
+        return Span { start: 0, end: 0 };
+    }
+    if end <= t.len() {
+        return Span {
+            start: start,
+            end: end,
+        };
+    }
+    if t.len() < start {
+        return Span { start: 0, end: 0 };
+    }
+    Span {
+        start: start,
+        end: t.len(),
+    }
+}
+
+// The words of a label.
+fn put_item(out: &mut [u32], t: &[u8], x: Item) -> usize
+    ensures { λ r. ⌜ Put (recordWords (label (labelOf (now (t .entry)) x))) (now (out .entry)) r (now (out .exit)) ⌝ }
+{
+    let c = clip(t, x.start, x.end);
+    let start = c.start;
+    let end = c.end;
+    let head = x.head;
+    let external = 65536 <= head;
+    put_label(
+        out,
+        (head % 65536) as u16,
+        external,
+        x.index,
+        &t[start..end],
+    )
+}
+
+// The words of the first n labels of four arrays.
+pub fn put_cached(
+    out: &mut [u32],
+    t: &[u8],
+    starts: &[usize],
+    ends: &[usize],
+    heads: &[u32],
+    indices: &[u64],
+    n: usize,
+) -> usize
+    ensures { λ r. ⌜ PutEach (map recordWords (map label (cachedLabels (now (t .entry)) (now (starts .entry)) (now (ends .entry))
+        (now (heads .entry)) (now (indices .entry)) n))) (now (out .entry)) r (now (out .exit)) ⌝ }
+{
+    let mut at = 0;
+    let mut i = 0;
+    while i < n {
+        let x = item_at(starts, ends, heads, indices, i);
+        at += put_item(&mut out[at..], t, x);
+        i += 1;
+    }
+    at
+}
+
+// The room after the words of a label.
+fn item_room(t: &[u8], x: Item, room: usize) -> Room
+    ensures { λ r. ⌜ roomOf r ≡ roomFor (length (recordWords (label (labelOf (now (t .entry)) x)))) room ⌝ }
+{
+    let c = clip(t, x.start, x.end);
+    let start = c.start;
+    let end = c.end;
+    let n = 4 + (end - start + 2) / 3;
+    take_room(room, n)
+}
+
+// The room after the words of the first n labels of four arrays.
+pub fn cached_room(
+    t: &[u8],
+    starts: &[usize],
+    ends: &[usize],
+    heads: &[u32],
+    indices: &[u64],
+    n: usize,
+    room: usize,
+) -> Room
+    ensures { λ r. ⌜ roomOf r ≡ roomAfter (map recordWords (map label (cachedLabels (now (t .entry)) (now (starts .entry)) (now (ends .entry))
+        (now (heads .entry)) (now (indices .entry)) n))) room ⌝ }
+{
+    let mut left = room;
+    let mut i = 0;
+    while i < n {
+        let x = item_at(starts, ends, heads, indices, i);
+        let Room::Left(m) = item_room(t, x, left) else {
+            return Room::Short;
+        };
+        left = m;
+        i += 1;
+    }
+    Room::Left(left)
+}
