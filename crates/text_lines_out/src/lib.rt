@@ -168,11 +168,9 @@ pub fn put_line_header(out: &mut [u8], width: usize) -> usize
     if out.len() - 21 < fill {
         return 0;
     }
-    let mut k = 0;
-    k += put_bytes(&mut out[k..], b"LINE");
+    let mut k = put_bytes(out, b"LINE");
     k += put_spaces(&mut out[k..], fill);
-    k += put_bytes(&mut out[k..], b" | ADDR | SOURCE\n");
-    k
+    k + put_bytes(&mut out[k..], b" | ADDR | SOURCE\n")
 }
 
 // The room that the header leaves.

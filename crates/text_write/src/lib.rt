@@ -59,10 +59,8 @@ fn put_linker(out: &mut [u8], ws: &[u32], from: usize) -> usize
     if ws.len() <= from {
         return 0;
     }
-    let mut n = 0;
-    n += put_bytes(&mut out[n..], b"ADDR | LABEL\n");
-    n += put_relocations(&mut out[n..], ws, from);
-    n
+    let n = put_bytes(out, b"ADDR | LABEL\n");
+    n + put_relocations(&mut out[n..], ws, from)
 }
 
 // Whether a record of this kind is neither a block nor a line block.

@@ -328,8 +328,6 @@ pub(crate) fn put_source(out: &mut [u8], ws: &[u32], p: SourcePlan) -> usize
     if p.bare {
         return 0;
     }
-    let mut len = 0;
-    len += put_line_table(&mut out[len..], ws, p);
-    len += put_bytes(&mut out[len..], b"====================\n");
-    len
+    let len = put_line_table(out, ws, p);
+    len + put_bytes(&mut out[len..], b"====================\n")
 }

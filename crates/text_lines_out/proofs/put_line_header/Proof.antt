@@ -3,11 +3,13 @@ use borrow.Author.Needs.{needs}
 use native.Mathlib.Omega.{arith}
 use mathlib.Core.Path.{refl, sym, subst}
 use mathlib.Core.List.{List, [], _++_, append-nil}
-use Prim.Native.Nat.{ℕ, _+_, _-_}
+use Prim.Native.Nat.{ℕ, _+_, _-_, _^_, _≤_, _<_}
+use lib.ListN.{length}
 use denote.Ref.{now}
 use Rattle.writing.specs.Written.{Put}
 use Rattle.writing.proofs.WriteLaws.{too-short}
-use Rattle.writing.proofs.Parts.{State, Emits, rest, after, begin, emit, emitted, within, small}
+use Rattle.writing.proofs.Parts.{State, Emits, rest, after, emit, emitted, within, small}
+use Rattle.measuring.proofs.FittingLaws.{first-put}
 use Rattle.format.specs.Basics.{ascii}
 use Rattle.format.specs.TextWriter.{spaces, textLine, lineHeader}
 use Rattle.text_lines_out.proofs.LineLaws.{afterName, header-parts, header-length}
@@ -20,22 +22,15 @@ room t = now (t .args .out)
 abbrev whole : tie.Start → List ℕ
 whole t = textLine (lineHeader (t .args .width))
 
-abbrev state0 : tie.Start → State ℕ
-state0 t = record { at = 0; out = room t }
-
 abbrev start0 : tie.Else2 → tie.Start
 start0 c = c .before .before .before .before
 
-emits0 : (c : tie.Else2) → Emits (whole (start0 c)) (room (start0 c)) (whole (start0 c)) (state0 (start0 c))
-emits0 c =
-    begin _ _ (omega (
-      arith,
-      header-length
-          (start0 c .args .width),
-      c .before .before .minus .ensures,
-      c .before .if1 .left,
-      c .if2 .left,
-    ))
+enough : (c : tie.Else2) → length (whole (start0 c)) ≤ length (room (start0 c))
+enough c =
+    omega (arith, header-length (start0 c .args .width), c .before .before .minus .ensures, c .before .if1 .left, c .if2 .left)
+
+tight : (c : tie.Else2) → length (room (start0 c)) < 2 ^ 64
+tight c = search needs
 
 abbrev left1 : tie.Start → List ℕ
 left1 t = spaces (t .args .width - 4) ++ afterName
@@ -44,13 +39,13 @@ abbrev start1 : tie.After-put-bytes → tie.Start
 start1 c = start0 (c .before .before .before)
 
 abbrev state1 : tie.After-put-bytes → State ℕ
-state1 c = after (state0 (start1 c)) (c .put-bytes .result) (c .put-bytes .last .0)
+state1 c = record { at = c .put-bytes .result; out = c .put-bytes .last .0 }
 
 emits1 : (c : tie.After-put-bytes) → Emits (whole (start1 c)) (room (start1 c)) (left1 (start1 c)) (state1 c)
 unfolding ascii
 emits1 c =
     let t = start1 c in
-    emit (emits0 (c .before .before .before)) (ascii "LINE") (left1 t) (header-parts (t .args .width)) (c .put-bytes .ensures)
+    first-put (ascii "LINE") (left1 t) (room t) (header-parts (t .args .width)) (enough (c .before .before .before)) (c .put-bytes .ensures)
 
 abbrev left2 : tie.Start → List ℕ
 left2 t = afterName
@@ -93,26 +88,8 @@ returns-2 c =
     let a = c .before .before .before .before .args in
     too-short _ _ _ (header-length (a .width)) (omega (arith, c .before .if1 .left, c .if2 .taken, c .before .before .minus .ensures))
 
-sub-put-spaces : tie.Need-sub-put-spaces
-sub-put-spaces c = within (emits1 (c .before .before))
-
-part-put-spaces-start : tie.Need-part-put-spaces-start
-part-put-spaces-start c = within (emits1 (c .before .before))
-
-add-k-2 : tie.Need-add-k-2
-add-k-2 c = small (emits2 (c .before .before)) (omega arith)
-
-sub-put-bytes-2 : tie.Need-sub-put-bytes-2
-sub-put-bytes-2 c = within (emits2 (c .before .before))
-
-part-put-bytes-start-2 : tie.Need-part-put-bytes-start-2
-part-put-bytes-start-2 c = within (emits2 (c .before .before))
-
-add-k-3 : tie.Need-add-k-3
-add-k-3 c = small (emits3 (c .before .before)) (omega arith)
-
-returns-3 : tie.Need-returns-3
-returns-3 c = emitted (emits3 (c .before .before)) refl
+abbrev base : tie.After-put-spaces → tie.Else2
+base c = c .before .before .before .before .before .before .before
 
 pub put-line-header-spec : {M : Type 1} → statement M
 put-line-header-spec =
@@ -123,21 +100,17 @@ put-line-header-spec =
     (λ c. search needs)
     returns-2
     (λ c. search needs)
+    (λ c κs. search needs)
+    (λ c. within (emits1 (c .before .before)))
+    (λ c. within (emits1 (c .before .before)))
     (λ c. search needs)
+    (λ c κs. search needs)
+    (λ c. let p = c .before .before in small (emits2 p) (tight (base p)))
+    (λ c. within (emits2 (c .before .before)))
+    (λ c. within (emits2 (c .before .before)))
     (λ c. search needs)
     (λ c. search needs)
     (λ c κs. search needs)
+    (λ c. let p = c .before .before in small (emits3 p) (tight (base (p .before .before .before .before .before))))
     (λ c. search needs)
-    sub-put-spaces
-    part-put-spaces-start
-    (λ c. search needs)
-    (λ c κs. search needs)
-    add-k-2
-    sub-put-bytes-2
-    part-put-bytes-start-2
-    (λ c. search needs)
-    (λ c. search needs)
-    (λ c κs. search needs)
-    add-k-3
-    (λ c. search needs)
-    returns-3)
+    (λ c. emitted (emits3 (c .before .before)) refl))

@@ -7,8 +7,9 @@ use lib.ListN.{length}
 use denote.Ref.{now}
 use Rattle.format.specs.Basics.{ascii}
 use Rattle.format.specs.TextWriter.{textLine, linkerHeader}
-use Rattle.writing.proofs.Parts.{State, Emits, rest, after, begin, emit, emitted, within, small, same}
+use Rattle.writing.proofs.Parts.{State, Emits, rest, after, emit, emitted, within, small}
 use Rattle.text_escape.proofs.EscapeLaws.{part-room}
+use Rattle.measuring.proofs.FittingLaws.{first-put}
 use Rattle.text_write.specs.Tables.{objectIn, relocationRows, relocationsText}
 use Rattle.text_write.specs.Groups.{linkerText}
 use Rattle.text_lines_out.proofs.BlockLaws.{nothing-put}
@@ -42,9 +43,6 @@ module _ (c : tie.Else1) where
       linker-some (objectIn ws .relocations)
       (links-some ws (s .args .from) (s .pre .0 .0) (c .if1 .left) (s .pre .0 .1 (c .if1 .left)))
 
-  emits0 : Emits (linkerText ws) room (linkerText ws) (record { at = 0; out = room })
-  emits0 = begin _ _ (s .pre .1)
-
   long : length room < 2 ^ 64
   long = search needs
 
@@ -54,11 +52,12 @@ module _ (c : tie.After-put-bytes) where
   start = c .before .before .before
 
   abbrev state1 : State ℕ
-  state1 = after (record { at = 0; out = room start }) (c .put-bytes .result) (c .put-bytes .last .0)
+  state1 = record { at = c .put-bytes .result; out = c .put-bytes .last .0 }
 
   emits1 : Emits (linkerText (ws start)) (room start) (relocationsText (ws start)) state1
   unfolding ascii
-  emits1 = emit (emits0 start) (textLine linkerHeader) (relocationsText (ws start)) (whole start) (c .put-bytes .ensures)
+  emits1 =
+      first-put (textLine linkerHeader) (relocationsText (ws start)) (room start) (whole start) (s start .pre .1) (c .put-bytes .ensures)
 
 -- its rows
 module _ (c : tie.After-put-relocations) where
@@ -80,15 +79,11 @@ put-linker-spec =
     (tie.spec
     returns
     (λ c. search needs)
-    (λ c. search needs)
-    (λ c. search needs)
-    (λ c. search needs)
     (λ c κs. search needs)
-    (λ c. let p = c .before .before in small (emits1 p) (long (start p)))
     (λ c. within (emits1 (c .before .before)))
     (λ c. within (emits1 (c .before .before)))
     (λ c. search needs)
     (λ c κs. search needs)
     (λ c. let p = c .before .before in small (emits2 p) (long (start (put p))))
-    (λ c. same (emits2 (c .before .before)))
+    (λ c. search needs)
     (λ c. emitted (emits2 (c .before .before)) refl))
