@@ -8,6 +8,7 @@ use text_words::external_at;
 use text_words::index_at;
 use text_words::put_label;
 use text_words::put_row;
+use text_words::take_room;
 ghost use mathlib.Core.Path.{_≡_};
 ghost use mathlib.Core.Bool.{Bool, not, _&&_};
 ghost use mathlib.Core.List.{map};
@@ -201,16 +202,6 @@ pub fn put_labels(out: &mut [u32], t: &[u8]) -> usize
     let mut symbols = [0usize; 4096];
     let mut starts = [0usize; 4096];
     put_joined(out, t, &mut symbols, &mut starts)
-}
-
-// The room after n words.
-fn take_room(room: usize, n: usize) -> Room
-    ensures { λ r. ⌜ roomOf r ≡ roomFor n room ⌝ }
-{
-    if room < n {
-        return Room::Short;
-    }
-    Room::Left(room - n)
 }
 
 // The room after the words of the next label.
