@@ -1,17 +1,22 @@
-// Labels in arrays of numbers, as items: their words, and the room after these.
+// Labels in arrays of numbers, as items: their words, the room after these, and how two tables of them are joined.
+use gather::compare_bytes;
 use text_words::Room;
 use text_words::put_label;
 use text_words::take_room;
 use trim::Span;
 ghost use mathlib.Core.Path.{_≡_};
+ghost use mathlib.Core.Bool.{not, _&&_};
 ghost use mathlib.Core.List.{map};
 ghost use lib.ListN.{length, getD};
+ghost use Rattle.format.specs.Sorted.{order};
 ghost use Rattle.format.specs.Records.{label};
 ghost use Rattle.format.specs.Words.{recordWords};
 ghost use Rattle.writing.specs.Written.{Put};
 ghost use Rattle.trim.specs.Span.{part, Spans};
 ghost use Rattle.text_words.specs.Room.{roomOf, roomFor, roomAfter};
 ghost use Rattle.text_words.specs.Written.{PutEach};
+ghost use Rattle.gather.specs.Tags.{rank};
+ghost use Rattle.label_items.specs.Joins.{chosen, joinedItem};
 ghost use Rattle.label_items.specs.Items.{labelOf, itemAt, cachedLabels};
 
 // A label: where its name stands, its address (65,536 more if it is external), and its source start.
@@ -67,7 +72,7 @@ pub fn item_at(starts: &[usize], ends: &[usize], heads: &[u32], indices: &[u64],
 }
 
 // A range, within the text.
-pub fn clip(t: &[u8], start: usize, end: usize) -> Span
+fn clip(t: &[u8], start: usize, end: usize) -> Span
     ensures { λ r. ⌜ Spans (now (t .entry)) (r .start) (r .end) (part start end (now (t .entry))) ⌝ }
 {
     if end < start {
@@ -164,4 +169,84 @@ pub fn cached_room(
         i += 1;
     }
     Room::Left(left)
+}
+
+// Which tables the next label is from.
+pub struct Next {
+    pub symbol: bool,
+    pub start: bool,
+}
+
+// Which of the names of two labels comes first: 0 the first of them, 2 the second, 1 where they are equal.
+fn compare_names(t: &[u8], a: Item, b: Item) -> usize
+    ensures { λ r. ⌜ r ≡ rank (order (part (a .start) (a .end) (now (t .entry))) (part (b .start) (b .end) (now (t .entry)))) ⌝ }
+{
+    let p = clip(t, a.start, a.end);
+    let q = clip(t, b.start, b.end);
+    let from = p.start;
+    let to = p.end;
+    let other = q.start;
+    let end = q.end;
+    compare_bytes(&t[from..to], &t[other..end])
+}
+
+// Which tables the next label is from, where there are rows left of .SYMBOL, next a, and of the label table, next b.
+pub fn choose(t: &[u8], symbols: bool, a: Item, starts: bool, b: Item) -> Next
+    ensures { λ r. ⌜ r ≡ chosen symbols starts (order (part (a .start) (a .end) (now (t .entry))) (part (b .start) (b .end) (now (t .entry)))) ⌝ }
+{
+    if !symbols {
+        return Next {
+            symbol: false,
+            start: starts,
+        };
+    }
+    if !starts {
+        return Next {
+            symbol: true,
+            start: false,
+        };
+    }
+    let r = compare_names(t, a, b);
+    Next {
+        symbol: r < 2,
+        start: 0 < r,
+    }
+}
+
+// There is no next label.
+pub fn is_done(x: Next) -> bool
+    ensures { λ r. ⌜ r ≡ (not (x .symbol) && not (x .start)) ⌝ }
+{
+    if x.symbol {
+        return false;
+    }
+    !x.start
+}
+
+// The next label: of both tables, or with 0 for the other's fields.
+pub fn join_items(x: Next, a: Item, b: Item) -> Item
+    ensures { λ r. ⌜ r ≡ joinedItem x a b ⌝ }
+{
+    if x.symbol {
+        if x.start {
+            return Item {
+                start: a.start,
+                end: a.end,
+                head: a.head,
+                index: b.index,
+            };
+        }
+        return Item {
+            start: a.start,
+            end: a.end,
+            head: a.head,
+            index: 0,
+        };
+    }
+    Item {
+        start: b.start,
+        end: b.end,
+        head: 0,
+        index: b.index,
+    }
 }
