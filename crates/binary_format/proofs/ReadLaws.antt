@@ -5,9 +5,8 @@ use mathlib.Core.List.{List}
 use Prim.Native.Nat.{ℕ}
 use lib.ListN.{drop}
 use Rattle.format.specs.Basics.{Outcome, refused, given, _>>=_, ask, beginsWith}
-use Rattle.format.specs.ObjectFile.{ObjectFile}
 use Rattle.format.specs.Tokens.{tokens}
-use Rattle.format.specs.Records.{Record, gatherRecords, emptyObject, binaryQuestions, concluded}
+use Rattle.format.specs.Records.{gatherRecords, emptyObject, binaryQuestions, concluded}
 use Rattle.format.specs.Words.{wordsOf}
 use Rattle.format.specs.Binary.{header, recordAt, binaryRecords, binaryObject}
 use Rattle.format.specs.Calls.{readBinary}

@@ -1,17 +1,17 @@
 -- Line blocks apart, place by place and window by window. Assumes nothing.
-use mathlib.Core.Path.{_≡_, refl, sym, ap, subst, _∙_}
+use mathlib.Core.Path.{_≡_, refl, sym, ap, _∙_}
 use mathlib.Core.Bool.{Bool, true, false, _&&_}
 use mathlib.Core.List.{List, [], _∷_, _++_, map, append-nil}
 use mathlib.Core.Option.{Option, none, some}
-use Prim.Native.Nat.{ℕ, zero, suc, _+_, _-_, _*_, _/_, _≤_, _<_}
+use Prim.Native.Nat.{ℕ, suc, _+_, _-_, _*_, _/_, _≤_, _<_}
 use native.Mathlib.Omega.{arith}
 use lib.ListN.{length, take, drop, getD, drop-of-length-le, length-take}
 use lib.Seq.{drop-cons, getD-take, length-take-le}
 use lib.Dec.{leb}
 use borrow.Author.Tests.{le-leb, lt-leb, leb-true, leb-false}
 use Rattle.format.specs.Basics.{chain}
-use Rattle.format.specs.ObjectFile.{LineBlock, lineEnd, apart}
-use Rattle.format.specs.Binary.{bytesAt, numberAt, addressesFrom}
+use Rattle.format.specs.ObjectFile.{lineEnd, apart}
+use Rattle.format.specs.Binary.{bytesAt, numberAt}
 use Rattle.format.proofs.ListLaws.{by-test}
 use Rattle.binary_words.specs.RecordAt.{lineBlockAt, inOrder, objectAt, bodyLength}
 use Rattle.binary_words.specs.Apart.{followsAt, apartFrom}

@@ -1,30 +1,25 @@
 -- How many words records have, and that they are no more than the bytes. Assumes nothing.
-use mathlib.Core.Path.{_≡_, refl, sym, ap, subst, _∙_}
-use mathlib.Core.Bool.{Bool, true, false}
-use mathlib.Core.List.{List, [], _∷_, _++_, map, flatMap}
-use mathlib.Core.Option.{Option, none, some}
-use Prim.Native.Nat.{ℕ, zero, suc, _+_, _-_, _*_, _/_, _≤_, _<_, min}
+use mathlib.Core.Path.{_≡_, refl, sym, ap, _∙_}
+use mathlib.Core.List.{List, [], _∷_, _++_, flatMap}
+use mathlib.Core.Option.{some}
+use Prim.Native.Nat.{ℕ, zero, suc, _+_, _-_, _*_, _/_, _≤_, _<_}
 use native.Mathlib.Omega.{arith}
 use lib.ListN.{length, take, drop, getD, length-append, length-map, length-take, length-drop, take-append-drop, drop-of-length-le}
 use lib.Seq.{drop-cons, drop-drop, getD-take, take-all, length-take-le}
 use lib.Dec.{eqb, leb}
-use borrow.Author.Tests.{eq-eqb, ne-eqb, eqb-true, eqb-false, leb-true, leb-false}
-use Rattle.format.specs.Basics.{if_then_else_}
-use Rattle.format.specs.Digits.{digitsOf, valueOf}
-use Rattle.format.specs.Sorted.{upsert, upsertAll, sorted}
-use Rattle.format.specs.ObjectFile.{Block, Label, LineBlock, Relocation}
-use Rattle.format.specs.Records.{block, label, lineBlock, relocation}
-use Rattle.format.specs.Words.{numberWords, textWords, recordWords, memoryWord, word}
+use borrow.Author.Tests.{ne-eqb, eqb-true, eqb-false, leb-true, leb-false}
+use Rattle.format.specs.Digits.{digitsOf}
+use Rattle.format.specs.Sorted.{upsert, upsertAll}
+use Rattle.format.specs.Words.{numberWords, textWords, recordWords, memoryWord}
 use Rattle.format.specs.Binary.{bytesAt, numberAt, memoriesFrom, addressesFrom}
 use Rattle.format.proofs.ListLaws.{by-test, flatMap-length}
-use Rattle.gather.specs.Places.{bytesAfter, places, placesFrom, placesOf, keyAt}
+use Rattle.gather.specs.Places.{bytesAfter, places, placesOf, keyAt}
 use Rattle.bytes_at.specs.Part.{PartOf}
-use Rattle.gather.specs.Window.{HoldsWindow}
 use Rattle.gather.specs.Order.{HandsOut}
 use Rattle.gather.proofs.WindowLaws.{by-order, upsert-below, upsert-same, upsert-above}
 use Rattle.gather.proofs.WalkLaws.{after-0, after-1, after-2, after-4}
 use Rattle.gather.proofs.OrderLaws.{held-front}
-use Rattle.binary_words.specs.RecordAt.{blockAt, labelAt, lineBlockAt, relocationAt, inOrder, wordsAt, partWords, bodyLength}
+use Rattle.binary_words.specs.RecordAt.{wordsAt, partWords, bodyLength}
 
 pub memories-length : (bs : List ℕ) → length (memoriesFrom bs) ≡ length bs / 3
 unfolding memoriesFrom

@@ -2,26 +2,25 @@
 use mathlib.Core.Path.{_≡_, refl, sym, ap, subst, _∙_}
 use mathlib.Core.Bool.{Bool, true, false, not, _&&_}
 use mathlib.Core.List.{List, [], _∷_, _++_, map, flatMap, append-assoc, append-nil}
-use mathlib.Core.Option.{Option, none, some}
-use Prim.Native.Nat.{ℕ, zero, suc, _+_, _*_, _≤_, _<_}
+use mathlib.Core.Option.{Option, some}
+use Prim.Native.Nat.{ℕ, zero, suc, _+_, _*_, _≤_}
 use native.Mathlib.Omega.{arith}
-use lib.ListN.{length, take, drop, getD}
-use lib.Seq.{drop-cons, drop-drop}
-use lib.Dec.{eqb, leb}
-use borrow.Author.Tests.{eq-eqb, ne-eqb, eqb-true, eqb-false}
-use Rattle.format.specs.Basics.{Outcome, refused, given, _>>=_, if_then_else_, isEmpty, beginsWith}
+use lib.ListN.{take, drop}
+use lib.Seq.{drop-drop}
+use lib.Dec.{eqb}
+use borrow.Author.Tests.{ne-eqb}
+use Rattle.format.specs.Basics.{Outcome, refused, given, _>>=_, if_then_else_, isEmpty}
 use Rattle.format.specs.Digits.{valueOf}
 use Rattle.format.specs.Utf8.{isUtf8}
 use Rattle.format.specs.Tokens.{tokens}
-use Rattle.format.specs.Sorted.{upsert, upsertAll, sorted}
+use Rattle.format.specs.Sorted.{upsertAll, sorted}
 use Rattle.format.specs.ObjectFile.{Block, Label, LineBlock, Relocation, ObjectFile, blockKey, labelKey, lineKey, relocationKey, strictlyRise, sourceText}
-use Rattle.format.specs.Records.{Record, block, label, lineBlock, source, relocation, putRecord, gatherRecords, emptyObject, placed, withBlocks, withLabels, withLines, withRelocations}
-use Rattle.format.specs.Binary.{bytesAt, numberAt, hasBytes, memoriesFrom, addressesFrom, recordAt, blockFrom, labelFrom, linesFrom, sourceFrom, relocationFrom, binaryRecords, header}
+use Rattle.format.specs.Records.{Record, block, label, lineBlock, source, relocation, putRecord, gatherRecords, emptyObject, placed}
+use Rattle.format.specs.Binary.{bytesAt, numberAt, hasBytes, memoriesFrom, addressesFrom, recordAt, blockFrom, labelFrom, linesFrom, sourceFrom, relocationFrom}
 use Rattle.format.proofs.ListLaws.{by-test}
-use Rattle.format.proofs.Laws.{tokens-drop}
-use Rattle.gather.specs.Places.{bytesAfter, places, placesFrom, placesOf, numberKey, keyAt}
+use Rattle.gather.specs.Places.{bytesAfter, places, placesOf, numberKey, keyAt}
 use Rattle.gather.proofs.WindowLaws.{sorted-map}
-use Rattle.binary_words.specs.RecordAt.{blockAt, labelAt, lineBlockAt, chunkAt, relocationAt, inOrder, sourceOf, objectAt}
+use Rattle.binary_words.specs.RecordAt.{blockAt, labelAt, lineBlockAt, chunkAt, relocationAt, sourceOf, objectAt}
 
 -- THE RECORD AT THE FRONT: its parts, counted from the kind byte
 number-front : (s : List ℕ) (at i j n : ℕ) → j ≡ at + 1 + i → numberAt i n (drop (at + 1) s) ≡ numberAt j n s

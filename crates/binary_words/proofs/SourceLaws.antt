@@ -1,20 +1,20 @@
 -- The source of a file: whether it exists, and how long it is. Assumes nothing.
 use mathlib.Core.Path.{_≡_, refl, sym, ap, subst, _∙_}
 use mathlib.Core.Bool.{Bool, true, false, not, _&&_}
-use mathlib.Core.List.{List, [], _∷_, _++_, flatMap}
-use mathlib.Core.Option.{Option, none, some}
-use Prim.Native.Nat.{ℕ, zero, suc, _+_, _-_, _*_, _/_, _≤_, _<_, min}
+use mathlib.Core.List.{List, [], _∷_, flatMap}
+use mathlib.Core.Option.{none, some}
+use Prim.Native.Nat.{ℕ, zero, suc, _+_, _-_, _/_, _≤_}
 use native.Mathlib.Omega.{arith}
-use lib.ListN.{length, take, drop, length-append, length-take, length-drop}
+use lib.ListN.{length, drop, length-append, length-take, length-drop}
 use lib.Seq.{drop-drop}
 use lib.Dec.{eqb, leb}
 use borrow.Author.Tests.{eqb-true, leb-true, leb-false}
 use Rattle.format.specs.Basics.{if_then_else_, isEmpty, isSome}
 use Rattle.format.specs.Records.{sourceRecords, source}
 use Rattle.format.specs.Words.{recordWords, textWords}
-use Rattle.format.specs.Binary.{bytesAt, numberAt}
+use Rattle.format.specs.Binary.{numberAt}
 use Rattle.format.proofs.ListLaws.{by-test}
-use Rattle.gather.specs.Places.{bytesAfter, places, placesFrom, placesOf}
+use Rattle.gather.specs.Places.{bytesAfter, places, placesOf}
 use Rattle.gather.proofs.WalkLaws.{after-3}
 use Rattle.binary_words.specs.RecordAt.{chunkAt, sourceOf}
 use Rattle.binary_words.proofs.LengthLaws.{skipped, text-length}

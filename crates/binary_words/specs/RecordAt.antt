@@ -1,6 +1,6 @@
 -- The record that stands at a place of a binary file, for every place, and the object that the places make. Assumes nothing.
-use mathlib.Core.Bool.{Bool, not, _&&_}
-use mathlib.Core.List.{List, [], _∷_, map, flatMap}
+use mathlib.Core.Bool.{not, _&&_}
+use mathlib.Core.List.{List, [], map, flatMap}
 use mathlib.Core.Option.{Option, none, some}
 use Prim.Native.Nat.{ℕ, _+_, _*_}
 use lib.ListN.{length}
@@ -8,7 +8,7 @@ use lib.Dec.{eqb}
 use Rattle.format.specs.Basics.{if_then_else_, isEmpty}
 use Rattle.format.specs.Sorted.{sorted}
 use Rattle.format.specs.ObjectFile.{Block, Label, LineBlock, Relocation, ObjectFile}
-use Rattle.format.specs.Records.{Record, block, label, lineBlock, source, relocation}
+use Rattle.format.specs.Records.{block, label, lineBlock, source, relocation}
 use Rattle.format.specs.Binary.{bytesAt, numberAt, memoriesFrom, addressesFrom}
 use Rattle.format.specs.Words.{recordWords}
 use Rattle.gather.specs.Places.{placesOf, keyAt}

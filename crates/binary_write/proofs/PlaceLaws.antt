@@ -1,7 +1,7 @@
 -- The words of a record as a slice of the object. Assumes nothing.
-use mathlib.Core.Path.{_≡_, refl, sym, ap, ap₂, subst, _∙_}
+use mathlib.Core.Path.{_≡_, refl, sym, ap, ap₂, _∙_}
 use mathlib.Core.Bool.{Bool, true, false}
-use mathlib.Core.List.{List, [], _∷_, _++_, append-nil, map, flatMap}
+use mathlib.Core.List.{List, [], _∷_, map, flatMap}
 use Prim.Native.Nat.{ℕ, suc, _+_, _-_, _*_, _/_, _%_, _^_}
 use native.Mathlib.Omega.{arith}
 use lib.ListN.{length, take, drop}
@@ -11,11 +11,11 @@ use Rattle.format.specs.Tokens.{partsAt}
 use Rattle.format.specs.Words.{flagBit, isHead}
 use Rattle.format.specs.Binary.{memoryBytes}
 use Rattle.format.proofs.ListLaws.{by-test, flatMap-map}
-use Rattle.object.specs.Bodies.{bodyAt, textAt, Text}
+use Rattle.object.specs.Bodies.{bodyAt}
 use Rattle.object.specs.Access.{memoryIn, addressIn}
 use Rattle.object.proofs.BodyLaws.{head-parts, body-parts}
-use Rattle.binary_measure.specs.Measured.{Ends, textOf}
-use Rattle.binary_write.specs.Files.{memoryPart, addressPart, sized}
+use Rattle.binary_measure.specs.Measured.{Ends}
+use Rattle.binary_write.specs.Files.{memoryPart, addressPart}
 
 before-take : (xs : List ℕ) → take (length (partsAt isHead xs .before)) xs ≡ partsAt isHead xs .before
 unfolding partsAt
@@ -62,18 +62,6 @@ low-bytes n = ap₂ (λ x y. x ∷ y ∷ []) low high
 module _ (ws : List ℕ) (at end : ℕ) (e : Ends ws at end) where
   abbrev pub slice : List ℕ
   slice = midOf at (end - at) ws
-
-  pub memory-slice : flatMap memoryBytes (map memoryIn (bodyAt ws at)) ≡ memoryPart slice ++ []
-  memory-slice = memory-is (bodyAt ws at) ∙ ap memoryPart (sym (slice-is ws at end e)) ∙ sym (append-nil (memoryPart slice))
-
-  pub address-slice : flatMap (λ a. digitsOf 8 2 a) (map addressIn (bodyAt ws at)) ≡ addressPart slice ++ []
-  address-slice = addresses-are (bodyAt ws at) ∙ ap addressPart (sym (slice-is ws at end e)) ∙ sym (append-nil (addressPart slice))
-
-  pub text-slice : sized (textAt ws at) ≡ sized (textOf slice) ++ []
-  text-slice = ap (λ xs. sized (textOf xs)) (sym (slice-is ws at end e)) ∙ sym (append-nil (sized (textOf slice)))
-
-  pub text-there : Text (bodyAt ws at) → Text slice
-  text-there t = subst Text (sym (slice-is ws at end e)) t
 
   pub count-bytes : {B : Type 0} (f : ℕ → B) → digitsOf 8 2 (length (map f (bodyAt ws at))) ≡ digitsOf 8 2 ((end - at) % 2 ^ 16)
   count-bytes f =

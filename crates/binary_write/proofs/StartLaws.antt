@@ -1,6 +1,6 @@
 -- A record's bytes are what it begins with and its list or text, by its kind. Assumes nothing.
 use mathlib.Core.Path.{_≡_, refl, sym, ap, subst, _∙_}
-use mathlib.Core.List.{List, [], _∷_, _++_, map, flatMap, reverse}
+use mathlib.Core.List.{List, [], _∷_, _++_, map, reverse}
 use Prim.Native.Nat.{ℕ, _+_, _-_, _%_, _^_}
 use lib.ListN.{length, getD}
 use lib.Dec.{leb, eqb}
@@ -9,9 +9,9 @@ use borrow.Rule.Slice.PartMut.{midOf}
 use Rattle.format.specs.Digits.{digitsOf}
 use Rattle.format.specs.Records.{Record, block, label, lineBlock, source, relocation}
 use Rattle.format.specs.Words.{flagBit}
-use Rattle.format.specs.Binary.{recordBytes, memoryBytes}
+use Rattle.format.specs.Binary.{recordBytes}
 use Rattle.format.proofs.ListLaws.{by-test}
-use Rattle.object.specs.Bodies.{bodyAt, textAt, numberAt, Text}
+use Rattle.object.specs.Bodies.{bodyAt, textAt, numberAt}
 use Rattle.object.specs.Access.{memoryIn, addressIn, kindAt, blockAt, labelAt, lineBlockAt, relocationAt, recordAt}
 use Rattle.binary_measure.specs.Measured.{Ends, Stands, textOf}
 use Rattle.binary_measure.proofs.KindLaws.{block-here, label-here, line-here, source-here, relocation-here, kind-5}

@@ -4,7 +4,6 @@ use mathlib.Core.List.{List}
 use Prim.Native.Nat.{ℕ, _+_}
 use Rattle.format.specs.Basics.{if_then_else_}
 use Rattle.format.specs.Binary.{numberAt, hasBytes}
-use Rattle.cursor.specs.declared.Cursor.{Cursor}
 use Rattle.cursor.specs.declared.TookU8.{TookU8}
 use Rattle.cursor.specs.declared.TookU8.the-variants as u8
 use Rattle.cursor.specs.declared.TookU16.{TookU16}

@@ -1,6 +1,5 @@
 // The bytes of a scalar value. A part writer: it is lent the unused rest of the output, writes at the front of it and returns the length
 // filled. Where the room is too short it writes nothing and returns 0.
-ghost use mathlib.Core.List.{[], _∷_};
 ghost use Prim.Native.Nat.{_<_};
 ghost use Rattle.writing.specs.Written.{Put};
 ghost use Rattle.encode.specs.Scalar.{one, two, three, four, scalarBytes};

@@ -1,15 +1,13 @@
 -- Line blocks asked by line and by address, record by record. Assumes nothing.
 use mathlib.Core.Path.{_≡_, refl, sym, _∙_, ap, subst}
-use mathlib.Core.Bool.{Bool, true, false}
 use mathlib.Core.List.{List, [], _∷_, map}
 use mathlib.Core.Option.{Option, none, some, orElse}
 use Prim.Native.Nat.{ℕ, zero, suc, _+_, _-_, _%_, _^_, _≤_, _<_}
 use native.Mathlib.Omega.{arith}
 use native.Mathlib.Nat.{add-zero, le-refl}
 use lib.ListN.{length, getD, getElem?}
-use lib.Dec.{leb, ltb, eqb}
-use borrow.Author.Tests.{le-leb, lt-leb, lt-ltb, le-ltb, eq-eqb, ne-eqb, leb-true, leb-false}
-use Rattle.format.specs.Basics.{Outcome, refused, given, _>>=_, need, andThen, if_then_else_}
+use borrow.Author.Tests.{le-leb, lt-leb, lt-ltb, le-ltb, eq-eqb, ne-eqb}
+use Rattle.format.specs.Basics.{Outcome, refused, given, _>>=_, need, andThen}
 use Rattle.format.specs.ObjectFile.{ObjectFile, LineBlock}
 use Rattle.format.specs.Records.{placed, emptyObject}
 use Rattle.format.specs.Words.{objectOf}

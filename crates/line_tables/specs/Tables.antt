@@ -5,7 +5,7 @@ use mathlib.Core.Option.{Option, none, some}
 use Prim.Native.Nat.{ℕ, _+_, _-_, _%_, _^_, _≤_, _<_}
 use lib.ListN.{length, getElem?}
 use lib.Dec.{ltb}
-use Rattle.format.specs.Basics.{Outcome, given, need, andThen, if_then_else_}
+use Rattle.format.specs.Basics.{given, need, andThen, if_then_else_}
 use Rattle.format.specs.ObjectFile.{ObjectFile, LineBlock}
 use Rattle.format.specs.Words.{objectOf}
 use Rattle.format.specs.Source.{lastStarting, offsetOf, findLine}

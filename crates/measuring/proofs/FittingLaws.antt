@@ -8,7 +8,6 @@ use lib.ListN.{length, length-append, length-drop}
 use lib.Dec.{leb}
 use borrow.Author.Tests.{le-leb, lt-leb, leb-true, leb-false}
 use borrow.Rule.Slice.PartAt.{part-to-end}
-use Rattle.format.specs.Basics.{if_then_else_}
 use Rattle.format.proofs.ListLaws.{by-test}
 use Rattle.writing.specs.Written.{filled, written, Put}
 use Rattle.writing.proofs.WriteLaws.{filled-fits, written-fits}

@@ -1,6 +1,6 @@
 -- Stretches of a text's bytes, and whole words of them. Assumes nothing.
 use mathlib.Core.Path.{_≡_, refl, sym, _∙_, ap, ap₂, subst}
-use mathlib.Core.List.{List, [], _∷_, _++_}
+use mathlib.Core.List.{List, _∷_, _++_}
 use Prim.Native.Nat.{ℕ, zero, suc, _+_, _-_, _*_, _/_, _%_, _≤_, _<_}
 use native.Mathlib.Omega.{arith}
 use lib.ListN.{length, getD, length-append, length-drop}
@@ -9,7 +9,7 @@ use lib.Dec.{ltb}
 use borrow.Author.Tests.{ltb-true, ltb-false, lt-ltb, le-ltb}
 use Rattle.format.proofs.ListLaws.{by-test}
 use Rattle.writing.proofs.Parts.{State, Emits, rest, has-room}
-use Rattle.object.specs.Texts.{textByte, bytesFrom, textBytes, spanBytes, wholeWords, EachByte, EachIn}
+use Rattle.object.specs.Texts.{textByte, bytesFrom, spanBytes, wholeWords, EachByte, EachIn}
 use Rattle.object.proofs.ByteLaws.{byte-0, byte-1, byte-2, bytes-here, bytes-length}
 
 -- the three bytes of word k

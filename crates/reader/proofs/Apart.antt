@@ -12,7 +12,7 @@ use base.Fml.{Lft, Share, Fml, ftrue, flft}
 use prog.Wp.{Heap}
 use ghost.Atoms.{Atoms, sem}
 use contract.Lifetimes.{Lfts}
-use types.Kit.{Given, ‵, _⊛_, given, ⋆, _$_, _∵_, !, qed, move, drop, use1, split, join, learn, fsplit, fjoin, frame, done}
+use types.Kit.{Given, ‵, _⊛_, given, _$_, _∵_, !, qed, move, drop, use1, split, join, learn, fsplit, fjoin, frame, done}
 use denote.RattleType.{RattleType, owns}
 use denote.Laws.{Is, Makes}
 use denote.Plain.{uint-makes}

@@ -1,16 +1,15 @@
 -- A walk along the records of a well formed object, for a question F of which the records that are left decide. Assumes nothing.
-use mathlib.Core.Path.{_≡_, refl, sym, _∙_, ap, subst}
-use mathlib.Core.Bool.{Bool, true, false}
+use mathlib.Core.Path.{_≡_, sym, _∙_, ap, subst}
 use mathlib.Core.List.{List, [], _∷_}
-use mathlib.Core.Option.{Option, none, some}
-use Prim.Native.Nat.{ℕ, _+_, _/_, _^_, _≤_, _<_}
+use mathlib.Core.Option.{some}
+use Prim.Native.Nat.{ℕ, _+_, _≤_, _<_}
 use native.Mathlib.Omega.{arith}
 use lib.ListN.{length, getD}
 use lib.Dec.{eqb}
-use borrow.Author.Tests.{eq-eqb, ne-eqb, eqb-true}
-use Rattle.format.specs.Basics.{Outcome, given, if_then_else_}
-use Rattle.format.specs.ObjectFile.{ObjectFile, LineBlock}
-use Rattle.format.specs.Records.{Record, block, label, lineBlock, source, relocation, placed, emptyObject}
+use borrow.Author.Tests.{eq-eqb, ne-eqb}
+use Rattle.format.specs.Basics.{given}
+use Rattle.format.specs.ObjectFile.{ObjectFile}
+use Rattle.format.specs.Records.{Record, source, placed, emptyObject}
 use Rattle.format.specs.Words.{objectOf, recordFrom, recordsFrom}
 use Rattle.format.proofs.ListLaws.{by-test}
 use Rattle.object.specs.Bodies.{bodyAt, groupsAt, textAt, Text}

@@ -1,14 +1,13 @@
 -- What the queries ask first, and how their answers come from a source's bytes. Assumes nothing.
 use mathlib.Core.Path.{_≡_, refl, sym, _∙_, ap}
-use mathlib.Core.List.{List, []}
-use mathlib.Core.Option.{Option, none, some}
-use Prim.Native.Nat.{ℕ, suc, _+_, _≤_}
-use native.Mathlib.Omega.{arith}
-use Rattle.format.specs.Basics.{Outcome, refused, given, _>>=_, need}
+use mathlib.Core.List.{List}
+use mathlib.Core.Option.{none, some}
+use Prim.Native.Nat.{ℕ, suc, _+_}
+use Rattle.format.specs.Basics.{Outcome, refused, given, _>>=_}
 use Rattle.format.specs.ObjectFile.{ObjectFile}
 use Rattle.format.specs.Words.{objectOf}
 use Rattle.format.specs.Source.{Span, Position, newlines, lineCount, rawLineSpan, trimmed, lineSpan, getPosPair}
-use Rattle.format.specs.Calls.{Value, refusalOf, checked, sourceIn, valueAnswer, spanAnswer, positionAnswer, queryCountLines}
+use Rattle.format.specs.Calls.{refusalOf, checked, sourceIn, valueAnswer, spanAnswer, positionAnswer, queryCountLines}
 use Rattle.format.specs.Calls.{queryRawLineSpan, queryLineSpan, queryPosPair}
 use native.Mathlib.Numerals.{add-one}
 

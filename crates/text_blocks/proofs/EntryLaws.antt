@@ -2,16 +2,14 @@
 use mathlib.Core.Path.{_≡_, refl, sym, ap, _∙_, subst}
 use mathlib.Core.Bool.{Bool, true, false, _&&_}
 use mathlib.Core.List.{List, [], _∷_}
-use mathlib.Core.Option.{Option, none, some}
+use mathlib.Core.Option.{none, some}
 use Prim.Native.Nat.{ℕ, zero, suc, _+_, _-_, _*_, _≤_, _<_}
 use native.Mathlib.Omega.{arith}
-use native.Mathlib.Numerals.{add-one}
 use lib.ListN.{length, take, drop, getD}
-use lib.Seq.{drop-cons}
 use lib.Dec.{eqb, ltb}
 use borrow.Author.Tests.{lt-ltb, le-ltb, eq-eqb, ne-eqb, eqb-true, eqb-false, ltb-true, ltb-false}
-use Rattle.format.specs.Basics.{eqs, if_then_else_}
-use Rattle.format.specs.TextReader.{digitsFrom, hex2u16, maybeHex2u16}
+use Rattle.format.specs.Basics.{eqs}
+use Rattle.format.specs.TextReader.{digitsFrom, maybeHex2u16}
 use Rattle.format.specs.Words.{memoryWord}
 use Rattle.trim.specs.Span.{part}
 use Rattle.text_cells.specs.Cells.{digitOr16}

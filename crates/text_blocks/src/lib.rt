@@ -14,7 +14,7 @@ ghost use mathlib.Core.Bool.{true};
 ghost use Prim.Native.Nat.{_<_};
 ghost use lib.ListN.{getD};
 ghost use Rattle.format.specs.Basics.{isSome};
-ghost use Rattle.format.specs.TextReader.{lines, hex2u16, maybeHex2u16};
+ghost use Rattle.format.specs.TextReader.{hex2u16, maybeHex2u16};
 ghost use Rattle.text_blocks.specs.Blocks.{isTable, fourWord, shortEntry, OneEntry, Entries, BodyIs, NextBlock, textAt, BlocksChecked};
 
 // A block of .TEXT: where its entries start, and the place after them.

@@ -103,10 +103,6 @@ four-wide s at h a b c d =
 
 -- cells
 module _ (bs : List ℕ) where
-  pub cells-none : (j : ℕ) → getD (splitn 0 bs) (suc j) [] ≡ []
-  unfolding splitn
-  cells-none j = refl
-
   pub cells-cut : (k p : ℕ) → splitOnce bs ≡ some (take p bs, drop (p + 3) bs) → splitn (suc k) bs ≡ take p bs ∷ splitn k (drop (p + 3) bs)
   unfolding splitn
   cells-cut k p e = rw e

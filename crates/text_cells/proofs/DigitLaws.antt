@@ -1,12 +1,11 @@
 -- A digit's value by sums: a test that is computed at each byte from `0` up to `f`. Assumes nothing.
 use mathlib.Core.Path.{_≡_, refl, sym, ap, _∙_}
-use mathlib.Core.Bool.{Bool, true, false, _&&_}
+use mathlib.Core.Bool.{Bool, true, _&&_}
 use Prim.Native.Nat.{ℕ, zero, suc, _+_, _-_, _*_, _/_, _%_, _≤_, _<_}
 use native.Mathlib.Omega.{arith}
 use lib.Dec.{eqb, leb, ltb}
 use borrow.Author.Tests.{eqb-true, leb-true, lt-ltb, le-ltb}
 use Rattle.format.specs.Basics.{if_then_else_}
-use Rattle.format.specs.Utf8.{isBetween}
 use Rattle.format.proofs.ListLaws.{both}
 use Rattle.text_cells.specs.Cells.{digitOr16}
 

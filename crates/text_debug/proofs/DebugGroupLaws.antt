@@ -16,7 +16,6 @@ use Rattle.format.specs.TextReader.{splitn, cellAt, sameCells, rowsUnder, parse
 use Rattle.format.specs.TextReader.{parseLineRows, runsFrom, unescape, parseLineTable, splitAtBar, upToBar, parseDebugGroup}
 use Rattle.format.specs.Calls.{refusalOf}
 use Rattle.text_lines.proofs.TestLaws.{by-test}
-use Rattle.trim.specs.Span.{part}
 use Rattle.text_lines.specs.Views.{StepAt}
 use Rattle.text_lines.specs.Groups.{partsFrom}
 use Rattle.text_lines.proofs.RowLaws.{parts-of}

@@ -1,6 +1,6 @@
 -- Escapes, character by character. Assumes nothing.
 use mathlib.Core.Path.{_≡_, refl, sym, ap, ap₂, subst, _∙_}
-use mathlib.Core.Bool.{Bool, true, false, _&&_}
+use mathlib.Core.Bool.{Bool, true, false}
 use mathlib.Core.Logic.{_⊎_, inl, inr}
 use mathlib.Core.List.{List, [], _∷_, _++_, flatMap, append-assoc}
 use mathlib.Core.Option.{Option, none, some, Option·getD}
@@ -9,8 +9,8 @@ use native.Mathlib.Omega.{arith}
 use lib.ListN.{length, drop, getD, length-append, length-drop, drop-of-length-le}
 use borrow.Rule.Slice.PartAt.{part-to-end}
 use lib.Seq.{drop-drop}
-use lib.Dec.{ltb, leb, eqb}
-use borrow.Author.Tests.{ltb-true, ltb-false, lt-ltb, le-ltb, le-leb, lt-leb, eq-eqb, ne-eqb, eqb-true, eqb-false}
+use lib.Dec.{ltb, eqb}
+use borrow.Author.Tests.{ltb-true, ltb-false, lt-ltb, le-leb, lt-leb, ne-eqb, eqb-true, eqb-false}
 use Rattle.format.specs.Basics.{if_then_else_, ascii, andThen, isSome}
 use Rattle.format.specs.Utf8.{charAt, scalarsFrom, isUtf8, isBetween}
 use Rattle.format.specs.TextWriter.{lowerDigit, numeral, escapeChar, escape}
@@ -19,15 +19,14 @@ use Rattle.format.proofs.Utf8Laws.{char-reads, scalar-bound}
 use Rattle.writing.specs.Written.{Put}
 use Rattle.writing.proofs.Parts.{State, Emits, rest, has-room}
 use Rattle.text_numerals.proofs.DigitLaws.{right-length, right-full}
-use Rattle.text_numerals.specs.Memory.{knownWord}
 use Rattle.format.specs.Digits.{digitsOf}
-use Rattle.format.specs.TextWriter.{hex4, decimal, memoryText, spaces, toRight, tableDiv, textLine}
+use Rattle.format.specs.TextWriter.{hex4, decimal, memoryText, toRight, tableDiv, textLine}
 use Rattle.text_escape.specs.Rows.{lineLine, rowHead, newlineBytes}
 use Rattle.utf8.proofs.CharLaws.{front, char-inside}
 use Rattle.word_chars.proofs.CharLaws.{char-low, byte-is, size-is}
 use Rattle.word_chars.specs.Stretches.{Stretch}
 use Rattle.word_chars.proofs.StretchLaws.{stretch-within}
-use Rattle.object.specs.Texts.{textByte, bytesFrom, textBytes, spanBytes, EachByte}
+use Rattle.object.specs.Texts.{textByte, textBytes, spanBytes, EachByte}
 use Rattle.object.proofs.ByteLaws.{bytes-here, bytes-end}
 use Rattle.text_escape.specs.Escaped.{letterOf, codeText, escapeNext, escapeFrom, escapedIn, Itself}
 

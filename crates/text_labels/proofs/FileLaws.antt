@@ -1,7 +1,7 @@
 -- Of a text file that reads, the words of its object's blocks, labels and relocations are those that the rows' writers put. Assumes nothing.
 use mathlib.Core.Path.{_≡_, refl, sym, ap, _∙_}
 use mathlib.Core.Bool.{Bool, true, false, _&&_, not}
-use mathlib.Core.List.{List, [], _∷_, _++_, map, flatMap}
+use mathlib.Core.List.{List, [], map, flatMap}
 use Prim.Native.Nat.{ℕ}
 use Rattle.format.specs.Basics.{if_then_else_, isEmpty, isSome, given}
 use Rattle.format.specs.Sorted.{sorted}
@@ -10,7 +10,7 @@ use Rattle.format.specs.ObjectFile.{ObjectFile}
 use Rattle.format.specs.Records.{Record, block, label, relocation}
 use Rattle.format.specs.TextReader.{textObject}
 use Rattle.format.specs.Words.{recordWords}
-use Rattle.format.proofs.ListLaws.{flatMap-map, by-test}
+use Rattle.format.proofs.ListLaws.{flatMap-map}
 use Rattle.format.proofs.Outcomes.{gives}
 use Rattle.text_rows.specs.Rows.{rowKey, rowsOf}
 use Rattle.text_rows.proofs.FileLaws.{PartsOf, text-parts}

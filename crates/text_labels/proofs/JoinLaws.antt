@@ -2,19 +2,18 @@
 use mathlib.Core.Path.{_≡_, refl, sym, ap, ap₂, _∙_, subst}
 use mathlib.Core.Bool.{Bool, true, false, not, _&&_, true≢false}
 use mathlib.Core.List.{List, [], _∷_, _++_, map}
-use Prim.Native.Nat.{ℕ, suc, _+_, _-_, _≤_, _<_, Ordering, Ordering·lt, Ordering·eq, Ordering·gt}
+use Prim.Native.Nat.{ℕ, _+_, _-_, _≤_, _<_, Ordering, Ordering·lt, Ordering·eq, Ordering·gt}
 use native.Mathlib.Omega.{arith}
 use native.Mathlib.Numerals.{add-one}
-use lib.ListN.{length, take, drop, getD, length-take}
+use lib.ListN.{length, take, drop, getD}
 use lib.Dec.{ltb}
 use borrow.Author.Tests.{ltb-true, ltb-false}
 use lib.Seq.{drop-cons, getD-take, length-take-le}
 use Rattle.format.specs.Basics.{if_then_else_}
 use Rattle.format.specs.Sorted.{order, byOrdering}
-use Rattle.format.specs.ObjectFile.{Label, labelKey}
 use Rattle.format.specs.Records.{Record, label}
 use Rattle.format.specs.Words.{recordWords}
-use Rattle.text_rows.specs.Rows.{firstLine, symbolRow, labelRow, rowIn, rowAt, labelsIn, joinOne, joinLabels, onlySymbol, onlyStart, bothFields}
+use Rattle.text_rows.specs.Rows.{symbolRow, labelRow, rowIn, rowAt, labelsIn, joinOne, joinLabels, onlySymbol, onlyStart, bothFields}
 use Rattle.text_gather.specs.Keys.{lineAt, addressAt, nameAt}
 use Rattle.text_gather.specs.Order.{left}
 use Rattle.text_words.specs.Written.{externalAt, indexAt, wordsAt}

@@ -1,6 +1,6 @@
 -- Lines at places.
 -- Assumes nothing.
-use mathlib.Core.Path.{_≡_, refl, sym, ap, _∙_, subst}
+use mathlib.Core.Path.{_≡_, refl, sym, ap, _∙_}
 use mathlib.Core.Bool.{true, false}
 use mathlib.Core.List.{List, [], _∷_}
 use Prim.Native.Nat.{ℕ, zero, suc, _+_, _-_, _≤_, _<_}
@@ -9,8 +9,8 @@ use lib.ListN.{length, take, drop, getD, drop-of-length-le, length-drop}
 use lib.Seq.{getD-drop, take-length, length-take-le, take-take, take-nil, take-all}
 use lib.Dec.{eqb}
 use borrow.Author.Tests.{eq-eqb, ne-eqb, eqb-true, eqb-false}
-use Rattle.format.specs.Basics.{if_then_else_, isEmpty, keep, beginsWith, ascii, eqs}
-use Rattle.format.specs.Utf8.{isBlank, trim, trimStart, trimEnd}
+use Rattle.format.specs.Basics.{keep, beginsWith, ascii, eqs}
+use Rattle.format.specs.Utf8.{isBlank, trim}
 use Rattle.format.specs.TextReader.{onFirst, lines, keptLines}
 use Rattle.trim.specs.Span.{Spans, part}
 use Rattle.text_lines.specs.Lines.{lineLength, LineAt, isKept, kept}

@@ -1,14 +1,14 @@
 -- The line at a place by its bytes: a line of four bytes, and whether the group has a line left. Assumes nothing.
 use mathlib.Core.Path.{_≡_, refl, sym, ap, _∙_, subst}
-use mathlib.Core.Bool.{Bool, true, false, true≢false, not}
+use mathlib.Core.Bool.{true, false, true≢false, not}
 use mathlib.Core.List.{List, [], _∷_}
 use Prim.Native.Nat.{ℕ, zero, suc, _+_, _-_, _≤_, _<_}
 use native.Mathlib.Omega.{arith}
-use lib.ListN.{length, take, drop, getD, length-drop}
+use lib.ListN.{length, drop, getD, length-drop}
 use lib.Seq.{getD-drop, getD-take}
 use lib.Dec.{eqb, ltb}
 use borrow.Author.Tests.{lt-ltb, le-ltb, eq-eqb, ne-eqb, eqb-true, eqb-false, ltb-true, ltb-false}
-use Rattle.format.specs.Basics.{if_then_else_, ascii, beginsWith, isEmpty}
+use Rattle.format.specs.Basics.{ascii, beginsWith, isEmpty}
 use Rattle.format.specs.Utf8.{charAt, isWhiteSpace, trimFrom, trimStart, isBlank}
 use Rattle.format.specs.TextReader.{lines}
 use Rattle.trim.specs.Span.{part}

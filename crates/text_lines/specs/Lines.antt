@@ -3,12 +3,11 @@
 use mathlib.Core.Path.{_≡_}
 use mathlib.Core.Bool.{Bool, false, _&&_, not}
 use mathlib.Core.List.{List, [], _∷_}
-use mathlib.Core.Option.{Option, none, some}
 use Prim.Native.Nat.{ℕ, suc, _+_, _-_, _≤_, _<_}
-use lib.ListN.{length, take, drop, getD}
+use lib.ListN.{length, drop, getD}
 use lib.Dec.{eqb, ltb}
 use Rattle.format.specs.Basics.{if_then_else_, ascii, keep, beginsWith}
-use Rattle.format.specs.Utf8.{isBetween, isBlank}
+use Rattle.format.specs.Utf8.{isBlank}
 use Rattle.format.specs.TextReader.{lines}
 use Rattle.trim.specs.Span.{part}
 use Rattle.text_lines.specs.declared.Line.{Line}

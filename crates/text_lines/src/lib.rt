@@ -3,7 +3,7 @@ use trim::is_blank;
 ghost use mathlib.Core.Path.{_≡_};
 ghost use mathlib.Core.Bool.{true, false, not};
 ghost use Prim.Native.Nat.{_+_, _-_, _≤_, _<_};
-ghost use lib.ListN.{length, take, drop};
+ghost use lib.ListN.{length, drop};
 ghost use Rattle.format.specs.Basics.{eqs, isEmpty};
 ghost use Rattle.format.specs.TextReader.{lines};
 ghost use Rattle.text_lines.specs.Lines.{lineLength, Next, kept, beginsByte, isKept, isFourLong};

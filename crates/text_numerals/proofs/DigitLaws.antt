@@ -5,15 +5,13 @@ use Prim.Native.Nat.{ℕ, zero, suc, _+_, _-_, _*_, _/_, _%_, _^_, _≤_, _<_}
 use native.Mathlib.Nat.{pow-suc, pow-zero, div-lt-iff-lt-mul, mul-le-mul-left}
 use native.Mathlib.Numerals.{add-one}
 use native.Mathlib.Omega.{arith}
-use lib.ListN.{length, drop, set, take, replicate, length-append, length-set, length-drop, drop-of-length-le}
+use lib.ListN.{length, drop, set, take, length-append, length-set, length-drop, drop-of-length-le}
 use lib.Seq.{sets, take-all}
 use borrow.Author.Tests.{lt-ltb, le-ltb}
-use Rattle.format.specs.Basics.{if_then_else_}
-use mathlib.Core.List.{_++_, map, reverse}
+use mathlib.Core.List.{_++_}
 use Rattle.format.specs.Digits.{digitsOf}
 use Rattle.format.specs.TextWriter.{upperDigit, lowerDigit, numeral, hex4, decimal, spaces, toRight}
 use Rattle.writing.specs.Written.{Put}
-use Rattle.writing.proofs.WriteLaws.{stored as stored-part}
 
 numeral-on : (k base v : ℕ) (ds : List ℕ) → base ≤ v → numeral (suc k) base v ds ≡ numeral k base (v / base) (lowerDigit (v % base) ∷ ds)
 unfolding numeral

@@ -1,16 +1,13 @@
 -- A text written byte by byte. Assumes nothing.
 use mathlib.Core.Path.{_≡_, refl, sym, ap, ap₂, _∙_, subst}
-use mathlib.Core.Bool.{true}
 use mathlib.Core.List.{List, [], _∷_, _++_}
 use Prim.Native.Nat.{ℕ, zero, suc, _+_, _-_, _*_, _≤_, _<_}
 use native.Mathlib.Omega.{arith}
-use lib.ListN.{length, take, drop, getD, set, length-set, drop-of-length-le}
+use lib.ListN.{length, take, drop, getD, set, drop-of-length-le}
 use lib.Seq.{take-at}
-use lib.Dec.{eqb}
 use borrow.Author.Tests.{lt-ltb, le-ltb, eq-eqb, ne-eqb}
-use Rattle.format.specs.Basics.{if_then_else_}
 use Rattle.format.specs.Digits.{valueOf}
-use Rattle.format.specs.Utf8.{isScalar, encodeScalar}
+use Rattle.format.specs.Utf8.{isScalar}
 use Rattle.format.specs.Words.{word, textWords}
 use Rattle.format.proofs.ListLaws.{by-test}
 use Rattle.writing.specs.Written.{Put}

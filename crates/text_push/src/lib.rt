@@ -1,7 +1,6 @@
 // A text written into words byte by byte, as the bytes come: three bytes make a word.
 use encode::encode_scalar;
 ghost use Prim.Native.Nat.{_+_, _*_};
-ghost use lib.ListN.{set};
 ghost use mathlib.Core.List.{[], _∷_};
 ghost use Rattle.encode.specs.Scalar.{scalarBytes};
 ghost use Rattle.text_push.specs.Pushes.{fullWord, Stores, Pushes, Flushes};

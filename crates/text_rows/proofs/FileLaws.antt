@@ -2,18 +2,16 @@
 use mathlib.Core.Path.{_≡_, refl, sym, ap, _∙_, subst}
 use mathlib.Core.Bool.{Bool, true, false, _&&_, not}
 use mathlib.Core.List.{List, [], _∷_, _++_, map, flatMap}
-use mathlib.Core.Option.{Option, none, some}
 use Prim.Native.Nat.{ℕ}
 use native.Mathlib.Omega.{arith}
-use lib.ListN.{drop}
 use lib.Dec.{eqb}
 use borrow.Author.Tests.{eqb-true}
-use Rattle.format.specs.Basics.{Outcome, refused, given, _>>=_, ask, if_then_else_, isEmpty, isSome, ascii, eqs, beginsWith}
+use Rattle.format.specs.Basics.{given, if_then_else_, isEmpty, isSome, ascii, eqs, beginsWith}
 use Rattle.format.specs.Utf8.{isUtf8, trim}
-use Rattle.format.specs.Tokens.{Parts, bodyOf, partsAt, foldOutcome}
+use Rattle.format.specs.Tokens.{partsAt, foldOutcome}
 use Rattle.format.specs.Sorted.{upsertAll, sorted}
 use Rattle.format.specs.ObjectFile.{ObjectFile, Label, labelKey}
-use Rattle.format.specs.Records.{Record, block, label, relocation, emptyObject, withRelocations, dropStrayRelocations, textQuestions, askAll, concluded}
+use Rattle.format.specs.Records.{Record, block, label, relocation, emptyObject, dropStrayRelocations, textQuestions, askAll, concluded}
 use Rattle.format.specs.TextReader.{keptLines, afterMagic, parseGroup, textObject, splitAtBar}
 use Rattle.format.proofs.ListLaws.{map-append}
 use Rattle.format.proofs.RisesLaws.{rises-sorted}
@@ -23,7 +21,7 @@ use Rattle.text_lines.specs.Groups.{partsFrom, kindOf}
 use Rattle.text_lines.proofs.TestLaws.{by-test}
 use Rattle.text_rows.specs.Rows.{rowKey, symbolRow, labelRow, underHeader, rowsIn, groupRows, rowsOf, labelsIn, joinLabels}
 use Rattle.text_rows.proofs.JoinLaws.{joined-none, joined-is}
-use Rattle.text_rows.proofs.TakenLaws.{upsert-made, labels-more, symbol-rows, start-rows, Taken, TakenOf, groups-taken, gives-after}
+use Rattle.text_rows.proofs.TakenLaws.{upsert-made, labels-more, symbol-rows, start-rows, TakenOf, groups-taken, gives-after}
 
 -- ROWS THAT ARE LABELS
 abbrev AllLabels : List Record → Type 0

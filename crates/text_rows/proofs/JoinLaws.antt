@@ -1,16 +1,15 @@
 -- Labels of two tables: what is found under a name, and that a label's fields are those of the last rows that set them. Assumes nothing.
 use mathlib.Core.Path.{_≡_, refl, sym, ap, _∙_, subst}
-use mathlib.Core.Bool.{Bool, true, false}
+use mathlib.Core.Bool.{false}
 use mathlib.Core.List.{List, [], _∷_, map}
-use mathlib.Core.Option.{Option, none, some, Option·getD}
+use mathlib.Core.Option.{Option, none, some}
 use Prim.Native.Nat.{ℕ, Ordering, Ordering·lt, Ordering·eq, Ordering·gt}
-use native.Mathlib.Omega.{arith}
 use lib.Dec.{isEq}
 use Rattle.format.specs.Basics.{if_then_else_}
 use Rattle.format.specs.Sorted.{order, byOrdering, upsert, atKey}
 use Rattle.format.specs.ObjectFile.{Label, labelKey}
 use Rattle.format.specs.Records.{labelNamed}
-use Rattle.format.proofs.SortedLaws.{order-self, order-eq, order-flip, order-trans, Above, Rises, above-trans, rises-upsert, atKey-upsert, atKey-above, ext-atKey}
+use Rattle.format.proofs.SortedLaws.{order-eq, order-flip, Above, Rises, above-trans, rises-upsert, atKey-upsert, atKey-above, ext-atKey}
 use Rattle.text_rows.specs.Rows.{onlySymbol, onlyStart, bothFields, joinOne, joinLabels}
 
 -- the label of a name, from what each table has under it

@@ -1,18 +1,18 @@
 -- Lines passed over many at a time, up to one that begins with `.`. Assumes nothing.
 use mathlib.Core.Path.{_≡_, refl, sym, ap, _∙_, subst}
-use mathlib.Core.Bool.{Bool, true, false}
+use mathlib.Core.Bool.{true, false}
 use mathlib.Core.List.{List, [], _∷_}
 use Prim.Native.Nat.{ℕ, zero, suc, _+_, _-_, _≤_, _<_}
 use native.Mathlib.Omega.{arith}
 use lib.ListN.{length, getD}
 use lib.Dec.{eqb, ltb}
 use borrow.Author.Tests.{ne-eqb, eqb-true, eqb-false, ltb-true, ltb-false}
-use Rattle.format.specs.Basics.{if_then_else_, ascii, beginsWith, isEmpty}
+use Rattle.format.specs.Basics.{ascii, beginsWith, isEmpty}
 use Rattle.format.specs.Utf8.{charAt, isWhiteSpace, trimFrom, trimStart, isBlank}
 use Rattle.format.specs.TextReader.{lines}
 use Rattle.format.specs.Tokens.{Parts, partsAt}
 use Rattle.trim.specs.Span.{part}
-use Rattle.text_lines.specs.Lines.{LineAt, isKept, kept}
+use Rattle.text_lines.specs.Lines.{LineAt, isKept}
 use Rattle.text_lines.specs.Groups.{partsFrom}
 use Rattle.text_lines.proofs.LineLaws.{line-done, kept-yes, kept-no, kept-done, length-part, begins-at, begins-none}
 use Rattle.text_lines.proofs.ShortLaws.{line-there, first-byte}

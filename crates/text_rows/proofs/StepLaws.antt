@@ -1,20 +1,18 @@
 -- The walk over a kind's rows: lines passed over, a table's first row, and a row's end. Assumes nothing.
 use mathlib.Core.Path.{_≡_, refl, sym, ap, _∙_, subst}
-use mathlib.Core.Bool.{Bool, true, false, _&&_, true≢false}
+use mathlib.Core.Bool.{true, false, true≢false}
 use mathlib.Core.List.{List, [], _∷_, _++_, flatMap}
 use Prim.Native.Nat.{ℕ, zero, suc, _-_, _≤_, _<_}
 use native.Mathlib.Omega.{arith}
 use lib.ListN.{length, drop}
 use lib.Dec.{eqb}
 use borrow.Author.Tests.{eq-eqb, ne-eqb}
-use Rattle.format.specs.Basics.{if_then_else_, ascii, beginsWith, isEmpty}
-use Rattle.format.specs.Tokens.{Parts, headOf}
+use Rattle.format.specs.Basics.{ascii, beginsWith, isEmpty}
+use Rattle.format.specs.Tokens.{Parts}
 use Rattle.format.specs.Records.{Record}
-use Rattle.format.specs.TextReader.{isBar}
 use Rattle.trim.specs.Span.{part}
 use Rattle.text_lines.specs.Groups.{partsFrom, kindOf, RowAt, HeadAt}
-use Rattle.text_lines.proofs.RowLaws.{rows-on, row-groups, parts-of}
-use Rattle.text_lines.proofs.TestLaws.{and-no}
+use Rattle.text_lines.proofs.RowLaws.{rows-on, row-groups}
 use Rattle.text_rows.specs.Rows.{countIn, firstLine, linesAfter, endsTable, rowIn, rowsIn, underHeader, groupRows, rowsFrom, rowsOf, rowAt}
 use Rattle.text_rows.specs.Steps.{Skips, GroupEnd, FirstRow, TableAt, FoundAt, LineOf}
 

@@ -1,30 +1,29 @@
 -- What a group's rows come to in the object: the blocks, the labels and the relocations that it has then. Assumes nothing.
 use mathlib.Core.Path.{_≡_, refl, sym, ap, _∙_, subst}
-use mathlib.Core.Bool.{Bool, true, false, _&&_, not}
+use mathlib.Core.Bool.{Bool, true, false, not}
 use mathlib.Core.List.{List, [], _∷_, _++_, map, flatMap}
 use mathlib.Core.Option.{Option, none, some}
-use Prim.Native.Nat.{ℕ, zero, suc, _^_, _-_, Ordering, Ordering·lt, Ordering·eq, Ordering·gt}
-use native.Mathlib.Omega.{arith}
-use lib.ListN.{length, take, drop, getD}
-use lib.Dec.{eqb, leb}
+use Prim.Native.Nat.{ℕ, zero, suc, _-_, Ordering, Ordering·lt, Ordering·eq, Ordering·gt}
+use lib.ListN.{length, drop, getD}
+use lib.Dec.{eqb}
 use borrow.Author.Tests.{eqb-true}
-use Rattle.format.specs.Basics.{Outcome, refused, given, _>>=_, ask, need, andThen, isSome, if_then_else_, allSome, ascii, isEmpty}
+use Rattle.format.specs.Basics.{Outcome, refused, given, _>>=_, ask, need, andThen, isSome, if_then_else_, ascii, isEmpty}
 use Rattle.format.specs.Utf8.{trim}
 use Rattle.format.specs.Tokens.{foldOutcome, scanTokens}
 use Rattle.format.specs.Sorted.{order, byOrdering, upsert, upsertAll, atKey}
 use Rattle.format.specs.ObjectFile.{ObjectFile, Block, Label, Relocation, LineBlock, blockKey, labelKey, relocationKey}
 use Rattle.format.specs.Records.{Record, block, label, relocation, lineBlock, source, putRecord, labelNamed, withLines}
-use Rattle.format.specs.TextReader.{hex2u16, parseDecimal, splitn, sameCells, rowsUnder, isBar, Split, splitAtBar, upToBar}
+use Rattle.format.specs.TextReader.{hex2u16, parseDecimal, splitn, sameCells, rowsUnder, isBar, splitAtBar, upToBar}
 use Rattle.format.specs.TextReader.{parseSymbolRow, parseLinkerRow, parseLabelRow, parseSymbolGroup, parseLinkerGroup, parseLabelTable}
 use Rattle.format.specs.TextReader.{parseLineTable, parseLineRows, runsFrom, unescape, parseDebugGroup, parseTextGroup, blockAt, parseGroup}
-use Rattle.format.proofs.Outcomes.{Gives, gives-bind, gives-need, gives-ask, Holds, gives-map, by-if}
+use Rattle.format.proofs.Outcomes.{Gives, gives-bind, gives-ask, gives-map, by-if}
 use Rattle.text_lines.specs.Groups.{kindOf}
 use Rattle.text_lines.proofs.TestLaws.{by-test}
 use Rattle.text_blocks.specs.Blocks.{wordsIn, blockIn}
 use Rattle.text_blocks.proofs.BlockLaws.{putNew, block-at}
 use Rattle.text_tables.proofs.GroupLaws.{byKind, group-kind}
 use Rattle.text_rows.specs.Rows.{orZero, orNone, firstLine, cellOf, countIn, blockRow, symbolRow, linkerRow, labelRow, rowIn, rowKey, linesAfter}
-use Rattle.text_rows.specs.Rows.{endsTable, rowsIn, underHeader, groupRows, labelsIn}
+use Rattle.text_rows.specs.Rows.{rowsIn, underHeader, groupRows, labelsIn}
 use Rattle.text_rows.proofs.JoinLaws.{Joined, withSymbol, withStart, join-symbol, join-start}
 
 -- an element made of another with the same key is put in its place too

@@ -1,16 +1,15 @@
 -- The rows of a text file by kind: 0 the blocks of .TEXT, 1 the rows of .SYMBOL, 2 those of .LINKER_INFO, 3 those of .DEBUG's label table.
 -- What a row says stands for every text: a number that doesn't read is 0. Of a file that reads, these are what the reader puts in its
 -- object. Assumes nothing.
-use mathlib.Core.Path.{_≡_}
-use mathlib.Core.Bool.{Bool, true, false, _&&_, not}
+use mathlib.Core.Bool.{Bool, false, _&&_, not}
 use mathlib.Core.List.{List, [], _∷_, _++_, map, flatMap}
 use mathlib.Core.Option.{Option, none, some}
-use Prim.Native.Nat.{ℕ, zero, suc, _+_, Ordering}
-use lib.ListN.{length, drop, getD}
+use Prim.Native.Nat.{ℕ, zero, suc, _+_}
+use lib.ListN.{drop, getD}
 use lib.Dec.{eqb}
 use Rattle.format.specs.Basics.{if_then_else_}
 use Rattle.format.specs.Utf8.{trim}
-use Rattle.format.specs.Sorted.{order, byOrdering, sorted}
+use Rattle.format.specs.Sorted.{order, byOrdering}
 use Rattle.format.specs.TextReader.{hex2u16, parseDecimal, splitn, isBar}
 use Rattle.format.specs.ObjectFile.{Block, Label, Relocation, blockKey, labelKey, relocationKey}
 use Rattle.format.specs.Records.{Record, block, label, lineBlock, source, relocation}

@@ -1,12 +1,11 @@
 -- What the walk over a kind's rows finds at a place. Assumes nothing.
 use mathlib.Core.Path.{_≡_}
-use mathlib.Core.List.{List, [], _∷_, _++_, flatMap}
-use Prim.Native.Nat.{ℕ, suc, _+_, _≤_, _<_}
+use mathlib.Core.List.{List, [], _∷_, flatMap}
+use Prim.Native.Nat.{ℕ, _+_, _≤_, _<_}
 use lib.ListN.{length, drop, getD}
-use Rattle.format.specs.Records.{Record}
 use Rattle.text_lines.specs.Groups.{partsFrom}
 use Rattle.trim.specs.Span.{Spans}
-use Rattle.text_rows.specs.Rows.{firstLine, countIn, rowsIn, underHeader, groupRows, rowsFrom, rowsOf, rowAt}
+use Rattle.text_rows.specs.Rows.{firstLine, rowsIn, underHeader, groupRows, rowsFrom, rowsOf, rowAt}
 use Rattle.text_rows.specs.declared.Place.{Place}
 use Rattle.text_rows.specs.declared.Place.the-variants as place
 use Rattle.text_rows.specs.declared.Found.{Found}

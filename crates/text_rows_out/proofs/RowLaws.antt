@@ -1,25 +1,23 @@
 -- The lengths of rows, and their parts. Assumes nothing.
 use mathlib.Core.Path.{_≡_, refl, sym, ap, _∙_}
-use mathlib.Core.Bool.{Bool, true, false, not}
-use mathlib.Core.List.{List, [], _∷_, _++_, map, append-assoc}
-use mathlib.Core.Option.{none, some}
+use mathlib.Core.Bool.{Bool, not}
+use mathlib.Core.List.{List, [], _∷_, _++_, append-assoc}
 use Prim.Native.Nat.{ℕ, _+_, _-_, _%_, _^_, _≤_, _<_}
 use native.Mathlib.Omega.{arith}
 use lib.ListN.{length, length-append}
 use lib.Dec.{eqb}
-use borrow.Author.Tests.{eq-eqb, ne-eqb}
-use Rattle.format.specs.Basics.{ascii, if_then_else_}
+use Rattle.format.specs.Basics.{ascii}
 use Rattle.format.specs.Digits.{digitsOf}
 use Rattle.format.specs.Utf8.{characters}
 use Rattle.format.specs.TextWriter.{hex4, memoryText, textLine, tableDiv, spaces, toLeft}
 use Rattle.format.proofs.ListLaws.{by-test}
 use Rattle.text_numerals.specs.Memory.{knownWord}
 use Rattle.text_numerals.proofs.DigitLaws.{spaces-length}
-use Rattle.object.specs.Texts.{textByte, bytesFrom, textBytes}
+use Rattle.object.specs.Texts.{textByte, bytesFrom}
 use Rattle.object.specs.Access.{memoryIn}
-use Rattle.object.proofs.ByteLaws.{bytes-here, bytes-end, bytes-length}
+use Rattle.object.proofs.ByteLaws.{bytes-here, bytes-end}
 use Rattle.utf8.specs.Chars.{begins}
-use Rattle.utf8.proofs.CharLaws.{count-on, characters-fit}
+use Rattle.utf8.proofs.CharLaws.{count-on}
 use Rattle.text_rows_out.specs.Rows.{linkerLine}
 
 pub hex4-length : (v : ℕ) → length (hex4 v) ≡ 4

@@ -1,7 +1,6 @@
 -- A row's cells, one after the other.
 -- Assumes nothing.
 use mathlib.Core.Path.{_≡_, refl, sym, ap, _∙_}
-use mathlib.Core.Bool.{true, false}
 use mathlib.Core.List.{List, [], _∷_, _++_}
 use mathlib.Core.Option.{Option, none, some}
 use Prim.Native.Nat.{ℕ, suc, _+_, _-_, _≤_, _<_}
@@ -14,7 +13,7 @@ use Rattle.format.specs.TextReader.{splitOnce, splitn, firstCell}
 use Rattle.trim.specs.Span.{part, Spans, Trimmed, trimSpan}
 use Rattle.trim.specs.declared.Span.{Span}
 use Rattle.text_lines.proofs.TestLaws.{by-test}
-use Rattle.text_lines.proofs.LineLaws.{to-end, length-part, part-inside}
+use Rattle.text_lines.proofs.LineLaws.{to-end, length-part}
 use Rattle.text_tables.specs.declared.Cell.{Cell}
 use Rattle.format.specs.Basics.{All}
 use Rattle.format.specs.TextWriter.{spaces, tableDiv}

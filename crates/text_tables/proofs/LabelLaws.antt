@@ -2,7 +2,7 @@
 -- Assumes nothing.
 use mathlib.Core.Path.{_≡_, refl, sym, ap, _∙_}
 use mathlib.Core.Bool.{true, false}
-use mathlib.Core.List.{List, [], _∷_, map}
+use mathlib.Core.List.{List, [], map}
 use mathlib.Core.Option.{Option, none, some}
 use Prim.Native.Nat.{ℕ, _+_, _-_, _≤_}
 use native.Mathlib.Omega.{arith}
@@ -16,7 +16,7 @@ use Rattle.trim.specs.Span.{part}
 use Rattle.text_lines.specs.Views.{StepAt}
 use Rattle.text_tables.specs.Reads.{readFrom}
 use Rattle.format.specs.Calls.{refusalOf}
-use Rattle.text_tables.specs.Debug.{Groups, labelView}
+use Rattle.text_tables.specs.Debug.{labelView}
 use Rattle.text_tables.specs.Labels.{labelColumns, labelIn, setLabel, LabelIs, NextLabel}
 use Rattle.text_tables.specs.declared.LabelRow.the-variants as ix
 use Rattle.text_tables.specs.declared.LabelStep.the-variants as is

@@ -98,9 +98,6 @@ module _ {C R : Type 0} (parse : List ℕ → Option R) (v : View C) (t : List �
     pub code-on : (k : ℕ) → refusalOf (need k (readFrom parse v n)) ≡ refusalOf (need k (readFrom parse v at))
     code-on k = sym (ap (λ (o : Option (List R)). refusalOf (need k o)) (l .same) ∙ more-code k r (readFrom parse v n))
 
-    pub some-on : isSome (readFrom parse v at) ≡ true → isSome (readFrom parse v n) ≡ true
-    some-on e = more-some r (readFrom parse v n) (sym (ap isSome (l .same)) ∙ e)
-
 -- a table that stands in a view: its number, from the lines left of it
 module _ {S R C : Type 0} (one : S → List ℕ → Outcome S) (parse : List ℕ → Option R) (set : S → R → S) (k : ℕ)
     (splits : (s : S) (a : List ℕ) → one s a ≡ (need k (parse a) >>= λ r. given (set s r))) (columns : List (List ℕ)) (v : View C) (t : List ℕ) (s : S)

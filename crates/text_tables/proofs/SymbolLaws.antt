@@ -18,9 +18,8 @@ use Rattle.text_lines.specs.Groups.{partsFrom, groupView, RowAt}
 use Rattle.text_tables.specs.Symbols.{symbolIn, setSymbol, symbolsFrom, symOf, symbolColumns, SymIs, NextSymbol}
 use Rattle.text_tables.specs.declared.SymbolRow.the-variants as sy
 use Rattle.text_tables.specs.declared.SymbolStep.the-variants as ss
-use Rattle.text_tables.specs.Reads.{readFrom}
 use Rattle.format.specs.Calls.{refusalOf}
-use Rattle.text_tables.proofs.ReadLaws.{table-any, at-none, at-header, at-rows, read-on}
+use Rattle.text_tables.proofs.ReadLaws.{at-none, at-header, at-rows, read-on}
 use Rattle.text_lines.proofs.LineLaws.{length-part, part-inside}
 
 -- .SYMBOL
@@ -55,10 +54,6 @@ module _ (t : List ℕ) (at : ℕ) where
         → refusalOf (need 26 (symbolsFrom t n)) ≡ refusalOf (parseSymbolGroup emptyObject rows)
     unfolding parseSymbolGroup
     header-yes h = at-rows parseSymbolRow symbolIn setSymbol 26 symbol-row symbolColumns (groupView t) t emptyObject at a e n l h
-
-pub symbol-any : (g h : ObjectFile) (ls : List (List ℕ)) → refusalOf (parseSymbolGroup g ls) ≡ refusalOf (parseSymbolGroup h ls)
-unfolding parseSymbolGroup
-symbol-any g h ls = table-any parseSymbolRow symbolIn setSymbol 26 symbol-row symbolColumns g h ls
 
 -- what a row says
 module _ (l : List ℕ) where

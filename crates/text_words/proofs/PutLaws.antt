@@ -1,25 +1,23 @@
 -- Parts written one after the other, and rows handed out a window at a time. Assumes nothing.
 use mathlib.Core.Path.{_≡_, refl, sym, ap, ap₂, _∙_, subst}
-use mathlib.Core.Bool.{Bool, true, false}
+use mathlib.Core.Bool.{true}
 use mathlib.Core.List.{List, [], _∷_, _++_, map, flatMap, append-assoc, append-nil}
-use Prim.Native.Nat.{ℕ, zero, suc, _+_, _-_, _≤_, _<_}
+use Prim.Native.Nat.{ℕ, suc, _+_, _-_, _≤_, _<_}
 use native.Mathlib.Omega.{arith}
 use native.Mathlib.Numerals.{add-one}
 use lib.ListN.{length, take, drop, getD, length-append, length-drop, length-take, length-map, take-append-drop, drop-of-length-le}
-use lib.Seq.{getD-take, drop-cons, drop-append-add, take-all, length-take-le, drop-drop}
+use lib.Seq.{getD-take, drop-cons, drop-append-add, take-all, length-take-le}
 use lib.Dec.{leb}
 use borrow.Author.Tests.{leb-true, leb-false}
 use borrow.Rule.Slice.PartAt.{part-to-end}
 use borrow.Rule.Slice.PartMut.{midOf, postOf, putMid}
-use Rattle.format.specs.Basics.{if_then_else_}
 use Rattle.format.specs.Sorted.{upsert, upsertAll, sorted}
 use Rattle.format.specs.Records.{Record}
 use Rattle.format.specs.Words.{recordWords}
 use Rattle.format.proofs.ListLaws.{by-test, map-append}
-use Rattle.writing.specs.Written.{into, filled, written, Put}
+use Rattle.writing.specs.Written.{filled, written, Put}
 use Rattle.writing.proofs.WriteLaws.{length-into}
-use Rattle.writing.proofs.Parts.{State, Emits, rest, after, begin, emit, emitted, within}
-use Rattle.gather.specs.Window.{HoldsWindow}
+use Rattle.writing.proofs.Parts.{State, Emits, rest, after, begin, emit, emitted}
 use Rattle.gather.proofs.OrderLaws.{held-front}
 use Rattle.text_rows.specs.Rows.{rowKey, rowsFrom, rowsOf, rowAt}
 use Rattle.text_rows.specs.Steps.{FoundAt, BeginsAt}

@@ -1,21 +1,20 @@
 -- The room that rows leave, counted down. Assumes nothing.
 use mathlib.Core.Path.{_≡_, refl, sym, ap, _∙_, subst}
-use mathlib.Core.Bool.{Bool, true, false}
 use mathlib.Core.List.{List, [], _∷_, _++_, map, flatMap}
 use mathlib.Core.Option.{Option, none, some}
 use Prim.Native.Nat.{ℕ, suc, _+_, _-_, _/_, _≤_, _<_}
 use native.Mathlib.Omega.{arith}
-use lib.ListN.{length, take, drop, getD, length-append}
+use lib.ListN.{length, take, length-append}
 use lib.Dec.{leb}
 use borrow.Author.Tests.{le-leb, lt-leb, leb-true, leb-false, eq-eqb, ne-eqb}
 use lib.Dec.{eqb}
-use Rattle.format.specs.Basics.{andThen, if_then_else_}
-use Rattle.format.specs.Records.{Record, block, label, relocation}
-use Rattle.format.specs.Words.{memoryWord, recordWords}
+use Rattle.format.specs.Basics.{andThen}
+use Rattle.format.specs.Records.{Record}
+use Rattle.format.specs.Words.{recordWords}
 use Rattle.format.proofs.ListLaws.{by-test}
-use Rattle.trim.specs.Span.{part, Spans}
+use Rattle.trim.specs.Span.{Spans}
 use Rattle.text_lines.proofs.LineLaws.{length-part}
-use Rattle.text_rows.specs.Rows.{rowIn, rowAt, symbolRow, linkerRow, labelRow, firstLine}
+use Rattle.text_rows.specs.Rows.{rowIn, rowAt, symbolRow, linkerRow, labelRow}
 use Rattle.text_gather.specs.Keys.{lineAt, nameAt, addressAt}
 use Rattle.text_gather.specs.Order.{HandsOut}
 use Rattle.text_words.specs.Written.{wordsAt, EntriesOf}

@@ -1,26 +1,25 @@
 -- The words of a row, part by part. Assumes nothing.
 use mathlib.Core.Path.{_≡_, refl, sym, ap, _∙_, subst}
 use mathlib.Core.Bool.{Bool, true, false, not, true≢false}
-use mathlib.Core.List.{List, [], _∷_, _++_, map}
+use mathlib.Core.List.{List, [], _∷_, map}
 use mathlib.Core.Option.{Option, none, some}
-use Prim.Native.Nat.{ℕ, zero, suc, _+_, _-_, _*_, _/_, _^_, _≤_, _<_}
+use Prim.Native.Nat.{ℕ, zero, suc, _+_, _-_, _/_, _≤_, _<_}
 use native.Mathlib.Omega.{arith}
-use lib.ListN.{length, drop, set, length-append, length-drop, length-map}
+use lib.ListN.{length, set, length-append, length-drop, length-map}
 use lib.Dec.{eqb}
 use borrow.Author.Tests.{eq-eqb, ne-eqb}
-use Rattle.format.specs.Basics.{andThen, isSome, if_then_else_}
+use Rattle.format.specs.Basics.{andThen, isSome}
 use Rattle.format.specs.TextReader.{parseDecimal, maybeHex2u16}
 use Rattle.format.specs.Digits.{digitsOf}
-use Rattle.format.specs.Records.{Record, block, label, relocation}
+use Rattle.format.specs.Records.{label, relocation}
 use Rattle.format.specs.ObjectFile.{Label, Relocation}
-use Rattle.format.specs.Words.{word, flagBit, memoryWord, numberWords, textWords, recordWords}
+use Rattle.format.specs.Words.{word, memoryWord, numberWords, textWords, recordWords}
 use Rattle.trim.specs.Span.{part}
 use Rattle.writing.proofs.TextLaws.{length-words}
 use borrow.Rule.Slice.PartAt.{part-to-end}
 use Rattle.writing.proofs.Parts.{State, Emits, rest, begin, emit-one, room-one, has-room}
 use Rattle.text_lines.specs.Groups.{partsFrom, RowAt}
 use Rattle.text_lines.proofs.RowLaws.{rows-on}
-use Rattle.text_lines.proofs.TestLaws.{by-test}
 use Rattle.text_blocks.specs.Blocks.{wordsIn}
 use Rattle.text_rows.specs.Rows.{orZero, orNone, firstLine, cellOf, countIn, blockRow, symbolRow, linkerRow, labelRow, rowIn, rowAt}
 use Rattle.text_gather.specs.Keys.{lineAt, addressAt, nameAt}

@@ -1,13 +1,13 @@
 -- The words of a text file's rows, written one after the other. Assumes nothing.
 use mathlib.Core.Path.{_≡_}
 use mathlib.Core.Bool.{Bool, true, not}
-use mathlib.Core.List.{List, [], _∷_, _++_, map}
+use mathlib.Core.List.{List, [], _∷_, _++_}
 use mathlib.Core.Option.{Option, none, some}
-use Prim.Native.Nat.{ℕ, _+_, _≤_}
-use lib.ListN.{length, take, drop}
+use Prim.Native.Nat.{ℕ, _+_}
+use lib.ListN.{take, drop}
 use lib.Dec.{eqb}
 use Rattle.format.specs.Basics.{isSome}
-use Rattle.format.specs.TextReader.{parseDecimal, maybeHex2u16}
+use Rattle.format.specs.TextReader.{parseDecimal}
 use Rattle.format.specs.Words.{memoryWord, recordWords}
 use Rattle.writing.specs.Written.{filled, written}
 use Rattle.text_lines.specs.Groups.{partsFrom}

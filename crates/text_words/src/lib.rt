@@ -27,7 +27,7 @@ ghost use Prim.Native.Nat.{_+_, _*_, _^_, _≤_, _<_};
 ghost use lib.ListN.{length, take};
 ghost use Rattle.format.specs.Basics.{isSome};
 ghost use Rattle.format.specs.TextReader.{maybeHex2u16};
-ghost use Rattle.format.specs.Records.{block, label, relocation};
+ghost use Rattle.format.specs.Records.{label, relocation};
 ghost use Rattle.format.specs.Words.{word, flagBit, memoryWord, recordWords};
 ghost use Rattle.writing.specs.Written.{Put};
 ghost use Rattle.text_lines.specs.Groups.{partsFrom};

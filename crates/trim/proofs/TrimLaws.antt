@@ -1,5 +1,5 @@
 -- Trimming at places: over White_Space characters from the start, and back over them from the end. Assumes nothing.
-use mathlib.Core.Path.{_≡_, refl, sym, ap, _∙_, subst}
+use mathlib.Core.Path.{_≡_, refl, sym, ap, _∙_}
 use mathlib.Core.Bool.{Bool, true, false, true≢false, _&&_}
 use mathlib.Core.Logic.{_⊎_, inl, inr}
 use mathlib.Core.List.{List, [], _∷_}
@@ -10,7 +10,7 @@ use native.Mathlib.Numerals.{add-one}
 use lib.ListN.{length, take, drop, getD, length-drop}
 use lib.Seq.{drop-drop, getD-drop, drop-length, drop-nil}
 use lib.Dec.{leb, ltb, eqb}
-use borrow.Author.Tests.{le-leb, eq-eqb, ltb-true, ltb-false, leb-true, leb-false, eqb-true, eqb-false, lt-leb, lt-ltb, ne-eqb}
+use borrow.Author.Tests.{le-leb, eq-eqb, ltb-true, ltb-false, leb-true, leb-false, eqb-true, eqb-false, lt-ltb, ne-eqb}
 use Rattle.format.specs.Basics.{if_then_else_, isEmpty}
 use Rattle.format.specs.Utf8.{isBetween, isScalar, follow, shortestForm, charAt, isWhiteSpace, whiteSpaceLength, passOver, trimFrom}
 use Rattle.format.specs.Utf8.{trimStart, isBlank, trimEnd}

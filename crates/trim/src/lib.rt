@@ -1,6 +1,6 @@
 // White_Space and trimming, in place on the bytes of a text.
 ghost use mathlib.Core.Path.{_≡_};
-ghost use Prim.Native.Nat.{ℕ, _≤_};
+ghost use Prim.Native.Nat.{_≤_};
 ghost use lib.ListN.{length, take, drop};
 ghost use Rattle.format.specs.Utf8.{isWhiteSpace, trimStart, trimEnd, trim, isBlank};
 ghost use Rattle.trim.specs.Span.{part, clipped, trimStartSpan, trimEndSpan, trimSpan, Trimmed};

@@ -1,6 +1,6 @@
 -- The character at a place, by its first byte and those that follow. Assumes nothing.
-use mathlib.Core.Path.{_≡_, refl, sym, _∙_, ap}
-use mathlib.Core.Bool.{Bool, true, false, _&&_}
+use mathlib.Core.Path.{_≡_, sym, _∙_, ap}
+use mathlib.Core.Bool.{true, false}
 use mathlib.Core.Logic.{_⊎_, inl, inr}
 use mathlib.Core.List.{List, [], _∷_}
 use mathlib.Core.Option.{Option, none, some}
@@ -11,7 +11,6 @@ use lib.ListN.{length, drop, getD, drop-of-length-le, length-drop}
 use lib.Seq.{drop-cons}
 use lib.Dec.{leb, ltb}
 use borrow.Author.Tests.{lt-ltb, le-ltb, le-leb, lt-leb, leb-true, leb-false, ltb-true, ltb-false}
-use Rattle.format.specs.Basics.{if_then_else_}
 use Rattle.format.specs.Utf8.{isBetween, charAt, follow, shortestForm, isScalar, characters}
 use Rattle.format.proofs.ListLaws.{by-test}
 use Rattle.format.proofs.Utf8Laws.{char-reads}

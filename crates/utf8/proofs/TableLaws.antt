@@ -10,7 +10,7 @@ use native.Mathlib.Nat.{add-mul, mul-assoc, mul-le-mul-right}
 use native.Mathlib.Omega.{arith}
 use lib.ListN.{length, drop, length-drop}
 use lib.Dec.{leb, ltb, eqb}
-use borrow.Author.Tests.{lt-ltb, le-ltb, le-leb, lt-leb, eq-eqb, ne-eqb, ltb-true, ltb-false, leb-true, leb-false, eqb-true, eqb-false}
+use borrow.Author.Tests.{lt-ltb, le-ltb, le-leb, lt-leb, ne-eqb, ltb-true, ltb-false, leb-true, leb-false, eqb-true, eqb-false}
 use Rattle.format.specs.Basics.{if_then_else_, andThen, isSome}
 use Rattle.format.specs.Utf8.{isUtf8, scalarsFrom, charAt, follow, shortestForm, isScalar}
 use Rattle.format.proofs.ListLaws.{by-test}

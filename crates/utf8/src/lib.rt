@@ -1,7 +1,7 @@
 // UTF-8 in place on bytes: whether they are UTF-8, the character at a place, and how many there are.
 ghost use mathlib.Core.Path.{_≡_};
 ghost use mathlib.Core.Bool.{true};
-ghost use Prim.Native.Nat.{ℕ, _+_, _≤_, _<_};
+ghost use Prim.Native.Nat.{_+_, _≤_, _<_};
 ghost use lib.ListN.{length, drop};
 ghost use Rattle.format.specs.Utf8.{follow, shortestForm, charAt, isUtf8, characters};
 ghost use Rattle.utf8.specs.Chars.{charOf, bitsOf, begins};

@@ -7,7 +7,7 @@ use native.Mathlib.Omega.{arith}
 use borrow.Author.Tests.{lt-ltb}
 use Rattle.format.specs.Words.{isHead}
 use Rattle.utf8.specs.declared.Utf8.{Utf8}
-use Rattle.utf8.specs.Utf8.{step, firstByte, run, whole}
+use Rattle.utf8.specs.Utf8.{step, firstByte, whole}
 use Rattle.object.specs.Bodies.{goodText}
 use Rattle.object.proofs.TextLaws.{textOn, text-start, text-next, part-3, run-3}
 use Rattle.word_checks.specs.Walks.{AsciiWord}

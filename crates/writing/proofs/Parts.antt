@@ -1,7 +1,7 @@
 -- THE COMPOSITION LAW. Parts are written one after the other, each by a part writer that is lent the unused rest of the output,
 -- `at += put(&mut out[at..], ..);`. That all of it fits is shown once, by `begin`; `emit` takes a part off what is left, `emitted` ends it.
 -- For elements of any type. Assumes nothing.
-use mathlib.Core.Path.{_≡_, refl, sym, ap, ap₂, subst, _∙_}
+use mathlib.Core.Path.{_≡_, refl, sym, ap, ap₂, _∙_}
 use mathlib.Core.List.{List, [], _∷_, _++_, append-nil, append-assoc}
 use Prim.Native.Nat.{ℕ, _+_, _-_, _^_, _≤_, _<_}
 use native.Mathlib.Nat.{le-refl}

@@ -5,11 +5,11 @@ use Prim.Native.Nat.{ℕ, _+_, _≤_, _<_}
 use native.Mathlib.Nat.{zero-add}
 use native.Mathlib.Numerals.{add-one}
 use native.Mathlib.Omega.{arith}
-use lib.ListN.{length, take, drop, set, getD, length-append, length-drop}
-use lib.Seq.{sets, sets-eq, take-at, drop-at, drop-drop, length-take-le, take-suc, drop-cons, set-at, append-snoc}
+use lib.ListN.{length, take, drop, set, length-append, length-drop}
+use lib.Seq.{sets, sets-eq, take-at, drop-at, drop-drop, drop-cons, set-at, append-snoc}
 use borrow.Author.Tests.{le-leb, lt-leb}
 use Rattle.format.specs.Basics.{given}
-use Rattle.format.specs.Calls.{Filled, fill}
+use Rattle.format.specs.Calls.{fill}
 use Rattle.writing.specs.Written.{into, filled, written, Put}
 
 module _ {A : Type 0} (part room : List A) where

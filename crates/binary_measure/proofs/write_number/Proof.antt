@@ -1,8 +1,7 @@
 -- The check, then the measuring. Assumes nothing.
 use borrow.Author.Needs.{needs}
 use borrow.Author.Tests.{eq-eqb, ne-eqb}
-use mathlib.Core.Path.{refl, sym, ap, _∙_}
-use Prim.Native.Nat.{ℕ}
+use mathlib.Core.Path.{sym, _∙_}
 use denote.Ref.{now}
 use Rattle.format.specs.Calls.{checked}
 use Rattle.binary_measure.specs.Measured.{writeNumber}

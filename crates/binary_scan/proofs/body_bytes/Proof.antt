@@ -1,10 +1,5 @@
-use mathlib.Core.Path.{_≡_, refl, sym, ap, subst, _∙_}
-use mathlib.Core.Bool.{Bool, true, false}
-use mathlib.Core.List.{List, [], _∷_, _++_}
-use mathlib.Core.Option.{Option, none, some}
-use Prim.Native.Nat.{ℕ, zero, suc, _+_, _-_, _*_, _/_, _≤_, _<_, min}
-use native.Mathlib.Omega.{arith}
-use lib.ListN.{length, take, drop, getD, set}
+use mathlib.Core.Path.{refl}
+use Prim.Native.Nat.{_-_, _/_}
 use denote.Ref.{now}
 use borrow.Author.Needs.{needs}
 use borrow.Author.Tests.{eq-eqb, ne-eqb}
@@ -12,10 +7,6 @@ use Rattle.binary_scan.specs.Scan.{bodyBytes}
 use Rattle.binary_scan.proofs.ScanLaws.{number-drop}
 use Rattle.binary_scan.proofs.body_bytes.Statement.{statement}
 use Rattle.binary_scan.proofs.body_bytes.Tie as tie
-use Rattle.binary_scan.proofs.body_bytes.Reads as reads
-use Rattle.binary_scan.proofs.body_bytes.Lts as lts
-use Rattle.bytes_at.proofs.u16_at.Reads as u16-at-reads
-use Rattle.bytes_at.proofs.u64_at.Reads as u64-at-reads
 
 -- src/lib.rt:37:20
 u16-at-requires : tie.Need-u16-at-requires

@@ -1,20 +1,10 @@
-use mathlib.Core.Path.{_≡_, refl, sym, ap, subst, _∙_}
-use mathlib.Core.Bool.{Bool, true, false}
-use mathlib.Core.List.{List, [], _∷_, _++_}
-use mathlib.Core.Option.{Option, none, some}
-use Prim.Native.Nat.{ℕ, zero, suc, _+_, _-_, _*_, _/_, _≤_, _<_, min}
-use native.Mathlib.Omega.{arith}
-use lib.ListN.{length, take, drop, getD, set}
-use denote.Ref.{now}
+use mathlib.Core.Path.{refl, sym, _∙_}
+use Prim.Native.Nat.{_-_, _/_}
 use borrow.Author.Needs.{needs}
 use borrow.Author.Tests.{eq-eqb, ne-eqb}
 use Rattle.binary_scan.specs.Scan.{bodyNumber}
 use Rattle.binary_scan.proofs.body_number.Statement.{statement}
 use Rattle.binary_scan.proofs.body_number.Tie as tie
-use Rattle.binary_scan.proofs.body_number.Reads as reads
-use Rattle.binary_scan.proofs.body_number.Lts as lts
-use Rattle.binary_scan.proofs.rises.Reads as rises-reads
-use Rattle.utf8.proofs.is_utf8.Reads as is-utf8-reads
 
 -- src/lib.rt:82:9
 returns : tie.Need-returns

@@ -1,18 +1,9 @@
-use mathlib.Core.Path.{_≡_, refl, sym, ap, subst, _∙_}
-use mathlib.Core.Bool.{Bool, true, false}
-use mathlib.Core.List.{List, [], _∷_, _++_}
-use mathlib.Core.Option.{Option, none, some}
-use Prim.Native.Nat.{ℕ, zero, suc, _+_, _-_, _*_, _/_, _≤_, _<_, min}
-use native.Mathlib.Omega.{arith}
-use lib.ListN.{length, take, drop, getD, set}
-use denote.Ref.{now}
-use borrow.Author.Needs.{needs}
+use mathlib.Core.Path.{refl}
+use Prim.Native.Nat.{_-_, _/_}
 use borrow.Author.Tests.{eq-eqb, ne-eqb}
 use Rattle.binary_scan.specs.Scan.{fixedBytes}
 use Rattle.binary_scan.proofs.fixed_bytes.Statement.{statement}
 use Rattle.binary_scan.proofs.fixed_bytes.Tie as tie
-use Rattle.binary_scan.proofs.fixed_bytes.Reads as reads
-use Rattle.binary_scan.proofs.fixed_bytes.Lts as lts
 
 -- src/lib.rt:21:9
 returns : tie.Need-returns

@@ -1,10 +1,7 @@
-use mathlib.Core.Path.{_≡_, refl, sym, ap, subst, _∙_}
-use mathlib.Core.Bool.{Bool, true, false}
-use mathlib.Core.List.{List, [], _∷_, _++_}
-use mathlib.Core.Option.{Option, none, some}
-use Prim.Native.Nat.{ℕ, zero, suc, _+_, _-_, _*_, _/_, _≤_, _<_, min}
+use mathlib.Core.Path.{_≡_, refl, sym, ap, _∙_}
+use Prim.Native.Nat.{ℕ, _-_, _/_, _≤_}
 use native.Mathlib.Omega.{arith}
-use lib.ListN.{length, take, drop, getD, set}
+use lib.ListN.{length, drop}
 use denote.Ref.{now}
 use borrow.Author.Needs.{needs}
 use native.Mathlib.Nat.{add-zero}
@@ -13,9 +10,6 @@ use Rattle.format.specs.Binary.{addressesFrom, numberAt}
 use Rattle.binary_scan.proofs.ScanLaws.{rise-no, rise-yes, rise-end}
 use Rattle.binary_scan.proofs.rises.Statement.{statement}
 use Rattle.binary_scan.proofs.rises.Tie as tie
-use Rattle.binary_scan.proofs.rises.Reads as reads
-use Rattle.binary_scan.proofs.rises.Lts as lts
-use Rattle.bytes_at.proofs.u16_at.Reads as u16-at-reads
 
 abbrev Inv-loop : tie.InvT-loop
 Inv-loop s i₀ n i = (i ≤ length s) × (strictlyRise (addressesFrom (drop i s)) ≡ strictlyRise (addressesFrom s))

@@ -1,21 +1,14 @@
-use mathlib.Core.Path.{_≡_, refl, sym, ap, subst, _∙_}
-use mathlib.Core.Bool.{Bool, true, false}
-use mathlib.Core.List.{List, [], _∷_, _++_}
-use mathlib.Core.Option.{Option, none, some}
-use Prim.Native.Nat.{ℕ, zero, suc, _+_, _-_, _*_, _/_, _≤_, _<_, min}
+use mathlib.Core.Path.{_≡_, refl, sym, ap, _∙_}
+use Prim.Native.Nat.{_+_, _-_, _/_, _≤_, _<_}
 use native.Mathlib.Omega.{arith}
-use lib.ListN.{length, take, drop, getD, set}
+use lib.ListN.{length, getD}
 use denote.Ref.{now}
 use borrow.Author.Needs.{needs}
-use Rattle.cursor.specs.Taken.{takenBytes, noBytes, someBytes}
-use Rattle.binary_scan.specs.Scan.{takeRecord, bodyNumber}
+use Rattle.cursor.specs.Taken.{takenBytes, someBytes}
+use Rattle.binary_scan.specs.Scan.{takeRecord}
 use Rattle.binary_scan.proofs.ScanLaws.{scanFrom, scan-unknown, scan-short, scan-inside, scan-bad, scan-good, scan-end}
 use Rattle.binary_scan.proofs.scan.Statement.{statement}
 use Rattle.binary_scan.proofs.scan.Tie as tie
-use Rattle.binary_scan.proofs.scan.Reads as reads
-use Rattle.binary_scan.proofs.scan.Lts as lts
-use Rattle.binary_scan.proofs.body_number.Reads as body-number-reads
-use Rattle.binary_scan.proofs.take_record.Reads as take-record-reads
 
 abbrev Inv-loop : tie.InvT-loop
 Inv-loop s at₀ at = scanFrom s at ≡ scanFrom s 7

@@ -1,22 +1,12 @@
-use mathlib.Core.Path.{_≡_, refl, sym, ap, subst, _∙_}
-use mathlib.Core.Bool.{Bool, true, false}
-use mathlib.Core.List.{List, [], _∷_, _++_}
-use mathlib.Core.Option.{Option, none, some}
-use Prim.Native.Nat.{ℕ, zero, suc, _+_, _-_, _*_, _/_, _≤_, _<_, min}
-use native.Mathlib.Omega.{arith}
-use lib.ListN.{length, take, drop, getD, set}
+use mathlib.Core.Path.{sym, ap, _∙_}
+use Prim.Native.Nat.{_-_, _/_}
 use denote.Ref.{now}
 use borrow.Author.Needs.{needs}
-use Rattle.cursor.specs.Taken.{takenBytes, takeBytes, someBytes, noBytes}
+use Rattle.cursor.specs.Taken.{takenBytes}
 use Rattle.cursor.proofs.TakenLaws.{bytes-taken, bytes-not-there}
 use Rattle.binary_scan.proofs.ScanLaws.{take-short, take-whole}
 use Rattle.binary_scan.proofs.take_record.Statement.{statement}
 use Rattle.binary_scan.proofs.take_record.Tie as tie
-use Rattle.binary_scan.proofs.take_record.Reads as reads
-use Rattle.binary_scan.proofs.take_record.Lts as lts
-use Rattle.binary_scan.proofs.body_bytes.Reads as body-bytes-reads
-use Rattle.binary_scan.proofs.fixed_bytes.Reads as fixed-bytes-reads
-use Rattle.cursor.proofs.Cursor.take_bytes.Reads as take-bytes-reads
 
 -- src/lib.rt:56:58
 fixed-bytes-requires : tie.Need-fixed-bytes-requires

@@ -1,10 +1,6 @@
-use mathlib.Core.Path.{_≡_, refl, sym, ap, subst, _∙_}
-use mathlib.Core.Bool.{Bool, true, false}
-use mathlib.Core.List.{List, [], _∷_, _++_}
-use mathlib.Core.Option.{Option, none, some}
-use Prim.Native.Nat.{ℕ, zero, suc, _+_, _-_, _*_, _/_, _≤_, _<_, min}
-use native.Mathlib.Omega.{arith}
-use lib.ListN.{length, take, drop, getD, set}
+use mathlib.Core.Path.{_≡_, refl, sym, _∙_}
+use Prim.Native.Nat.{_+_, _-_, _*_, _/_}
+use lib.ListN.{length}
 use denote.Ref.{now}
 use borrow.Author.Needs.{needs}
 use borrow.Author.Tests.{eq-eqb, ne-eqb}
@@ -13,11 +9,6 @@ use Rattle.binary_words.specs.RecordAt.{bodyLength}
 use Rattle.binary_words.proofs.LengthLaws.{part-length}
 use Rattle.binary_words.proofs.body_length.Statement.{statement}
 use Rattle.binary_words.proofs.body_length.Tie as tie
-use Rattle.binary_words.proofs.body_length.Reads as reads
-use Rattle.binary_words.proofs.body_length.Lts as lts
-use Rattle.bytes_at.proofs.part_at.Reads as part-at-reads
-use Rattle.bytes_at.proofs.u16_at.Reads as u16-at-reads
-use Rattle.bytes_at.proofs.u64_at.Reads as u64-at-reads
 
 -- src/lib.rt:17:38
 u16-at-requires : tie.Need-u16-at-requires

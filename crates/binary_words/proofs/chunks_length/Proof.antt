@@ -1,10 +1,7 @@
-use mathlib.Core.Path.{_≡_, refl, sym, ap, subst, _∙_}
-use mathlib.Core.Bool.{Bool, true, false}
-use mathlib.Core.List.{List, [], _∷_, _++_}
-use mathlib.Core.Option.{Option, none, some}
-use Prim.Native.Nat.{ℕ, zero, suc, _+_, _-_, _*_, _/_, _≤_, _<_, min}
+use mathlib.Core.Path.{_≡_, ap, _∙_}
+use Prim.Native.Nat.{ℕ, _+_, _-_, _/_}
 use native.Mathlib.Omega.{arith}
-use lib.ListN.{length, take, drop, getD, set}
+use lib.ListN.{length}
 use denote.Ref.{now}
 use borrow.Author.Needs.{needs}
 use Rattle.format.specs.Binary.{bytesAt}
@@ -15,11 +12,6 @@ use Rattle.binary_words.proofs.LengthLaws.{part-length}
 use Rattle.binary_words.proofs.SourceLaws.{chunksLength, chunks-cons, chunks-none, all-chunks-few}
 use Rattle.binary_words.proofs.chunks_length.Statement.{statement}
 use Rattle.binary_words.proofs.chunks_length.Tie as tie
-use Rattle.binary_words.proofs.chunks_length.Reads as reads
-use Rattle.binary_words.proofs.chunks_length.Lts as lts
-use Rattle.bytes_at.proofs.part_at.Reads as part-at-reads
-use Rattle.bytes_at.proofs.u64_at.Reads as u64-at-reads
-use Rattle.gather.proofs.next_place.Reads as next-place-reads
 
 abbrev Inv-loop : tie.InvT-loop
 Inv-loop s sum₀ at₀ sum at = sum + chunksLength s (placesFrom 3 s at) ≡ chunksLength s (placesOf 3 s)

@@ -1,19 +1,9 @@
-use mathlib.Core.Path.{_≡_, refl, sym, ap, subst, _∙_}
-use mathlib.Core.Bool.{Bool, true, false}
-use mathlib.Core.List.{List, [], _∷_, _++_}
-use mathlib.Core.Option.{Option, none, some}
-use Prim.Native.Nat.{ℕ, zero, suc, _+_, _-_, _*_, _/_, _≤_, _<_, min}
-use native.Mathlib.Omega.{arith}
-use lib.ListN.{length, take, drop, getD, set}
+use Prim.Native.Nat.{_-_, _/_}
 use denote.Ref.{now}
 use borrow.Author.Needs.{needs}
 use Rattle.binary_words.proofs.ApartLaws.{ends-late, ends-by}
 use Rattle.binary_words.proofs.ends_before.Statement.{statement}
 use Rattle.binary_words.proofs.ends_before.Tie as tie
-use Rattle.binary_words.proofs.ends_before.Reads as reads
-use Rattle.binary_words.proofs.ends_before.Lts as lts
-use Rattle.binary_words.proofs.body_length.Reads as body-length-reads
-use Rattle.bytes_at.proofs.u64_at.Reads as u64-at-reads
 
 -- src/lib.rt:100:14
 body-length-requires : tie.Need-body-length-requires

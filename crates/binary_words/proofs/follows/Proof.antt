@@ -1,18 +1,10 @@
-use mathlib.Core.Path.{_≡_, refl, sym, ap, subst, _∙_}
-use mathlib.Core.Bool.{Bool, true, false}
-use mathlib.Core.List.{List, [], _∷_, _++_}
-use mathlib.Core.Option.{Option, none, some}
-use Prim.Native.Nat.{ℕ, zero, suc, _+_, _-_, _*_, _/_, _≤_, _<_, min}
-use native.Mathlib.Omega.{arith}
-use lib.ListN.{length, take, drop, getD, set}
+use mathlib.Core.Path.{sym, ap, _∙_}
+use Prim.Native.Nat.{_-_, _/_}
 use denote.Ref.{now}
 use borrow.Author.Needs.{needs}
 use Rattle.binary_words.specs.Apart.{placeOf, followsAt}
 use Rattle.binary_words.proofs.follows.Statement.{statement}
 use Rattle.binary_words.proofs.follows.Tie as tie
-use Rattle.binary_words.proofs.follows.Reads as reads
-use Rattle.binary_words.proofs.follows.Lts as lts
-use Rattle.binary_words.proofs.ends_before.Reads as ends-before-reads
 
 -- src/lib.rt:114:19
 enum-known-last : tie.Need-enum-known-last

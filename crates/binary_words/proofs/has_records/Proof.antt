@@ -1,10 +1,6 @@
-use mathlib.Core.Path.{_≡_, refl, sym, ap, subst, _∙_}
-use mathlib.Core.Bool.{Bool, true, false}
-use mathlib.Core.List.{List, [], _∷_, _++_}
-use mathlib.Core.Option.{Option, none, some}
-use Prim.Native.Nat.{ℕ, zero, suc, _+_, _-_, _*_, _/_, _≤_, _<_, min}
-use native.Mathlib.Omega.{arith}
-use lib.ListN.{length, take, drop, getD, set}
+use mathlib.Core.Path.{sym, ap, _∙_}
+use mathlib.Core.List.{List}
+use Prim.Native.Nat.{ℕ, _-_, _/_}
 use denote.Ref.{now}
 use borrow.Author.Needs.{needs}
 use mathlib.Core.Bool.{not}
@@ -13,9 +9,6 @@ use Rattle.gather.specs.Places.{placesOf}
 use Rattle.gather.specs.Order.{foundFrom}
 use Rattle.binary_words.proofs.has_records.Statement.{statement}
 use Rattle.binary_words.proofs.has_records.Tie as tie
-use Rattle.binary_words.proofs.has_records.Reads as reads
-use Rattle.binary_words.proofs.has_records.Lts as lts
-use Rattle.gather.proofs.next_place.Reads as next-place-reads
 
 -- src/lib.rt:178:9
 next-place-requires : tie.Need-next-place-requires

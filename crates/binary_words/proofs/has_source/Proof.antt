@@ -1,18 +1,10 @@
-use mathlib.Core.Path.{_≡_, refl, sym, ap, subst, _∙_}
-use mathlib.Core.Bool.{Bool, true, false}
-use mathlib.Core.List.{List, [], _∷_, _++_}
-use mathlib.Core.Option.{Option, none, some}
-use Prim.Native.Nat.{ℕ, zero, suc, _+_, _-_, _*_, _/_, _≤_, _<_, min}
-use native.Mathlib.Omega.{arith}
-use lib.ListN.{length, take, drop, getD, set}
+use mathlib.Core.Path.{sym, _∙_}
+use Prim.Native.Nat.{_-_, _/_}
 use denote.Ref.{now}
 use borrow.Author.Needs.{needs}
 use Rattle.binary_words.proofs.SourceLaws.{source-yes, source-else}
 use Rattle.binary_words.proofs.has_source.Statement.{statement}
 use Rattle.binary_words.proofs.has_source.Tie as tie
-use Rattle.binary_words.proofs.has_source.Reads as reads
-use Rattle.binary_words.proofs.has_source.Lts as lts
-use Rattle.binary_words.proofs.has_records.Reads as has-records-reads
 
 -- src/lib.rt:189:8
 has-records-requires : tie.Need-has-records-requires

@@ -1,19 +1,11 @@
-use mathlib.Core.Path.{_≡_, refl, sym, ap, subst, _∙_}
-use mathlib.Core.Bool.{Bool, true, false}
-use mathlib.Core.List.{List, [], _∷_, _++_}
-use mathlib.Core.Option.{Option, none, some}
-use Prim.Native.Nat.{ℕ, zero, suc, _+_, _-_, _*_, _/_, _≤_, _<_, min}
+use mathlib.Core.Path.{sym, _∙_}
+use Prim.Native.Nat.{_-_, _/_}
 use native.Mathlib.Omega.{arith}
-use lib.ListN.{length, take, drop, getD, set}
 use denote.Ref.{now}
 use borrow.Author.Needs.{needs}
 use Rattle.binary_words.proofs.SourceLaws.{source-long, source-none}
 use Rattle.binary_words.proofs.source_length.Statement.{statement}
 use Rattle.binary_words.proofs.source_length.Tie as tie
-use Rattle.binary_words.proofs.source_length.Reads as reads
-use Rattle.binary_words.proofs.source_length.Lts as lts
-use Rattle.binary_words.proofs.chunks_length.Reads as chunks-length-reads
-use Rattle.binary_words.proofs.has_source.Reads as has-source-reads
 
 -- src/lib.rt:215:8
 has-source-requires : tie.Need-has-source-requires

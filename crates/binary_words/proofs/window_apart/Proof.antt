@@ -1,10 +1,7 @@
-use mathlib.Core.Path.{_≡_, refl, sym, ap, subst, _∙_}
-use mathlib.Core.Bool.{Bool, true, false}
-use mathlib.Core.List.{List, [], _∷_, _++_}
-use mathlib.Core.Option.{Option, none, some}
-use Prim.Native.Nat.{ℕ, zero, suc, _+_, _-_, _*_, _/_, _≤_, _<_, min}
+use mathlib.Core.Path.{_≡_, refl, sym, _∙_}
+use Prim.Native.Nat.{_-_, _/_, _≤_, _<_}
 use native.Mathlib.Omega.{arith}
-use lib.ListN.{length, take, drop, getD, set}
+use lib.ListN.{length, take, drop}
 use denote.Ref.{now}
 use borrow.Author.Needs.{needs}
 use borrow.Author.Tests.{not-true, not-false}
@@ -12,9 +9,6 @@ use Rattle.binary_words.specs.Apart.{placeOf, apartFrom}
 use Rattle.binary_words.proofs.ApartLaws.{apart-no, apart-yes, apart-end}
 use Rattle.binary_words.proofs.window_apart.Statement.{statement}
 use Rattle.binary_words.proofs.window_apart.Tie as tie
-use Rattle.binary_words.proofs.window_apart.Reads as reads
-use Rattle.binary_words.proofs.window_apart.Lts as lts
-use Rattle.binary_words.proofs.follows.Reads as follows-reads
 
 abbrev Inv-loop : tie.InvT-loop
 Inv-loop s win n last₀ i₀ last i = (i ≤ n) × (apartFrom s (placeOf last) (drop i (take n win)) ≡ apartFrom s (placeOf last₀) (take n win))

@@ -1,18 +1,12 @@
-use mathlib.Core.Path.{_≡_, refl, sym, ap, subst, _∙_}
-use mathlib.Core.Bool.{Bool, true, false}
-use mathlib.Core.List.{List, [], _∷_, _++_}
-use mathlib.Core.Option.{Option, none, some}
-use Prim.Native.Nat.{ℕ, zero, suc, _+_, _-_, _*_, _/_, _≤_, _<_, min}
+use mathlib.Core.Path.{_≡_}
+use Prim.Native.Nat.{_+_, _-_, _/_, _≤_, _<_}
 use native.Mathlib.Omega.{arith}
-use lib.ListN.{length, take, drop, getD, set}
+use lib.ListN.{length, take, drop}
 use denote.Ref.{now}
 use borrow.Author.Needs.{needs}
 use Rattle.binary_words.proofs.LengthLaws.{total, window-step, window-end}
 use Rattle.binary_words.proofs.window_length.Statement.{statement}
 use Rattle.binary_words.proofs.window_length.Tie as tie
-use Rattle.binary_words.proofs.window_length.Reads as reads
-use Rattle.binary_words.proofs.window_length.Lts as lts
-use Rattle.binary_words.proofs.words_at.Reads as words-at-reads
 
 abbrev Inv-loop : tie.InvT-loop
 Inv-loop s kind win n sum₀ i₀ sum i = (i ≤ n) × (sum + total kind s (drop i (take n win)) ≡ total kind s (take n win))

@@ -1,10 +1,8 @@
-use mathlib.Core.Path.{_≡_, refl, sym, ap, subst, _∙_}
-use mathlib.Core.Bool.{Bool, true, false}
-use mathlib.Core.List.{List, [], _∷_, _++_}
-use mathlib.Core.Option.{Option, none, some}
-use Prim.Native.Nat.{ℕ, zero, suc, _+_, _-_, _*_, _/_, _≤_, _<_, min}
+use mathlib.Core.Path.{_≡_, refl, sym, ap, _∙_}
+use mathlib.Core.Option.{none}
+use Prim.Native.Nat.{_-_, _/_, _<_}
 use native.Mathlib.Omega.{arith}
-use lib.ListN.{length, take, drop, getD, set}
+use lib.ListN.{length}
 use denote.Ref.{now}
 use borrow.Author.Needs.{needs}
 use borrow.Author.Tests.{not-true, not-false}
@@ -16,11 +14,6 @@ use Rattle.binary_words.proofs.LengthLaws.{handed-size, handed-long, ha
 use Rattle.binary_words.proofs.ApartLaws.{apart-object, window-no, window-yes, window-last}
 use Rattle.binary_words.proofs.windows_apart.Statement.{statement}
 use Rattle.binary_words.proofs.windows_apart.Tie as tie
-use Rattle.binary_words.proofs.windows_apart.Reads as reads
-use Rattle.binary_words.proofs.windows_apart.Lts as lts
-use Rattle.binary_words.proofs.window_apart.Reads as window-apart-reads
-use Rattle.sorting.proofs.Sorting.new.Reads as new-reads
-use Rattle.sorting.proofs.Sorting.next_window.Reads as next-window-reads
 
 abbrev Inv-loop : tie.InvT-loop
 Inv-loop s win₀ last₀ sorting₀ win last sorting = (length win ≡ length win₀) × (apartFrom s (placeOf last) (left s sorting) ≡ apart (objectAt s .lineBlocks))

@@ -1,10 +1,7 @@
-use mathlib.Core.Path.{_≡_, refl, sym, ap, subst, _∙_}
-use mathlib.Core.Bool.{Bool, true, false}
-use mathlib.Core.List.{List, [], _∷_, _++_}
-use mathlib.Core.Option.{Option, none, some}
-use Prim.Native.Nat.{ℕ, zero, suc, _+_, _-_, _*_, _/_, _≤_, _<_, min}
+use mathlib.Core.Path.{_≡_, refl, ap, _∙_}
+use Prim.Native.Nat.{_+_, _-_, _/_}
 use native.Mathlib.Omega.{arith}
-use lib.ListN.{length, take, drop, getD, set}
+use lib.ListN.{length}
 use denote.Ref.{now}
 use borrow.Author.Needs.{needs}
 use Rattle.sorting.specs.Left.{left}
@@ -12,11 +9,6 @@ use Rattle.binary_words.specs.RecordAt.{partWords}
 use Rattle.binary_words.proofs.LengthLaws.{total, part-few, handed-size, handed-long, handed-total, handed-last, handed-less}
 use Rattle.binary_words.proofs.windows_length.Statement.{statement}
 use Rattle.binary_words.proofs.windows_length.Tie as tie
-use Rattle.binary_words.proofs.windows_length.Reads as reads
-use Rattle.binary_words.proofs.windows_length.Lts as lts
-use Rattle.binary_words.proofs.window_length.Reads as window-length-reads
-use Rattle.sorting.proofs.Sorting.new.Reads as new-reads
-use Rattle.sorting.proofs.Sorting.next_window.Reads as next-window-reads
 
 abbrev Inv-loop : tie.InvT-loop
 Inv-loop s kind win₀ sum₀ sorting₀ win sum sorting = (length win ≡ length win₀) × (sum + total kind s (left s sorting) ≡ length (partWords kind s))

@@ -1,19 +1,13 @@
-use mathlib.Core.Path.{_≡_, refl, sym, ap, subst, _∙_}
-use mathlib.Core.Bool.{Bool, true, false}
-use mathlib.Core.List.{List, [], _∷_, _++_}
-use mathlib.Core.Option.{Option, none, some}
-use Prim.Native.Nat.{ℕ, zero, suc, _+_, _-_, _*_, _/_, _≤_, _<_, min}
+use mathlib.Core.Path.{_≡_, sym, ap, _∙_}
+use Prim.Native.Nat.{ℕ, _-_, _/_}
 use native.Mathlib.Omega.{arith}
-use lib.ListN.{length, take, drop, getD, set}
+use lib.ListN.{length}
 use denote.Ref.{now}
 use borrow.Author.Needs.{needs}
 use Rattle.binary_words.specs.RecordAt.{bodyLength, wordsAt}
 use Rattle.binary_words.proofs.LengthLaws.{length-0, length-1, length-2, length-4, length-other}
 use Rattle.binary_words.proofs.words_at.Statement.{statement}
 use Rattle.binary_words.proofs.words_at.Tie as tie
-use Rattle.binary_words.proofs.words_at.Reads as reads
-use Rattle.binary_words.proofs.words_at.Lts as lts
-use Rattle.binary_words.proofs.body_length.Reads as body-length-reads
 
 -- src/lib.rt:36:9
 body-length-requires : tie.Need-body-length-requires

@@ -2,13 +2,13 @@
 use borrow.Author.Needs.{needs}
 use native.Mathlib.Omega.{arith}
 use mathlib.Core.Path.{_≡_, refl, sym, ap}
-use mathlib.Core.List.{List, [], _++_, append-nil}
-use Prim.Native.Nat.{ℕ, _/_, _≤_}
+use mathlib.Core.List.{[], _++_, append-nil}
+use Prim.Native.Nat.{ℕ, _/_}
 use lib.ListN.{length}
 use denote.Ref.{now}
 use Rattle.format.specs.Digits.{digitsOf}
 use Rattle.writing.proofs.WriteLaws.{too-short}
-use Rattle.writing.proofs.Parts.{State, Emits, after, begun, emit, emitted, within, small, same}
+use Rattle.writing.proofs.Parts.{State, Emits, after, begun, emit, emitted, within, small}
 use Rattle.byte_numbers.proofs.put_u64_le.Statement.{statement}
 use Rattle.byte_numbers.proofs.put_u64_le.Tie as tie
 

@@ -1,19 +1,10 @@
-use mathlib.Core.Path.{_≡_, refl, sym, ap, subst, _∙_}
-use mathlib.Core.Bool.{Bool, true, false}
-use mathlib.Core.List.{List, [], _∷_, _++_}
-use mathlib.Core.Option.{Option, none, some}
-use Prim.Native.Nat.{ℕ, zero, suc, _+_, _-_, _*_, _/_, _≤_, _<_, min}
+use Prim.Native.Nat.{_+_, _-_, _/_}
 use native.Mathlib.Omega.{arith}
-use lib.ListN.{length, take, drop, getD, set}
 use denote.Ref.{now}
 use borrow.Author.Needs.{needs}
 use Rattle.bytes_at.proofs.PlaceLaws.{bytes-clipped}
 use Rattle.bytes_at.proofs.part_at.Statement.{statement}
 use Rattle.bytes_at.proofs.part_at.Tie as tie
-use Rattle.bytes_at.proofs.part_at.Reads as reads
-use Rattle.bytes_at.proofs.part_at.Lts as lts
-use Rattle.bytes_at.proofs.end_of.Reads as end-of-reads
-use Rattle.bytes_at.proofs.offset.Reads as offset-reads
 
 -- src/lib.rt:84:9
 offset-requires : tie.Need-offset-requires

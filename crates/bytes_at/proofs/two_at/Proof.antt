@@ -1,7 +1,6 @@
 -- Byte by byte. Assumes nothing.
 use borrow.Author.Needs.{needs}
 use native.Mathlib.Omega.{arith}
-use Prim.Native.Nat.{_+_}
 use denote.Ref.{now}
 use Rattle.bytes_at.proofs.PlaceLaws.{two-at}
 use Rattle.bytes_at.proofs.two_at.Statement.{statement}

@@ -1,7 +1,5 @@
 -- The form by the tests that led there. Assumes nothing.
 use borrow.Author.Needs.{needs}
-use native.Mathlib.Omega.{arith}
-use denote.Ref.{now}
 use Rattle.encode.proofs.ScalarLaws.{is-three-high, is-four, is-surrogate, is-beyond, put-none, put-same}
 use Rattle.encode.proofs.encode_scalar.Statement.{statement}
 use Rattle.encode.proofs.encode_scalar.Tie as tie

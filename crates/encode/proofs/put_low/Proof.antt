@@ -1,7 +1,5 @@
 -- The form by the tests that led there. Assumes nothing.
 use borrow.Author.Needs.{needs}
-use native.Mathlib.Omega.{arith}
-use denote.Ref.{now}
 use Rattle.encode.proofs.ScalarLaws.{is-one, is-two, is-three-low, put-same}
 use Rattle.encode.proofs.put_low.Statement.{statement}
 use Rattle.encode.proofs.put_low.Tie as tie

@@ -1,7 +1,5 @@
 -- A store for each byte. Assumes nothing.
-use native.Mathlib.Omega.{arith}
 use mathlib.Core.Path.{refl}
-use lib.ListN.{length-set}
 use Rattle.writing.proofs.WriteLaws.{too-short, stored}
 use Rattle.encode.specs.Scalar.{two}
 use borrow.Author.Needs.{needs}

@@ -6,7 +6,6 @@ use denote.Ref.{now}
 use Rattle.source_info.specs.Sources.{SourceIs}
 use Rattle.line_spans.specs.Spans.{spanIn, Within}
 use Rattle.source_info.specs.declared.Source.the-variants as source
-use Rattle.line_spans.specs.declared.RawLine.the-variants as raw
 use Rattle.source_info.proofs.SourceLaws.{line-refused, line-given, line-past}
 use Rattle.line_spans.proofs.TrimLaws.{line-trimmed}
 use Rattle.line_spans.proofs.line_span.Statement.{statement}

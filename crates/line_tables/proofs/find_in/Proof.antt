@@ -14,11 +14,6 @@ use Rattle.source_info.proofs.RecordLaws.{Left, start, here}
 use Rattle.line_tables.proofs.TableLaws.{findIn, find-done, find-take, find-skip, find-other}
 use Rattle.line_tables.proofs.find_in.Statement.{statement}
 use Rattle.line_tables.proofs.find_in.Tie as tie
-use Rattle.line_tables.proofs.find_in.Reads as reads
-use Rattle.line_tables.proofs.find_in.Lts as lts
-use Rattle.object.proofs.body_end.Reads as body-end-reads
-use Rattle.object.proofs.kind.Reads as kind-reads
-use Rattle.line_tables.proofs.line_in.Reads as line-in-reads
 
 abbrev Inv-loop : tie.InvT-loop
 Inv-loop ws a at₀ at = (h : ObjectFile) → objectOf ws ≡ given h → Left ws at (findIn a) (findLine (h .lineBlocks) a)

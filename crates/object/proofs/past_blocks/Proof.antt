@@ -1,8 +1,7 @@
 -- A block more each turn. Assumes nothing.
 use native.Mathlib.Omega.{arith}
-use mathlib.Core.Path.{_≡_, refl, _∙_}
-use Prim.Native.Nat.{ℕ, _+_, _≤_, _-_}
-use denote.Ref.{now}
+use mathlib.Core.Path.{refl, _∙_}
+use Prim.Native.Nat.{_≤_, _-_}
 use lib.ListN.{length}
 use Rattle.object.specs.Bodies.{SameEnd}
 use Rattle.object.proofs.past_blocks.Statement.{statement}

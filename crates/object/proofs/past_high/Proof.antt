@@ -1,11 +1,11 @@
 -- A word more each turn. Assumes nothing.
 use borrow.Author.Needs.{needs}
 use native.Mathlib.Omega.{arith}
-use mathlib.Core.Path.{_≡_, refl, ap}
+use mathlib.Core.Path.{refl, ap}
 use Prim.Native.Nat.{ℕ, _+_, _-_, _≤_, _<_}
 use lib.ListN.{length, getD}
 use denote.Ref.{now}
-use Rattle.object.specs.Bodies.{bodyAt, SameEnd}
+use Rattle.object.specs.Bodies.{SameEnd}
 use Rattle.object.proofs.BodyLaws.{body-goes}
 use Rattle.object.proofs.WordLaws.{head-high}
 use Rattle.object.proofs.past_high.Statement.{statement}

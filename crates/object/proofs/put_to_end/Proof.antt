@@ -5,7 +5,7 @@ use mathlib.Core.Path.{refl, sym}
 use mathlib.Core.List.{List, [], append-nil}
 use Prim.Native.Nat.{ℕ, _*_}
 use denote.Ref.{now}
-use Rattle.writing.proofs.Parts.{State, Emits, after, begun, emit, emitted, within, small, same}
+use Rattle.writing.proofs.Parts.{State, Emits, after, begun, emit, emitted, within, small}
 use Rattle.object.specs.Texts.{spanBytes}
 use Rattle.object.proofs.SpanLaws.{span-length, span-split, span-room}
 use Rattle.object.proofs.put_to_end.Statement.{statement}

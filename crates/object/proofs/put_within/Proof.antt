@@ -1,12 +1,12 @@
 -- Bytes up to a word, and the rest from there on. Assumes nothing.
 use borrow.Author.Needs.{needs}
 use native.Mathlib.Omega.{arith}
-use mathlib.Core.Path.{_≡_, refl, sym, subst}
+use mathlib.Core.Path.{refl, sym, subst}
 use mathlib.Core.List.{List, [], append-nil}
 use Prim.Native.Nat.{ℕ, _+_, _-_, _*_, _/_, _%_, _≤_, _<_}
 use lib.ListN.{length}
 use denote.Ref.{now}
-use Rattle.writing.proofs.Parts.{State, Emits, after, begun, emit, emitted, within, small, same}
+use Rattle.writing.proofs.Parts.{State, Emits, after, begun, emit, emitted, within, small}
 use Rattle.object.specs.Texts.{spanBytes}
 use Rattle.object.proofs.SpanLaws.{span-length, span-split, span-room, whole-within, whole-there}
 use Rattle.object.proofs.put_within.Statement.{statement}

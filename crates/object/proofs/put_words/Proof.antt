@@ -2,9 +2,9 @@
 use borrow.Author.Needs.{needs}
 use mathlib.Core.Path.{_≡_, refl}
 use mathlib.Core.List.{List, _∷_}
-use Prim.Native.Nat.{ℕ, _+_, _*_, _/_, _%_, _≤_, _-_}
+use Prim.Native.Nat.{ℕ, _+_, _*_, _/_, _%_, _-_}
 use native.Mathlib.Omega.{arith}
-use lib.ListN.{length, getD, set}
+use lib.ListN.{getD, set}
 use denote.Ref.{now}
 use Rattle.writing.proofs.Parts.{Emits, begin, emit-one, room-one, emitted, same, small}
 use Rattle.object.specs.Texts.{spanBytes}

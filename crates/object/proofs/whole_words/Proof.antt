@@ -1,5 +1,4 @@
 use borrow.Author.Needs.{needs}
-use native.Mathlib.Omega.{arith}
 use Rattle.object.proofs.SpanLaws.{whole-none, whole-few, whole-all}
 use Rattle.object.proofs.whole_words.Statement.{statement}
 use Rattle.object.proofs.whole_words.Tie as tie

@@ -2,7 +2,7 @@
 -- `take_slice`. All that the proof knows of the two is that each meets its contract.
 -- In a local of a body MIR erases the lifetime of the struct's type, so the value is shown to have the type at `erased`: what the struct
 -- owns does not say the lifetime's name. Assumes nothing.
-use mathlib.Core.Path.{_≡_, refl, ap, ap₂, _∙_}
+use mathlib.Core.Path.{_≡_, refl, ap₂, _∙_}
 use Prim.Native.Nat.{ℕ}
 use mathlib.Core.List.{List, [], _∷_}
 use lib.ListN.{length}
@@ -27,7 +27,7 @@ use denote.Laws.{Is, shows}
 use denote.Plain.{uint-vals, uint-tells, uint-makes, uint-lawful}
 use denote.Builtin.{u8, u64}
 use denote.Ref.{RefT, NamedLft, now}
-use denote.Signature.{plain, namedLft}
+use denote.Signature.{plain}
 use denote.Slice.{sliceVal, ShrSlice, slice-vals, shr-slice-tells, shr-slice-lawful, shr-slice-copy}
 use denote.Steps.{owned, peeks, heard, nothing}
 use denote.Enum.Laws as EL
@@ -50,13 +50,10 @@ use Rattle.reader.proofs.Reader.Laws as T′
 use Rattle.reader.proofs.Apart.{B}
 use Rattle.reader.proofs.new as new
 use Rattle.reader.proofs.new.Symbol as new-def
-use Rattle.reader.proofs.new.Symbol.{name as #reader·new}
 use Rattle.reader.proofs.new.Met as new-thm
 use Rattle.reader.proofs.take_slice as next
 use Rattle.reader.proofs.take_slice.Symbol as next-def
-use Rattle.reader.proofs.take_slice.Symbol.{name as #reader·take-slice}
 use Rattle.reader.proofs.take_slice.Met as next-thm
-use Rattle.reader.proofs.first_slice.Key.{name as #reader·first-slice}
 use Rattle.reader.proofs.first_slice as first
 use Rattle.reader.proofs.first_slice.Statement as stated
 use Rattle.reader.proofs.first_slice.Code as code

@@ -5,7 +5,6 @@ use mathlib.Core.List.{List}
 use Prim.Native.Nat.{ℕ}
 use Rattle.cursor.specs.Taken.{TakenNumber, taken8, taken16, takeNumber}
 use Rattle.reader.specs.declared.Width.{Width}
-use Rattle.reader.specs.declared.Width.the-variants.{One, Two, Eight}
 use Rattle.reader.specs.Width.{bytesIn}
 use Rattle.reader.proofs.take_at.Statement.{statement}
 use Rattle.reader.proofs.take_at.Tie as tie

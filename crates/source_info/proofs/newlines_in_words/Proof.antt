@@ -2,12 +2,11 @@
 use borrow.Author.Needs.{needs}
 use native.Mathlib.Omega.{arith}
 use mathlib.Core.Path.{_≡_, sym, subst, ap, _∙_}
-use mathlib.Core.List.{[], _∷_}
 use Prim.Native.Nat.{ℕ, _+_, _-_, _*_, _/_, _%_, _≤_, _<_}
 use lib.ListN.{length, drop, getD}
 use denote.Ref.{now}
 use Rattle.format.specs.Source.{newlines}
-use Rattle.object.specs.Texts.{textBytes, wholeWords}
+use Rattle.object.specs.Texts.{textBytes}
 use Rattle.object.proofs.SpanLaws.{whole-within, whole-there}
 use Rattle.source_info.proofs.CountLaws.{one-small, word-newlines}
 use Rattle.source_info.proofs.newlines_in_words.Statement.{statement}

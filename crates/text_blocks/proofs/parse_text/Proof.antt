@@ -1,12 +1,10 @@
 use borrow.Author.Needs.{needs}
 use native.Mathlib.Omega.{arith}
 use mathlib.Core.Path.{refl, sym, subst}
-use mathlib.Core.List.{List}
-use Prim.Native.Nat.{ℕ, _-_, _<_}
+use Prim.Native.Nat.{_-_, _<_}
 use denote.Ref.{now}
 use lib.ListN.{length}
 use Rattle.text_blocks.specs.Blocks.{NextBlock, BlockFrom, BlocksChecked}
-use Rattle.text_blocks.specs.declared.Text.{Text}
 use Rattle.text_blocks.specs.declared.BlockStep.{BlockStep}
 use Rattle.text_blocks.proofs.BlockLaws.{Marking, marking-begin, marking-on, marking-again, marking-bad, marking-end}
 use Rattle.text_lines.proofs.RowLaws.{parts-of}

@@ -2,7 +2,7 @@
 use borrow.Author.Needs.{needs}
 use native.Mathlib.Omega.{arith}
 use Rattle.text_cells.specs.Cells.{digitOr16}
-use Rattle.text_lines.proofs.TestLaws.{within-yes, within-low, within-high}
+use Rattle.text_lines.proofs.TestLaws.{within-low, within-high}
 use Rattle.text_cells.proofs.DigitLaws.{digit-low, digit-high, digit-value}
 use Rattle.text_cells.proofs.digit.Statement.{statement}
 use Rattle.text_cells.proofs.digit.Tie as tie

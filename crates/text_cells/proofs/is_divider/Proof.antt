@@ -1,5 +1,4 @@
 use borrow.Author.Needs.{needs}
-use native.Mathlib.Omega.{arith}
 use mathlib.Core.Path.{sym}
 use Rattle.text_cells.proofs.CellLaws.{bar-no0, bar-no1, bar-last}
 use Rattle.text_cells.proofs.is_divider.Statement.{statement}

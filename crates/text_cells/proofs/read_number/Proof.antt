@@ -2,12 +2,11 @@
 use borrow.Author.Needs.{needs}
 use native.Mathlib.Omega.{arith}
 use mathlib.Core.Path.{_≡_, sym, ap, _∙_, subst}
-use mathlib.Core.List.{List}
 use Prim.Native.Nat.{ℕ, _+_, _-_, _*_, _≤_, _<_}
 use denote.Ref.{now}
-use lib.ListN.{length, drop, getD}
+use lib.ListN.{length, drop}
 use Rattle.format.specs.TextReader.{digitsFrom, belowLimit, parseNumber}
-use Rattle.text_cells.specs.Cells.{digitOr16, NextValue}
+use Rattle.text_cells.specs.Cells.{NextValue}
 use Rattle.text_cells.specs.declared.Number.{Number}
 use Rattle.text_cells.proofs.NumberLaws.{number-none, number-from, number-stop, from-on, from-end, below-some}
 use Rattle.text_cells.proofs.read_number.Statement.{statement}

@@ -1,9 +1,8 @@
 use borrow.Author.Needs.{needs}
 use native.Mathlib.Omega.{arith}
-use mathlib.Core.Path.{_≡_, refl, sym, ap, _∙_}
+use mathlib.Core.Path.{_∙_}
 use Rattle.format.specs.TextWriter.{decimal}
 use Rattle.text_escape.proofs.EscapeLaws.{column-wide, column-narrow}
-use Rattle.text_numerals.proofs.count_digits.Reads as count-digits-reads
 use Rattle.text_escape.proofs.column.Statement.{statement}
 use Rattle.text_escape.proofs.column.Tie as tie
 

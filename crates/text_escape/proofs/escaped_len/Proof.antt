@@ -1,14 +1,10 @@
 -- By its letter, or its number. Assumes nothing.
 use borrow.Author.Needs.{needs}
 use native.Mathlib.Omega.{arith}
-use mathlib.Core.Path.{_≡_, refl, sym, ap, _∙_}
+use mathlib.Core.Path.{sym, ap, _∙_}
 use mathlib.Core.Logic.{inl, inr}
-use mathlib.Core.List.{[], _∷_}
 use lib.ListN.{length}
-use Rattle.format.specs.TextWriter.{escapeChar}
 use Rattle.text_escape.proofs.EscapeLaws.{by-letter, plain, by-code, code-length, hex-short}
-use Rattle.text_escape.proofs.letter.Reads as letter-reads
-use Rattle.text_numerals.proofs.count_hex.Reads as count-hex-reads
 use Rattle.text_escape.proofs.escaped_len.Statement.{statement}
 use Rattle.text_escape.proofs.escaped_len.Tie as tie
 

@@ -1,9 +1,7 @@
 use borrow.Author.Needs.{needs}
 use borrow.Author.Tests.{not-false}
-use mathlib.Core.Path.{_≡_, refl}
-use Rattle.object.specs.Texts.{EachIn}
+use mathlib.Core.Path.{refl}
 use Rattle.object.proofs.Tests.{clash}
-use Rattle.text_escape.specs.Escaped.{Itself}
 use Rattle.text_escape.proofs.is_plain_word.Statement.{statement}
 use Rattle.text_escape.proofs.is_plain_word.Tie as tie
 

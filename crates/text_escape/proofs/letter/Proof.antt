@@ -1,7 +1,6 @@
 -- Test by test. Assumes nothing.
-use borrow.Author.Needs.{needs}
 use native.Mathlib.Omega.{arith}
-use mathlib.Core.Path.{_≡_, refl, sym, ap, _∙_}
+use mathlib.Core.Path.{sym, ap}
 use Rattle.text_escape.specs.Escaped.{letterOf}
 use Rattle.text_escape.proofs.EscapeLaws.{letter-none}
 use Rattle.text_escape.proofs.letter.Statement.{statement}

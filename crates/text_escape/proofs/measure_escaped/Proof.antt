@@ -2,9 +2,9 @@
 use borrow.Author.Needs.{needs}
 use native.Mathlib.Omega.{arith}
 use mathlib.Core.Path.{_≡_, refl, sym, ap, _∙_}
-use mathlib.Core.List.{List, [], _∷_, _++_}
-use mathlib.Core.Option.{Option, none, some}
-use Prim.Native.Nat.{ℕ, _+_, _-_, _≤_, _<_}
+use mathlib.Core.List.{List, _++_}
+use mathlib.Core.Option.{some}
+use Prim.Native.Nat.{ℕ, _+_, _-_, _<_}
 use lib.ListN.{length, drop}
 use denote.Ref.{now}
 use Rattle.format.specs.Utf8.{charAt}
@@ -18,8 +18,6 @@ use Rattle.text_escape.specs.Escaped.{escapedIn}
 use Rattle.text_escape.proofs.EscapeLaws.{escaped-end, escaped-some, escaped-nothing, escaped-stretch, some-bound}
 use Rattle.measuring.specs.Room.{less, lessPart}
 use Rattle.measuring.proofs.RoomLaws.{less-some, less-none, less-nothing, part-fits, part-short}
-use Rattle.word_chars.proofs.char_in.Reads as char-in-reads
-use Rattle.text_escape.proofs.escaped_len.Reads as escaped-len-reads
 use Rattle.text_escape.proofs.measure_escaped.Statement.{statement}
 use Rattle.text_escape.proofs.measure_escaped.Tie as tie
 

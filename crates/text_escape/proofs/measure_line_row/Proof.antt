@@ -1,20 +1,15 @@
 use borrow.Author.Needs.{needs}
 use native.Mathlib.Omega.{arith}
-use mathlib.Core.Path.{_≡_, refl, sym, ap, _∙_}
-use mathlib.Core.List.{List, [], _∷_, _++_, append-nil}
-use Prim.Native.Nat.{ℕ, _+_, _-_, _≤_, _<_}
+use mathlib.Core.Path.{_≡_, ap, _∙_}
+use Prim.Native.Nat.{ℕ, _+_, _-_}
 use lib.ListN.{length}
 use denote.Ref.{now}
-use Rattle.writing.proofs.WriteLaws.{too-short}
-use Rattle.writing.proofs.Parts.{State, Emits, rest, after, begin, emit, emitted, within, small, same}
 use Rattle.text_numerals.specs.Memory.{knownWord}
 use Rattle.measuring.specs.Room.{less}
 use Rattle.measuring.proofs.RoomLaws.{less-none, less-on}
 use Rattle.text_escape.specs.Escaped.{escapedIn}
 use Rattle.text_escape.specs.Rows.{lineLine}
 use Rattle.text_escape.proofs.EscapeLaws.{line-length}
-use Rattle.text_escape.proofs.column.Reads as column-reads
-use Rattle.text_escape.proofs.measure_escaped.Reads as measure-escaped-reads
 use Rattle.text_escape.proofs.measure_line_row.Statement.{statement}
 use Rattle.text_escape.proofs.measure_line_row.Tie as tie
 

@@ -2,7 +2,6 @@
 use borrow.Author.Needs.{needs}
 use native.Mathlib.Omega.{arith}
 use mathlib.Core.Path.{_≡_, sym, _∙_}
-use Prim.Native.Nat.{ℕ, _<_}
 use denote.Ref.{now}
 use Rattle.word_chars.proofs.CharLaws.{byte-is}
 use Rattle.object.specs.Texts.{textByte}

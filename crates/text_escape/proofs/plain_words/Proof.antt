@@ -2,13 +2,11 @@
 use borrow.Author.Needs.{needs}
 use borrow.Author.Tests.{not-false}
 use native.Mathlib.Omega.{arith}
-use mathlib.Core.Path.{_≡_, sym, subst, _∙_}
+use mathlib.Core.Path.{_≡_, sym, subst}
 use mathlib.Core.Logic.{inl, inr, ⊎-elim}
-use mathlib.Core.List.{List}
 use Prim.Native.Nat.{ℕ, _+_, _-_, _*_, _/_, _≤_, _<_}
 use lib.ListN.{length}
 use denote.Ref.{now}
-use Rattle.object.specs.Texts.{wholeWords}
 use Rattle.object.proofs.SpanLaws.{each-none, each-word, whole-within, whole-there}
 use Rattle.word_chars.specs.Stretches.{Stretch}
 use Rattle.text_escape.specs.Escaped.{Itself}

@@ -1,11 +1,11 @@
 -- What is left of the bytes is what is left to emit. Assumes nothing.
 use borrow.Author.Needs.{needs}
 use native.Mathlib.Omega.{arith}
-use mathlib.Core.Path.{_≡_, refl, sym, ap, _∙_}
-use mathlib.Core.List.{List, [], _∷_, _++_}
-use mathlib.Core.Option.{Option, none, some}
-use Prim.Native.Nat.{ℕ, _+_, _-_, _≤_, _<_}
-use lib.ListN.{length, drop}
+use mathlib.Core.Path.{_≡_, sym, ap, _∙_}
+use mathlib.Core.List.{List, [], _++_}
+use mathlib.Core.Option.{some}
+use Prim.Native.Nat.{ℕ, _+_, _-_, _<_}
+use lib.ListN.{drop}
 use denote.Ref.{now}
 use Rattle.format.specs.Utf8.{charAt}
 use Rattle.format.specs.TextWriter.{escapeChar}
@@ -16,8 +16,6 @@ use Rattle.word_chars.proofs.CharLaws.{size-is}
 use Rattle.text_escape.specs.Escaped.{escapedIn}
 use Rattle.text_escape.proofs.EscapeLaws.{escaped-end, escaped-some, escaped-nothing, escaped-stretch, some-bound}
 use Rattle.writing.proofs.Parts.{State, Emits, after, begin, emit, emitted, within, small, same}
-use Rattle.word_chars.proofs.char_in.Reads as char-in-reads
-use Rattle.text_escape.proofs.put_escaped_char.Reads as put-escaped-char-reads
 use Rattle.text_escape.proofs.put_chars.Statement.{statement}
 use Rattle.text_escape.proofs.put_chars.Tie as tie
 

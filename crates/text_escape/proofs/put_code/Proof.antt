@@ -1,21 +1,16 @@
 -- Three parts. Assumes nothing.
 use borrow.Author.Needs.{needs}
 use native.Mathlib.Omega.{arith}
-use mathlib.Core.Path.{_≡_, refl, sym, ap, _∙_}
-use mathlib.Core.List.{List, [], _∷_, _++_, append-nil}
-use Prim.Native.Nat.{ℕ, _+_, _-_, _≤_, _<_}
-use lib.ListN.{length}
+use mathlib.Core.Path.{refl, sym}
+use mathlib.Core.List.{List, [], _++_, append-nil}
+use Prim.Native.Nat.{ℕ, _+_, _-_}
 use denote.Ref.{now}
 use Rattle.writing.proofs.WriteLaws.{too-short}
-use Rattle.writing.proofs.Parts.{State, Emits, rest, after, begin, emit, emitted, within, small}
+use Rattle.writing.proofs.Parts.{State, Emits, after, begin, emit, emitted, within, small}
 use Rattle.format.specs.Basics.{ascii}
 use Rattle.format.specs.TextWriter.{numeral}
 use Rattle.text_escape.specs.Escaped.{codeText}
 use Rattle.text_escape.proofs.EscapeLaws.{code-length, hex-short}
-use Rattle.text_numerals.proofs.count_hex.Reads as count-hex-reads
-use Rattle.text_numerals.proofs.put_hex.Reads as put-hex-reads
-use Rattle.writing.proofs.put_bytes.Reads as put-bytes-reads
-use Rattle.writing.proofs.put_u8.Reads as put-u8-reads
 use Rattle.text_escape.proofs.put_code.Statement.{statement}
 use Rattle.text_escape.proofs.put_code.Tie as tie
 

@@ -1,15 +1,11 @@
 -- By its letter, or its number, or as it is. Assumes nothing.
 use borrow.Author.Needs.{needs}
 use native.Mathlib.Omega.{arith}
-use mathlib.Core.Path.{_≡_, refl, sym, ap, _∙_}
+use mathlib.Core.Path.{sym, ap, _∙_}
 use mathlib.Core.Logic.{inl, inr}
-use mathlib.Core.List.{List, [], _∷_}
+use mathlib.Core.List.{[], _∷_}
 use Prim.Native.Nat.{ℕ}
 use Rattle.text_escape.proofs.EscapeLaws.{by-letter, plain, by-code, put-as}
-use Rattle.text_escape.proofs.letter.Reads as letter-reads
-use Rattle.text_escape.proofs.put_code.Reads as put-code-reads
-use Rattle.writing.proofs.put_bytes.Reads as put-bytes-reads
-use Rattle.writing.proofs.put_u8.Reads as put-u8-reads
 use Rattle.text_escape.proofs.put_escaped_char.Statement.{statement}
 use Rattle.text_escape.proofs.put_escaped_char.Tie as tie
 

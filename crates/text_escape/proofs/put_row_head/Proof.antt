@@ -1,19 +1,15 @@
 -- The number in its column, then the address. Assumes nothing.
 use borrow.Author.Needs.{needs}
-use native.Mathlib.Omega.{arith}
-use mathlib.Core.Path.{_≡_, refl, sym, ap, subst, _∙_}
-use mathlib.Core.List.{List, [], _∷_, _++_, append-nil}
-use Prim.Native.Nat.{ℕ, _+_, _-_, _^_, _≤_, _<_}
-use lib.ListN.{length, length-append}
+use mathlib.Core.Path.{_≡_, refl, sym}
+use mathlib.Core.List.{List, [], _++_, append-nil}
+use Prim.Native.Nat.{ℕ, _+_, _-_, _^_, _<_}
+use lib.ListN.{length}
 use denote.Ref.{now}
-use Rattle.writing.proofs.Parts.{State, Emits, rest, after, emit, emitted, within, small}
+use Rattle.writing.proofs.Parts.{State, Emits, after, emit, emitted, within, small}
 use Rattle.measuring.proofs.FittingLaws.{first-put, lent-room}
-use Rattle.format.specs.Basics.{ascii}
-use Rattle.format.specs.TextWriter.{decimal, toRight, memoryText, tableDiv, textLine}
+use Rattle.format.specs.TextWriter.{decimal, toRight}
 use Rattle.text_numerals.specs.Memory.{knownWord}
-use Rattle.object.specs.Texts.{spanBytes}
-use Rattle.text_escape.specs.Escaped.{escapedIn}
-use Rattle.text_escape.specs.Rows.{lineLine, addressCell, rowHead, newlineBytes, plainCell}
+use Rattle.text_escape.specs.Rows.{addressCell, rowHead}
 use Rattle.text_escape.proofs.put_row_head.Statement.{statement}
 use Rattle.text_escape.proofs.put_row_head.Tie as tie
 

@@ -1,6 +1,5 @@
 use borrow.Author.Needs.{needs}
 use native.Mathlib.Omega.{arith}
-use mathlib.Core.Path.{refl}
 use Rattle.text_labels.specs.Labels.{leftIn}
 use Rattle.text_labels.proofs.all_rows.Statement.{statement}
 use Rattle.text_labels.proofs.all_rows.Tie as tie

@@ -1,5 +1,4 @@
 -- Where none was found, the bytes passed are of the line; where one was, the line ends before. Assumes nothing.
-use borrow.Author.Needs.{needs}
 use native.Mathlib.Omega.{arith}
 use mathlib.Core.Path.{_≡_, sym, ap, _∙_}
 use mathlib.Core.Bool.{true, false, true≢false}

@@ -1,10 +1,10 @@
 -- The place of the LF that the blocks show, or byte by byte. Assumes nothing.
 use borrow.Author.Needs.{needs}
 use native.Mathlib.Omega.{arith}
-use mathlib.Core.Path.{_≡_, refl}
+use mathlib.Core.Path.{_≡_}
 use Prim.Native.Nat.{_+_, _-_, _≤_}
 use denote.Ref.{now}
-use lib.ListN.{length, drop, length-drop}
+use lib.ListN.{length, drop}
 use Rattle.text_lines.specs.Lines.{lineLength}
 use Rattle.text_lines.proofs.LineLaws.{line-here, line-on, line-stop}
 use Rattle.text_lines.proofs.line_end.Statement.{statement}

@@ -1,6 +1,5 @@
 use borrow.Author.Needs.{needs}
 use native.Mathlib.Omega.{arith}
-use Rattle.text_lines.specs.Groups.{RowAt}
 use Rattle.text_lines.proofs.next_row.Statement.{statement}
 use Rattle.text_lines.proofs.next_row.Tie as tie
 

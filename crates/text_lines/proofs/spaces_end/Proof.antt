@@ -1,6 +1,6 @@
 -- Up to the place there are spaces. Assumes nothing.
 use native.Mathlib.Omega.{arith}
-use Prim.Native.Nat.{ℕ, _≤_, _-_}
+use Prim.Native.Nat.{_-_}
 use lib.ListN.{length}
 use denote.Ref.{now}
 use Rattle.text_lines.specs.Groups.{Spaces}

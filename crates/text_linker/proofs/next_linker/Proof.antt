@@ -6,7 +6,6 @@ use denote.Ref.{now}
 use Rattle.trim.specs.Span.{part}
 use Rattle.text_lines.specs.Groups.{NextRow, RowAt, groupView}
 use Rattle.text_linker.specs.Linker.{LinkerIs, NextLinker, linkerIn}
-use Rattle.text_linker.specs.declared.LinkerRow.the-variants as lr
 use Rattle.text_linker.specs.declared.LinkerStep.the-variants as ls
 use Rattle.text_linker.proofs.LinkerLaws.{linker-inside}
 use Rattle.text_tables.proofs.ReadLaws.{read-bad}

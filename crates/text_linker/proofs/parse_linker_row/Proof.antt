@@ -1,12 +1,7 @@
 use borrow.Author.Needs.{needs}
 use native.Mathlib.Omega.{arith}
-use mathlib.Core.Path.{_≡_, sym, ap, _∙_}
-use mathlib.Core.List.{[]}
-use mathlib.Core.Option.{some}
-use lib.ListN.{getD}
-use denote.Ref.{now}
-use Rattle.format.specs.Utf8.{trim}
-use Rattle.format.specs.TextReader.{splitn, hex2u16}
+use mathlib.Core.Path.{sym, ap, _∙_}
+use Rattle.format.specs.TextReader.{hex2u16}
 use Rattle.text_cells.specs.Cells.{numberRead}
 use Rattle.text_cells.proofs.NumberLaws.{hex-small}
 use Rattle.text_linker.proofs.LinkerLaws.{linker-bad, linker-some}

@@ -1,7 +1,5 @@
 -- The digits that stand. Assumes nothing.
 use borrow.Author.Needs.{needs}
-use native.Mathlib.Omega.{arith}
-use mathlib.Core.Path.{_≡_, refl, sym, ap, _∙_, subst}
 use Rattle.text_numerals.proofs.DigitLaws.{count-of}
 use Rattle.text_numerals.proofs.count_hex.Statement.{statement}
 use Rattle.text_numerals.proofs.count_hex.Tie as tie

@@ -1,10 +1,9 @@
 -- A digit a turn, from the last. Assumes nothing.
-use borrow.Author.Needs.{needs}
 use native.Mathlib.Omega.{arith}
-use mathlib.Core.Path.{_≡_, refl, sym, ap, _∙_, subst}
-use Prim.Native.Nat.{ℕ, _-_, _%_, _≤_, _<_}
+use mathlib.Core.Path.{refl, _∙_}
+use Prim.Native.Nat.{ℕ, _-_, _%_, _<_}
 use native.Mathlib.Nat.{mod-lt}
-use lib.ListN.{length, length-set}
+use lib.ListN.{length-set}
 use Rattle.text_numerals.proofs.DigitLaws.{Making, making-begin, making-on, making-end, less}
 use Rattle.text_numerals.proofs.digits_of.Statement.{statement}
 use Rattle.text_numerals.proofs.digits_of.Tie as tie

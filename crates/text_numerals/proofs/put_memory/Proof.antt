@@ -1,7 +1,5 @@
 -- Either part. Assumes nothing.
 use borrow.Author.Needs.{needs}
-use native.Mathlib.Omega.{arith}
-use mathlib.Core.Path.{_≡_, refl, sym, ap, _∙_, subst}
 use Rattle.format.specs.Basics.{ascii}
 use Rattle.text_numerals.proofs.put_memory.Statement.{statement}
 use Rattle.text_numerals.proofs.put_memory.Tie as tie

@@ -1,9 +1,8 @@
 -- A space a turn. Assumes nothing.
 use borrow.Author.Needs.{needs}
 use native.Mathlib.Omega.{arith}
-use mathlib.Core.Path.{_≡_, refl, sym, ap, _∙_, subst}
-use Prim.Native.Nat.{ℕ, _-_, _≤_}
-use lib.ListN.{length, drop, drop-of-length-le}
+use Prim.Native.Nat.{_-_, _≤_}
+use lib.ListN.{drop, drop-of-length-le}
 use Rattle.format.specs.TextWriter.{spaces}
 use Rattle.writing.proofs.WriteLaws.{too-short}
 use Rattle.writing.proofs.Parts.{Emits, begin, emit-one, room-one, emitted, same}

@@ -2,17 +2,15 @@
 use borrow.Author.Needs.{needs}
 use native.Mathlib.Omega.{arith}
 use mathlib.Core.Path.{_≡_, refl, sym, ap, _∙_}
-use mathlib.Core.List.{List, [], _∷_, _++_, flatMap}
-use mathlib.Core.Option.{Option}
+use mathlib.Core.List.{List, _++_, flatMap}
 use Prim.Native.Nat.{ℕ, _+_, _-_, _*_, _≤_, _<_}
 use lib.ListN.{length}
 use denote.Ref.{now}
 use Rattle.format.specs.TextWriter.{decimal}
 use Rattle.object.specs.Bodies.{bodyAt}
-use Rattle.object.specs.Access.{kindAt}
 use Rattle.measuring.specs.Room.{roomOf, less, lessPart}
 use Rattle.measuring.proofs.RoomLaws.{less-nothing, part-fits, part-short}
-use Rattle.text_parts_out.specs.Parts.{heads, leading, blockText, blockPlaces}
+use Rattle.text_parts_out.specs.Parts.{heads, leading, blockText}
 use Rattle.text_parts_out.proofs.HeadLaws.{next-less, leading-end, leading-other, leading-next}
 use Rattle.text_parts_out.proofs.PartLaws.{block-size}
 use Rattle.text_parts_out.proofs.measure_blocks.Statement.{statement}

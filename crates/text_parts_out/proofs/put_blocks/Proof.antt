@@ -1,13 +1,12 @@
 -- Record by record. Assumes nothing.
 use borrow.Author.Needs.{needs}
 use native.Mathlib.Omega.{arith}
-use mathlib.Core.Path.{_≡_, refl, sym, ap, _∙_}
-use mathlib.Core.List.{List, [], _∷_}
+use mathlib.Core.Path.{sym, ap, _∙_}
+use mathlib.Core.List.{List}
 use Prim.Native.Nat.{ℕ, _+_, _-_, _^_, _≤_, _<_}
 use lib.ListN.{length}
 use denote.Ref.{now}
-use Rattle.object.specs.Bodies.{bodyAt}
-use Rattle.writing.proofs.Parts.{State, Emits, after, emitted, within, small, same}
+use Rattle.writing.proofs.Parts.{Emits, after, emitted, within, small, same}
 use Rattle.measuring.specs.Fitting.{fitting}
 use Rattle.measuring.proofs.FittingLaws.{fill-begin, fill-one}
 use Rattle.text_parts_out.specs.Parts.{heads, leading, blockText}

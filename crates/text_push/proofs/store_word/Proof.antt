@@ -1,5 +1,4 @@
 use borrow.Author.Needs.{needs}
-use native.Mathlib.Omega.{arith}
 use Rattle.text_push.proofs.PushLaws.{store-past, store-there}
 use Rattle.text_push.proofs.store_word.Statement.{statement}
 use Rattle.text_push.proofs.store_word.Tie as tie

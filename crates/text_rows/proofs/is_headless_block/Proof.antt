@@ -1,7 +1,7 @@
 -- Where no LF was counted before a `.`, none stands among the bytes passed. Assumes nothing.
 use native.Mathlib.Omega.{arith}
 use mathlib.Core.Path.{_≡_}
-use Prim.Native.Nat.{ℕ, _+_, _≤_, _-_}
+use Prim.Native.Nat.{_+_, _≤_, _-_}
 use denote.Ref.{now}
 use borrow.Author.Tests.{eqb-true}
 use Rattle.text_rows.specs.Steps.{Headless}

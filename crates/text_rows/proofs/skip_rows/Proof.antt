@@ -2,7 +2,7 @@ use borrow.Author.Needs.{needs}
 use native.Mathlib.Omega.{arith}
 use mathlib.Core.Path.{subst}
 use denote.Ref.{now}
-use Rattle.text_lines.specs.Groups.{NextRow, RowAt}
+use Rattle.text_lines.specs.Groups.{NextRow}
 use Rattle.text_rows.proofs.StepLaws.{Skipping, skipping-begin, skipping-on, skipping-none, skipping-end}
 use Rattle.text_rows.proofs.skip_rows.Statement.{statement}
 use Rattle.text_rows.proofs.skip_rows.Tie as tie

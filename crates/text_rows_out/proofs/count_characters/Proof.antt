@@ -1,15 +1,13 @@
 -- Those counted, and those in the rest, are all. Assumes nothing.
 use borrow.Author.Needs.{needs}
 use native.Mathlib.Omega.{arith}
-use mathlib.Core.Path.{_≡_, refl, sym, ap, subst, _∙_}
-use Prim.Native.Nat.{ℕ, _+_, _-_, _≤_, _<_}
+use mathlib.Core.Path.{_≡_, ap, _∙_}
+use Prim.Native.Nat.{ℕ, _+_, _-_, _≤_}
 use denote.Ref.{now}
 use Rattle.format.specs.Utf8.{characters}
 use Rattle.object.specs.Texts.{textByte, bytesFrom, textBytes}
 use Rattle.utf8.specs.Chars.{begins}
 use Rattle.text_rows_out.proofs.RowLaws.{count-here, count-done}
-use Rattle.object.proofs.text_byte.Reads as text-byte-reads
-use Rattle.text_rows_out.proofs.begins.Reads as begins-reads
 use Rattle.text_rows_out.proofs.count_characters.Statement.{statement}
 use Rattle.text_rows_out.proofs.count_characters.Tie as tie
 

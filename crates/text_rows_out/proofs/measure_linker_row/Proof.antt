@@ -1,15 +1,13 @@
 use borrow.Author.Needs.{needs}
 use native.Mathlib.Omega.{arith}
-use mathlib.Core.Path.{_≡_, refl, sym, ap, subst, _∙_}
-use Prim.Native.Nat.{ℕ, _+_, _-_, _≤_, _<_}
-use lib.ListN.{length}
+use mathlib.Core.Path.{sym, ap, _∙_}
+use Prim.Native.Nat.{ℕ, _+_, _-_}
 use denote.Ref.{now}
 use Rattle.object.specs.Texts.{textBytes}
 use Rattle.object.proofs.ByteLaws.{bytes-length}
 use Rattle.measuring.specs.Room.{less}
 use Rattle.measuring.proofs.RoomLaws.{less-none, less-on}
 use Rattle.text_rows_out.proofs.RowLaws.{linker-length}
-use Rattle.measuring.proofs.take.Reads as take-reads
 use Rattle.text_rows_out.proofs.measure_linker_row.Statement.{statement}
 use Rattle.text_rows_out.proofs.measure_linker_row.Tie as tie
 

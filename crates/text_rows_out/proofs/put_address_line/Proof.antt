@@ -1,18 +1,14 @@
 -- Two parts. Assumes nothing.
 use borrow.Author.Needs.{needs}
 use native.Mathlib.Omega.{arith}
-use mathlib.Core.Path.{_≡_, refl, sym, ap, subst, _∙_}
-use mathlib.Core.List.{List, [], _∷_, _++_, append-nil}
-use Prim.Native.Nat.{ℕ, _+_, _-_, _%_, _≤_, _<_}
-use lib.ListN.{length}
+use mathlib.Core.Path.{refl, sym}
+use mathlib.Core.List.{List, [], _∷_, append-nil}
+use Prim.Native.Nat.{ℕ, _-_}
 use denote.Ref.{now}
-use Rattle.writing.specs.Written.{Put}
 use Rattle.writing.proofs.WriteLaws.{too-short}
-use Rattle.writing.proofs.Parts.{State, Emits, rest, after, begin, emit, emitted, within, small}
+use Rattle.writing.proofs.Parts.{State, Emits, after, begin, emit, emitted, within, small}
 use Rattle.format.specs.TextWriter.{hex4, textLine}
 use Rattle.text_rows_out.proofs.RowLaws.{address-length}
-use Rattle.text_numerals.proofs.put_hex4.Reads as put-hex4-reads
-use Rattle.writing.proofs.put_u8.Reads as put-u8-reads
 use Rattle.text_rows_out.proofs.put_address_line.Statement.{statement}
 use Rattle.text_rows_out.proofs.put_address_line.Tie as tie
 

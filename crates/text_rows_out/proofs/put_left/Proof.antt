@@ -2,9 +2,8 @@
 use borrow.Author.Needs.{needs}
 use native.Mathlib.Omega.{arith}
 use mathlib.Core.Path.{_≡_, refl, sym, ap, subst, _∙_}
-use mathlib.Core.List.{List, [], _∷_, _++_, append-nil}
-use Prim.Native.Nat.{ℕ, _+_, _-_, _%_, _≤_, _<_}
-use lib.ListN.{length}
+use mathlib.Core.List.{List, [], append-nil}
+use Prim.Native.Nat.{ℕ, _-_}
 use denote.Ref.{now}
 use Rattle.writing.specs.Written.{Put}
 use Rattle.writing.proofs.WriteLaws.{too-short}
@@ -14,10 +13,6 @@ use Rattle.format.specs.TextWriter.{spaces, toLeft}
 use Rattle.object.specs.Texts.{textBytes}
 use Rattle.object.proofs.ByteLaws.{bytes-length}
 use Rattle.text_rows_out.proofs.RowLaws.{left-length}
-use Rattle.object.proofs.put_text.Reads as put-text-reads
-use Rattle.text_numerals.proofs.put_spaces.Reads as put-spaces-reads
-use Rattle.text_rows_out.proofs.count_characters.Reads as count-characters-reads
-use Rattle.text_rows_out.proofs.missing.Reads as missing-reads
 use Rattle.text_rows_out.proofs.put_left.Statement.{statement}
 use Rattle.text_rows_out.proofs.put_left.Tie as tie
 

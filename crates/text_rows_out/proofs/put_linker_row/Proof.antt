@@ -1,14 +1,13 @@
 -- The address, then the name. Assumes nothing.
 use borrow.Author.Needs.{needs}
 use native.Mathlib.Omega.{arith}
-use mathlib.Core.Path.{_≡_, refl, sym, ap, subst, _∙_}
-use mathlib.Core.List.{List, [], _∷_, _++_, append-nil}
+use mathlib.Core.Path.{_≡_, refl, sym, ap, _∙_}
+use mathlib.Core.List.{List, [], _++_, append-nil}
 use Prim.Native.Nat.{ℕ, _+_, _-_, _^_, _≤_, _<_}
 use lib.ListN.{length, length-append}
 use denote.Ref.{now}
-use Rattle.writing.proofs.Parts.{State, Emits, rest, after, emit, emitted, within, small}
+use Rattle.writing.proofs.Parts.{State, Emits, after, emit, emitted, within, small}
 use Rattle.measuring.proofs.FittingLaws.{first-put, lent-room}
-use Rattle.format.specs.Basics.{ascii}
 use Rattle.format.specs.TextWriter.{hex4, textLine, tableDiv}
 use Rattle.object.specs.Texts.{textBytes}
 use Rattle.object.proofs.ByteLaws.{bytes-length}

@@ -1,10 +1,9 @@
 -- Two parts. Assumes nothing.
 use borrow.Author.Needs.{needs}
 use native.Mathlib.Omega.{arith}
-use mathlib.Core.Path.{_≡_, refl, sym, ap, subst, _∙_}
-use mathlib.Core.List.{List, [], _∷_, _++_, append-nil}
-use Prim.Native.Nat.{ℕ, _+_, _-_, _%_, _≤_, _<_}
-use lib.ListN.{length}
+use mathlib.Core.Path.{refl, sym, subst}
+use mathlib.Core.List.{List, [], _∷_, append-nil}
+use Prim.Native.Nat.{ℕ, _-_}
 use denote.Ref.{now}
 use Rattle.writing.specs.Written.{Put}
 use Rattle.writing.proofs.WriteLaws.{too-short}
@@ -12,8 +11,6 @@ use Rattle.writing.proofs.Parts.{State, Emits, rest, after, begin, emit, emitte
 use Rattle.format.specs.TextWriter.{memoryText, textLine}
 use Rattle.object.specs.Access.{memoryIn}
 use Rattle.text_rows_out.proofs.RowLaws.{memory-length, memory-known}
-use Rattle.text_numerals.proofs.put_memory.Reads as put-memory-reads
-use Rattle.writing.proofs.put_u8.Reads as put-u8-reads
 use Rattle.text_rows_out.proofs.put_memory_line.Statement.{statement}
 use Rattle.text_rows_out.proofs.put_memory_line.Tie as tie
 

@@ -1,21 +1,14 @@
 -- Two parts. Assumes nothing.
 use borrow.Author.Needs.{needs}
-use native.Mathlib.Omega.{arith}
-use mathlib.Core.Path.{_≡_, refl, sym, ap, subst, _∙_}
+use mathlib.Core.Path.{_≡_, refl, sym}
 use mathlib.Core.List.{List, [], _∷_, _++_, append-nil}
-use Prim.Native.Nat.{ℕ, _+_, _-_, _^_, _≤_, _<_}
-use lib.ListN.{length, length-append}
+use Prim.Native.Nat.{ℕ, _+_, _-_, _^_, _<_}
+use lib.ListN.{length}
 use denote.Ref.{now}
-use Rattle.writing.proofs.Parts.{State, Emits, rest, after, emit, emitted, within, small}
-use Rattle.measuring.proofs.FittingLaws.{first-put, lent-room}
-use Rattle.format.specs.Basics.{ascii}
-use Rattle.format.specs.TextWriter.{hex4, textLine, tableDiv}
+use Rattle.writing.proofs.Parts.{State, Emits, after, emit, emitted, within, small}
+use Rattle.measuring.proofs.FittingLaws.{first-put}
+use Rattle.format.specs.TextWriter.{textLine}
 use Rattle.object.specs.Texts.{textBytes}
-use Rattle.object.proofs.ByteLaws.{bytes-length}
-use Rattle.writing.proofs.WriteLaws.{too-short}
-use Rattle.text_rows_out.specs.Rows.{linkerLine}
-use Rattle.text_rows_out.proofs.RowLaws.{row-parts, linker-length}
-use mathlib.Core.List.{append-assoc}
 use Rattle.text_rows_out.proofs.put_name_line.Statement.{statement}
 use Rattle.text_rows_out.proofs.put_name_line.Tie as tie
 

@@ -1,14 +1,14 @@
 -- Three parts: the head, the first line's number, and the addresses. Assumes nothing.
 use borrow.Author.Needs.{needs}
 use native.Mathlib.Omega.{arith}
-use mathlib.Core.Path.{_≡_, refl}
+use mathlib.Core.Path.{refl}
 use mathlib.Core.List.{List, [], _∷_, _++_, map}
-use Prim.Native.Nat.{ℕ, _+_, _≤_}
-use lib.ListN.{length, take, length-map}
+use Prim.Native.Nat.{ℕ, _+_}
+use lib.ListN.{take, length-map}
 use lib.Seq.{length-take-le}
 use denote.Ref.{now}
 use Rattle.format.specs.Words.{memoryWord, numberWords}
-use Rattle.writing.proofs.Parts.{State, Emits, after, begin, emit, emitted, within, small, same}
+use Rattle.writing.proofs.Parts.{State, Emits, after, begin, emit, emitted, within, small}
 use Rattle.text_runs.specs.Runs.{addressesFrom, runWords}
 use Rattle.text_runs.proofs.RunLaws.{run-none, run-short, run-parts, run-fits, run-put, room-for}
 use Rattle.text_runs.proofs.put_run.Statement.{statement}

@@ -2,8 +2,8 @@
 use borrow.Author.Needs.{needs}
 use native.Mathlib.Omega.{arith}
 use mathlib.Core.Path.{_≡_, refl, sym, ap, subst, _∙_}
-use mathlib.Core.List.{List, _∷_, _++_, flatMap}
-use mathlib.Core.Option.{Option, some}
+use mathlib.Core.List.{List, _++_, flatMap}
+use mathlib.Core.Option.{Option}
 use Prim.Native.Nat.{ℕ, _+_, _-_, _%_, _^_}
 use denote.Ref.{now}
 use Rattle.format.specs.TextWriter.{Row}
@@ -11,7 +11,7 @@ use Rattle.text_numerals.specs.Memory.{knownWord}
 use Rattle.measuring.specs.Room.{lessPart}
 use Rattle.measuring.proofs.RoomLaws.{less-nothing, part-fits, part-short}
 use Rattle.text_lines_out.specs.Runs.{addressFrom, runRows, sourceOf, rowsOf}
-use Rattle.text_runs_out.specs.Lines.{nextStart, lineAt, rowLine, rowLines, startPast, itself, joined, Leaves}
+use Rattle.text_runs_out.specs.Lines.{nextStart, lineAt, rowLine, rowLines, startPast, joined, Leaves}
 use Rattle.text_runs_out.proofs.RunLaws.{run-lines, run-start, run-lines-over, run-start-over}
 use Rattle.text_runs_out.proofs.measure_run.Statement.{statement}
 use Rattle.text_runs_out.proofs.measure_run.Tie as tie

@@ -4,20 +4,20 @@ use native.Mathlib.Omega.{arith}
 use mathlib.Core.Path.{_≡_, refl, sym, ap, subst, _∙_}
 use mathlib.Core.Bool.{false}
 use mathlib.Core.List.{List, [], _++_}
-use Prim.Native.Nat.{ℕ, _+_, _-_, _^_, _≤_, _<_}
+use Prim.Native.Nat.{ℕ, _+_, _-_, _^_, _<_}
 use lib.ListN.{length}
 use denote.Ref.{now}
 use Rattle.format.specs.TextWriter.{Row}
 use Rattle.object.specs.Bodies.{bodyAt}
-use Rattle.writing.proofs.Parts.{State, Emits, after, emitted, within, small, same}
+use Rattle.writing.proofs.Parts.{Emits, after, emitted, within, small, same}
 use Rattle.measuring.specs.Fitting.{fitting}
 use Rattle.measuring.proofs.FittingLaws.{fill-begin, fill-more, fill-last}
 use Rattle.text_lines_out.specs.Merge.{smaller}
 use Rattle.text_lines_out.specs.Runs.{addressFrom, runRows}
-use Rattle.text_lines_out.specs.Walk.{recordRows, recordDone}
+use Rattle.text_lines_out.specs.Walk.{recordRows}
 use Rattle.text_parts_out.specs.Parts.{heads}
 use Rattle.text_parts_out.proofs.HeadLaws.{next-less}
-use Rattle.text_runs_out.specs.Lines.{rowLines, startPast, itself, placedRows}
+use Rattle.text_runs_out.specs.Lines.{rowLines, itself, placedRows}
 use Rattle.text_runs_out.proofs.RunLaws.{placed-lines, placed-over}
 use Rattle.text_runs_out.proofs.put_line_records.Statement.{statement}
 use Rattle.text_runs_out.proofs.put_line_records.Tie as tie

@@ -1,9 +1,9 @@
 -- A line of bytes that stand for themselves, or any other. Assumes nothing.
 use borrow.Author.Needs.{needs}
 use native.Mathlib.Omega.{arith}
-use mathlib.Core.Path.{_≡_, sym, subst}
+use mathlib.Core.Path.{sym, subst}
 use mathlib.Core.List.{List}
-use Prim.Native.Nat.{ℕ, _+_, _^_, _<_}
+use Prim.Native.Nat.{ℕ, _^_, _<_}
 use denote.Ref.{now}
 use Rattle.writing.specs.Written.{Put}
 use Rattle.text_numerals.specs.Memory.{knownWord}

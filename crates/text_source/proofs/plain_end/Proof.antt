@@ -1,6 +1,6 @@
 -- Up to the place there is no backslash. Assumes nothing.
 use native.Mathlib.Omega.{arith}
-use Prim.Native.Nat.{ℕ, _≤_, _<_, _-_}
+use Prim.Native.Nat.{_≤_, _-_}
 use denote.Ref.{now}
 use Rattle.text_source.specs.Unescape.{Plain}
 use Rattle.text_source.proofs.UnescapeLaws.{plain-more, plain-join}

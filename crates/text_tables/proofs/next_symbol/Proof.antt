@@ -6,7 +6,6 @@ use denote.Ref.{now}
 use Rattle.trim.specs.Span.{part}
 use Rattle.text_lines.specs.Groups.{NextRow, RowAt, groupView}
 use Rattle.text_tables.specs.Symbols.{SymIs, NextSymbol, symbolIn}
-use Rattle.text_tables.specs.declared.SymbolRow.the-variants as sy
 use Rattle.text_tables.specs.declared.SymbolStep.the-variants as ss
 use Rattle.text_tables.proofs.SymbolLaws.{symbol-inside}
 use Rattle.text_tables.proofs.ReadLaws.{read-bad}

@@ -1,6 +1,6 @@
 use borrow.Author.Needs.{needs}
 use native.Mathlib.Omega.{arith}
-use mathlib.Core.Path.{_≡_, refl, ap, _∙_, subst}
+use mathlib.Core.Path.{refl, ap, _∙_, subst}
 use Prim.Native.Nat.{_-_, _<_}
 use lib.ListN.{length}
 use denote.Ref.{now}

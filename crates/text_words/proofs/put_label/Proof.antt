@@ -1,10 +1,9 @@
 -- Three parts: the first word, the source start and the words of the name. Assumes nothing.
 use borrow.Author.Needs.{needs}
 use native.Mathlib.Omega.{arith}
-use mathlib.Core.Path.{_≡_, refl, sym, ap, _∙_}
+use mathlib.Core.Path.{refl, sym, ap}
 use mathlib.Core.List.{List, [], _∷_, _++_, append-nil}
 use Prim.Native.Nat.{ℕ}
-use lib.ListN.{length}
 use denote.Ref.{now}
 use Rattle.format.specs.ObjectFile.{Label}
 use Rattle.format.specs.Records.{label}

@@ -1,10 +1,9 @@
 -- Two parts: the first word, and the words of the name. Assumes nothing.
 use borrow.Author.Needs.{needs}
 use native.Mathlib.Omega.{arith}
-use mathlib.Core.Path.{_≡_, refl, sym}
+use mathlib.Core.Path.{refl, sym}
 use mathlib.Core.List.{List, [], _∷_, append-nil}
 use Prim.Native.Nat.{ℕ, _+_}
-use lib.ListN.{length}
 use denote.Ref.{now}
 use Rattle.format.specs.ObjectFile.{Relocation}
 use Rattle.format.specs.Records.{relocation}

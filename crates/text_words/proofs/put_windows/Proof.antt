@@ -1,5 +1,5 @@
 use borrow.Author.Needs.{needs}
-use mathlib.Core.Path.{refl, ap, _∙_}
+use mathlib.Core.Path.{refl, _∙_}
 use mathlib.Core.List.{map}
 use Prim.Native.Nat.{_+_, _-_}
 use native.Mathlib.Omega.{arith}

@@ -1,4 +1,3 @@
-use borrow.Author.Needs.{needs}
 use mathlib.Core.Path.{refl}
 use Rattle.text_words.proofs.RoomLaws.{room-short, room-left}
 use Rattle.text_words.proofs.take_room.Statement.{statement}

@@ -1,15 +1,11 @@
 -- By the tests that led there. Assumes nothing.
-use native.Mathlib.Omega.{arith}
-use mathlib.Core.Path.{_≡_, refl, sym, ap, _∙_}
+use mathlib.Core.Path.{_≡_}
 use mathlib.Core.Logic.{⊎-elim}
-use Prim.Native.Nat.{ℕ}
 use denote.Ref.{now}
 use lib.ListN.{length}
 use lib.Dec.{ltb}
 use borrow.Author.Tests.{lt-ltb, le-ltb}
 use Rattle.format.specs.Basics.{if_then_else_}
-use Rattle.trim.specs.declared.Span.{Span}
-use Rattle.trim.specs.Span.{clipped}
 use Rattle.trim.proofs.SpanLaws.{clip-in, clip-out}
 use Rattle.trim.proofs.clip.Statement.{statement}
 use Rattle.trim.proofs.clip.Tie as tie

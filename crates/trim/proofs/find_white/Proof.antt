@@ -1,7 +1,7 @@
 -- What `char_at` found, and whether that is White_Space. Assumes nothing.
 use borrow.Author.Needs.{needs}
 use native.Mathlib.Omega.{arith}
-use mathlib.Core.Path.{_≡_, sym, ap, _∙_}
+use mathlib.Core.Path.{sym, ap, _∙_}
 use denote.Ref.{now}
 use lib.ListN.{drop}
 use Rattle.utf8.specs.Chars.{charOf}

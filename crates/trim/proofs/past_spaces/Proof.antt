@@ -1,9 +1,7 @@
 -- Trimmed at the start, the rest of the range from the place on is what the range is. Assumes nothing.
 use borrow.Author.Needs.{needs}
-use native.Mathlib.Omega.{arith}
 use mathlib.Core.Path.{_≡_, refl, _∙_}
 use Prim.Native.Nat.{_-_, _≤_}
-use denote.Ref.{now}
 use lib.ListN.{length}
 use Rattle.format.specs.Utf8.{trimStart}
 use Rattle.trim.specs.Span.{part}

@@ -1,5 +1,4 @@
 -- By the tests that led there. Assumes nothing.
-use native.Mathlib.Omega.{arith}
 use borrow.Author.Tests.{eq-eqb, ne-eqb, lt-ltb, le-ltb}
 use Rattle.trim.specs.WhiteSpace.{shownWhite}
 use Rattle.trim.proofs.shown_white.Statement.{statement}

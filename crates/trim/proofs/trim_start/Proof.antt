@@ -1,6 +1,5 @@
 -- The range is clipped, and what is White_Space at its start is passed over. Assumes nothing.
 use borrow.Author.Needs.{needs}
-use native.Mathlib.Omega.{arith}
 use Prim.Native.Nat.{_≤_}
 use denote.Ref.{now}
 use lib.ListN.{length}

@@ -1,11 +1,11 @@
 -- The text is blank from the place on. Assumes nothing.
 use borrow.Author.Needs.{needs}
 use native.Mathlib.Omega.{arith}
-use mathlib.Core.Path.{_≡_, refl, sym, ap, _∙_}
+use mathlib.Core.Path.{_≡_, sym, _∙_}
 use mathlib.Core.Bool.{true}
-use Prim.Native.Nat.{ℕ, _+_, _-_, _≤_, _<_}
+use Prim.Native.Nat.{_-_, _≤_, _<_}
 use denote.Ref.{now}
-use lib.ListN.{length, drop}
+use lib.ListN.{length}
 use Rattle.trim.proofs.TrimLaws.{blankAt, blank-end, back-stop, back-on}
 use Rattle.trim.proofs.white_end.Statement.{statement}
 use Rattle.trim.proofs.white_end.Tie as tie

@@ -1,7 +1,7 @@
 -- A row of the table for each test that held. Assumes nothing.
 use borrow.Author.Needs.{needs}
-use borrow.Author.Tests.{lt-ltb, le-ltb, eq-eqb, ne-eqb}
-use mathlib.Core.Path.{_∙_, sym}
+use borrow.Author.Tests.{lt-ltb, le-ltb}
+use mathlib.Core.Path.{_∙_}
 use Rattle.utf8.specs.Utf8.{firstByte}
 use Rattle.utf8.proofs.first_byte.Statement.{statement}
 use Rattle.utf8.proofs.first_byte.Tie as tie

@@ -1,6 +1,6 @@
 -- A row of the table for each test that held. Assumes nothing.
 use borrow.Author.Needs.{needs}
-use borrow.Author.Tests.{lt-ltb, le-ltb, eq-eqb, ne-eqb}
+use borrow.Author.Tests.{eq-eqb, ne-eqb}
 use mathlib.Core.Path.{_∙_, sym}
 use Rattle.utf8.proofs.TableLaws.{row-three}
 use Rattle.utf8.proofs.first_of_three.Statement.{statement}

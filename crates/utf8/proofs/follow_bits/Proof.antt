@@ -1,10 +1,10 @@
 -- What is left to follow after k bytes gives what all of them give. Assumes nothing.
 use native.Mathlib.Omega.{arith}
-use mathlib.Core.Path.{_≡_, refl, _∙_}
+use mathlib.Core.Path.{_≡_, _∙_}
 use mathlib.Core.Logic.{inl, inr}
-use Prim.Native.Nat.{ℕ, _+_, _-_, _*_, _≤_, _<_}
+use Prim.Native.Nat.{_+_, _-_, _*_, _≤_, _<_}
 use denote.Ref.{now}
-use lib.ListN.{length, drop, getD}
+use lib.ListN.{drop, getD}
 use Rattle.format.specs.Utf8.{follow}
 use Rattle.utf8.proofs.CharLaws.{room, room-more, room-small, follow-short, follow-none, follow-more, follow-all}
 use Rattle.utf8.proofs.follow_bits.Statement.{statement}

@@ -1,8 +1,7 @@
 -- The bytes passed are at most the largest kept. Assumes nothing.
 use native.Mathlib.Omega.{arith}
-use mathlib.Core.Path.{_≡_, refl, sym, ap, _∙_}
 use mathlib.Core.Logic.{⊎-elim}
-use Prim.Native.Nat.{ℕ, _+_, _≤_, _<_, _-_}
+use Prim.Native.Nat.{_+_, _≤_, _-_}
 use lib.ListN.{getD}
 use denote.Ref.{now}
 use borrow.Author.Tests.{ltb-true}

@@ -1,11 +1,10 @@
 -- A byte more each turn. Assumes nothing.
 use borrow.Author.Needs.{needs}
 use native.Mathlib.Omega.{arith}
-use mathlib.Core.Path.{_≡_, sym, _∙_}
+use mathlib.Core.Path.{_∙_}
 use mathlib.Core.Logic.{inl, inr}
-use Prim.Native.Nat.{ℕ, _+_, _-_, _≤_, _<_}
+use Prim.Native.Nat.{_-_}
 use denote.Ref.{now}
-use Rattle.object.specs.Texts.{textByte}
 use Rattle.object.proofs.SpanLaws.{each-none, each-more}
 use Rattle.word_chars.specs.Stretches.{Other, Clear}
 use Rattle.word_chars.proofs.clear_head.Statement.{statement}

@@ -1,7 +1,4 @@
-use native.Mathlib.Omega.{arith}
-use mathlib.Core.Path.{_≡_, refl}
-use Prim.Native.Nat.{ℕ}
-use Rattle.object.specs.Texts.{EachIn}
+use mathlib.Core.Path.{refl}
 use Rattle.object.proofs.Tests.{clash}
 use Rattle.word_chars.proofs.is_clear.Statement.{statement}
 use Rattle.word_chars.proofs.is_clear.Tie as tie

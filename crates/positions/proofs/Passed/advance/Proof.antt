@@ -2,13 +2,11 @@ use borrow.Author.Needs.{needs}
 use native.Mathlib.Omega.{arith}
 use mathlib.Core.Path.{_≡_, refl, sym, ap, _∙_}
 use mathlib.Core.Logic.{inl, inr, ⊎-elim}
-use mathlib.Core.List.{List}
 use Prim.Native.Nat.{ℕ, _+_, _-_, _≤_, _<_}
-use lib.ListN.{length, drop, getD}
+use lib.ListN.{length, drop}
 use denote.Ref.{now}
 use Rattle.object.specs.Texts.{textBytes}
 use Rattle.source_info.specs.Passing.{posFrom}
-use Rattle.positions.specs.Pairs.{Passes}
 use Rattle.source_info.proofs.LineLaws.{pos-other, pos-next}
 use Rattle.word_chars.proofs.CharLaws.{byte-is, size-is}
 use Rattle.positions.proofs.Passed.advance.Statement.{statement}

@@ -1,7 +1,7 @@
 use borrow.Author.Needs.{needs}
 use native.Mathlib.Omega.{arith}
 use mathlib.Core.Path.{_≡_, refl}
-use Prim.Native.Nat.{_-_, _≤_}
+use Prim.Native.Nat.{_-_}
 use lib.ListN.{length, length-set}
 use Rattle.replay.proofs.line.read_line.Statement.{statement}
 use Rattle.replay.proofs.line.read_line.Tie as tie
