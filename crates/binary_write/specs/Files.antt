@@ -4,7 +4,7 @@ use mathlib.Core.List.{List, [], _∷_, _++_, flatMap, reverse}
 use Prim.Native.Nat.{ℕ, _+_, _%_, _^_, _≤_}
 use lib.ListN.{length}
 use lib.Dec.{eqb}
-use Rattle.format.specs.Basics.{Outcome, given, ask, if_then_else_}
+use Rattle.format.specs.Basics.{Outcome, given, _>>=_, ask, if_then_else_}
 use Rattle.format.specs.ObjectFile.{Label, Relocation}
 use Rattle.format.specs.Records.{Record, block, label, lineBlock, source, relocation, recordsOf}
 use Rattle.format.specs.Words.{objectOf, flagBit}

@@ -6,7 +6,7 @@ use mathlib.Core.Option.{Option, none, some}
 use Prim.Native.Nat.{ℕ, _+_, _*_}
 use lib.ListN.{length, take, drop}
 use lib.Dec.{leb, eqb}
-use Rattle.format.specs.Basics.{Outcome, refused, given, ask, if_then_else_, every, beginsWith}
+use Rattle.format.specs.Basics.{Outcome, refused, given, _>>=_, ask, if_then_else_, every, beginsWith}
 use Rattle.format.specs.Digits.{valueOf, digitsOf}
 use Rattle.format.specs.Tokens.{tokens}
 use Rattle.format.specs.Utf8.{isUtf8}
