@@ -305,16 +305,18 @@ fn is_four_wide(s: &[u8], at: usize) -> bool
     s[at + 3] != 0x7C
 }
 
-// The first two cells of a row, where they lie.
+// The first two cells of a row, from `start` up to `end` and from `from` up to `to`: four numbers, which stay in registers.
 pub struct Cells {
-    pub first: Span,
-    pub second: Span,
+    pub start: usize,
+    pub end: usize,
+    pub from: usize,
+    pub to: usize,
 }
 
 // The first two cells of a row that is cut at its first two dividers at most, trimmed: at once where each is four bytes wide.
 pub fn trimmed_cells(s: &[u8]) -> Cells
-    ensures { λ r. ⌜ Spans (now (s .entry)) (r .first .start) (r .first .end) (trim (getD (splitn 2 (now (s .entry))) 0 []))
-        × Spans (now (s .entry)) (r .second .start) (r .second .end) (trim (getD (splitn 2 (now (s .entry))) 1 [])) ⌝ }
+    ensures { λ r. ⌜ Spans (now (s .entry)) (r .start) (r .end) (trim (getD (splitn 2 (now (s .entry))) 0 []))
+        × Spans (now (s .entry)) (r .from) (r .to) (trim (getD (splitn 2 (now (s .entry))) 1 [])) ⌝ }
 {
     if 14 <= s.len() {
         if is_four_wide(s, 0) {
@@ -322,8 +324,10 @@ pub fn trimmed_cells(s: &[u8]) -> Cells
                 let a = trim(s, 0, 4);
                 let b = trim(s, 7, 11);
                 return Cells {
-                    first: a,
-                    second: b,
+                    start: a.start,
+                    end: a.end,
+                    from: b.start,
+                    to: b.end,
                 };
             }
         }
@@ -331,8 +335,10 @@ pub fn trimmed_cells(s: &[u8]) -> Cells
     let a = trimmed_cell(s, 2, 0);
     let b = trimmed_cell(s, 2, 1);
     Cells {
-        first: a,
-        second: b,
+        start: a.start,
+        end: a.end,
+        from: b.start,
+        to: b.end,
     }
 }
 

@@ -52,12 +52,12 @@ pub enum Piece {
 }
 
 // The cursor at the next byte of the source column, of whatever cell: a way that stays out of the fast one.
-fn find_piece(t: &[u8], c: Source) -> Piece
-    ensures { λ r. ⌜ NextPiece (now (t .entry)) c r ⌝ }
+fn find_piece(t: &[u8], from: usize, to: usize, line: usize) -> Piece
+    ensures { λ r. ⌜ NextPiece (now (t .entry)) (record { at = from; end = to; next = line }) r ⌝ }
 {
-    let mut at = c.at;
-    let mut end = at_most(c.end, t.len());
-    let mut next = c.next;
+    let mut at = from;
+    let mut end = at_most(to, t.len());
+    let mut next = line;
     loop {
         if at < end {
             return Piece::At(Source {
@@ -88,10 +88,10 @@ fn next_piece(t: &[u8], c: Source) -> Piece
     let at = c.at;
     let end = c.end;
     if end <= at {
-        return find_piece(t, c);
+        return find_piece(t, at, end, c.next);
     }
     if t.len() < end {
-        return find_piece(t, c);
+        return find_piece(t, at, end, c.next);
     }
     Piece::At(c)
 }
@@ -293,23 +293,30 @@ fn plain_end(t: &[u8], at: usize, end: usize) -> usize
     i
 }
 
-// The next part of the unescaped source: what stands as it is in one go.
-pub fn next_token(t: &[u8], c: Source) -> Token
-    ensures { λ r. ⌜ NextToken (now (t .entry)) c r ⌝ }
+// The next part of the unescaped source: what stands as it is in one go. The cursor comes as three numbers, which stay in registers.
+pub fn next_token(t: &[u8], at: usize, end: usize, next: usize) -> Token
+    ensures { λ r. ⌜ NextToken (now (t .entry)) (record { at = at; end = end; next = next }) r ⌝ }
 {
-    let Piece::At(d) = next_piece(t, c) else {
+    let Piece::At(d) = next_piece(
+        t,
+        Source {
+            at: at,
+            end: end,
+            next: next,
+        },
+    ) else {
         return Token::Done;
     };
-    let at = d.at;
-    let end = d.end;
-    let plain = plain_end(t, at, end);
-    if at < plain {
+    let from = d.at;
+    let to = d.end;
+    let plain = plain_end(t, from, to);
+    if from < plain {
         return Token::Stretch(
-            at,
+            from,
             plain,
             Source {
                 at: plain,
-                end: end,
+                end: to,
                 next: d.next,
             },
         );
@@ -346,7 +353,7 @@ pub fn unescape(t: &[u8], c: Source) -> Unescaped
     let mut cur = c;
     let mut n = 0;
     loop {
-        let token = next_token(t, cur);
+        let token = next_token(t, cur.at, cur.end, cur.next);
         match token {
             Token::Plain(_, d) => {
                 n = wrapping_add_usize(n, 1);

@@ -560,13 +560,13 @@ pub fn parse_line_row(l: &[u8]) -> LineRow
     ensures { λ r. ⌜ lineOf r ≡ lineIn (now (l .entry)) ⌝ }
 {
     let cells = trimmed_cells(l);
-    let c_start = cells.first.start;
-    let c_end = cells.first.end;
+    let c_start = cells.start;
+    let c_end = cells.end;
     let Number::Value(n) = decimal(&l[c_start..c_end], 0xFFFF_FFFF_FFFF_FFFF) else {
         return LineRow::Bad;
     };
-    let d_start = cells.second.start;
-    let d_end = cells.second.end;
+    let d_start = cells.from;
+    let d_end = cells.to;
     match maybe_hex2u16(&l[d_start..d_end]) {
         Entry::Value(a) => LineRow::Known(n, a),
         Entry::Unknown => LineRow::Unknown(n),

@@ -14,10 +14,10 @@ use Rattle.text_source.proofs.find_piece.Statement.{statement}
 use Rattle.text_source.proofs.find_piece.Tie as tie
 
 abbrev Inv-loop : tie.InvT-loop
-Inv-loop t at₀ end₀ next₀ at end next = (end ≤ length t) × (part at end t ++ sourceFrom t next ≡ part at₀ end₀ t ++ sourceFrom t next₀)
+Inv-loop t from to on at₀ end₀ next₀ at end next = (end ≤ length t) × (part at end t ++ sourceFrom t next ≡ part at₀ end₀ t ++ sourceFrom t next₀)
 
 abbrev μ-loop : tie.MeasureT-loop
-μ-loop t at₀ end₀ next₀ at end next = length t - next
+μ-loop t from to on at₀ end₀ next₀ at end next = length t - next
 
 line : (c : tie.After-start Inv-loop μ-loop) → StepAt (lineView (now (c .before .before .before .before .before .before .before .args .t))) (now (c .before .before .before .before .before .before .before .args .t)) (c .before .before .before .before .loop .next) (c .start .given .0 .0) (c .start .given .0 .1 .0) (c .start .given .0 .1 .1 .0)
 line c = subst (NextIn (lineView (now (c .before .before .before .before .before .before .before .args .t))) (now (c .before .before .before .before .before .before .before .args .t)) (c .before .before .before .before .loop .next)) (c .start .given .1) (c .before .before .next-source-line .ensures)
@@ -27,17 +27,17 @@ start : (t : List ℕ) (at end next e : ℕ) → e ≡ atMost end (length t) →
 start t at end next e q = ap (λ (p : List ℕ). p ++ sourceFrom t next) (sym (part-most t at end) ∙ ap (λ (x : ℕ). part at x t) (sym q))
 
 loop-holds : tie.Need-loop-holds Inv-loop μ-loop
-loop-holds c = (subst (λ (x : ℕ). x ≤ length (now (c .before .before .args .t))) (sym (c .at-most .ensures)) (at-most (c .before .before .args .c .end) (length (now (c .before .before .args .t)))), refl)
+loop-holds c = (subst (λ (x : ℕ). x ≤ length (now (c .before .before .args .t))) (sym (c .at-most .ensures)) (at-most (c .before .before .args .to) (length (now (c .before .before .args .t)))), refl)
 
 returns : tie.Need-returns Inv-loop μ-loop
 returns c =
     let a = c .before .before .before .before .args in
     let l = c .before .loop in
-    (start (now (a .t)) (a .c .at) (a .c .end) (a .c .next) _ (c .before .before .at-most .ensures) ∙ sym (l .inv .1), c .if1 .taken, l .inv .0)
+    (start (now (a .t)) (a .from) (a .to) (a .line) _ (c .before .before .at-most .ensures) ∙ sym (l .inv .1), c .if1 .taken, l .inv .0)
 
 returns-2 : tie.Need-returns-2 Inv-loop μ-loop
 returns-2 c = let a = c .before .before .before .before .before .before .before .args in
-    start (now (a .t)) (a .c .at) (a .c .end) (a .c .next) _ (c .before .before .before .before .before .at-most .ensures) ∙ byte-none _ _ _ _ _ (c .before .before .before .before .loop .inv .1) (c .before .before .before .if1 .left) (subst (NextIn (lineView (now (c .before .before .before .before .before .before .before .args .t))) (now (c .before .before .before .before .before .before .before .args .t)) (c .before .before .before .before .loop .next)) (c .enum-told .given .1) (c .before .before .next-source-line .ensures))
+    start (now (a .t)) (a .from) (a .to) (a .line) _ (c .before .before .before .before .before .at-most .ensures) ∙ byte-none _ _ _ _ _ (c .before .before .before .before .loop .inv .1) (c .before .before .before .if1 .left) (subst (NextIn (lineView (now (c .before .before .before .before .before .before .before .args .t))) (now (c .before .before .before .before .before .before .before .args .t)) (c .before .before .before .before .loop .next)) (c .enum-told .given .1) (c .before .before .next-source-line .ensures))
 
 sub-source-cell : tie.Need-sub-source-cell Inv-loop μ-loop
 sub-source-cell c = omega (arith, line (c .before) .ordered)

@@ -12,15 +12,19 @@ use Rattle.text_source.proofs.UnescapeLaws.{token-stretch, token-same}
 use Rattle.text_source.proofs.next_token.Statement.{statement}
 use Rattle.text_source.proofs.next_token.Tie as tie
 
-piece : (c : tie.After-d) → NextPiece (now (c .before .before .before .before .args .t)) (c .before .before .before .before .args .c) (pc.At (c .d .given .0 .0))
+-- the cursor that the numbers are
+abbrev cursor : tie.Start → Source
+cursor c = record { at = c .args .at; end = c .args .end; next = c .args .next }
+
+piece : (c : tie.After-d) → NextPiece (now (c .before .before .before .before .args .t)) (cursor (c .before .before .before .before)) (pc.At (c .d .given .0 .0))
 piece c =
-    let a = c .before .before .before .before .args in
-    subst (NextPiece (now (a .t)) (a .c)) (c .d .given .1) (c .before .before .next-piece .ensures)
+    let s = c .before .before .before .before in
+    subst (NextPiece (now (s .args .t)) (cursor s)) (c .d .given .1) (c .before .before .next-piece .ensures)
 
 returns : tie.Need-returns
 returns c =
-    let a = c .before .before .before .before .args in
-    subst (NextPiece (now (a .t)) (a .c)) (c .enum-told .given .1) (c .before .before .next-piece .ensures)
+    let s = c .before .before .before .before in
+    subst (NextPiece (now (s .args .t)) (cursor s)) (c .enum-told .given .1) (c .before .before .next-piece .ensures)
 
 returns-2 : tie.Need-returns-2
 returns-2 c =
@@ -29,14 +33,14 @@ returns-2 c =
     let d : Source = k .d .given .0 .0 in
     let q = piece k in
     let p = c .before .plain-end .ensures (c .if1 .taken) in
-    token-same t (k .before .before .before .before .args .c) d (q .0)
+    token-same t (cursor (k .before .before .before .before)) d (q .0)
     (tk.Stretch (d .at) (c .before .plain-end .result) (record { at = c .before .plain-end .result; end = d .end; next = d .next }))
     (token-stretch t d (d .end) (c .before .plain-end .result) (most-same (d .end) (length t) (q .2)) (c .if1 .taken) (p .0) (p .1))
 
 returns-3 : tie.Need-returns-3
 returns-3 c =
     let k = c .before .before .before .before in
-    token-same (now (k .before .before .before .before .args .t)) (k .before .before .before .before .args .c) (k .d .given .0 .0) (piece k .0)
+    token-same (now (k .before .before .before .before .args .t)) (cursor (k .before .before .before .before)) (k .d .given .0 .0) (piece k .0)
     (c .one-token .result) (c .one-token .ensures)
 
 pub next-token-spec : {M : Type 1} → statement M
