@@ -2,7 +2,7 @@
 use binary_sizes::has_room;
 use binary_sizes::keeps_relocations;
 use binary_words::has_source;
-use bytes_at::part_at;
+use bytes_at::bytes_at;
 use bytes_at::u16_at;
 use bytes_at::u64_at;
 use gather::Found;
@@ -36,11 +36,9 @@ fn put_block(out: &mut [u32], s: &[u8], p: usize) -> usize
     requires { ⌜ length (wordsAt 0 (now s) p) ≤ length (now out) ⌝ }
     ensures { λ r. ⌜ Put (wordsAt 0 (now (s .entry)) p) (now (out .entry)) r (now (out .exit)) ⌝ }
 {
-    let b = part_at(s, p, 5, 3 * u16_at(s, p, 3) as u64);
-    let from = b.from;
-    let to = b.to;
+    let body = bytes_at(s, p, 5, 3 * u16_at(s, p, 3) as u64);
     let mut at = put_word(out, u16_at(s, p, 1) as u32);
-    at += put_memory_words(&mut out[at..], &s[from..to]);
+    at += put_memory_words(&mut out[at..], body);
     at
 }
 
@@ -49,12 +47,10 @@ fn put_label(out: &mut [u32], s: &[u8], p: usize) -> usize
     requires { ⌜ length (wordsAt 1 (now s) p) ≤ length (now out) ⌝ }
     ensures { λ r. ⌜ Put (wordsAt 1 (now (s .entry)) p) (now (out .entry)) r (now (out .exit)) ⌝ }
 {
-    let b = part_at(s, p, 20, u64_at(s, p, 12));
-    let from = b.from;
-    let to = b.to;
+    let body = bytes_at(s, p, 20, u64_at(s, p, 12));
     let mut at = put_word(out, label_head(s, p));
     at += put_number_words(&mut out[at..], u64_at(s, p, 4));
-    at += put_text_words(&mut out[at..], &s[from..to]);
+    at += put_text_words(&mut out[at..], body);
     at
 }
 
@@ -63,12 +59,10 @@ fn put_lines(out: &mut [u32], s: &[u8], p: usize) -> usize
     requires { ⌜ length (wordsAt 2 (now s) p) ≤ length (now out) ⌝ }
     ensures { λ r. ⌜ Put (wordsAt 2 (now (s .entry)) p) (now (out .entry)) r (now (out .exit)) ⌝ }
 {
-    let b = part_at(s, p, 11, 2 * u16_at(s, p, 9) as u64);
-    let from = b.from;
-    let to = b.to;
+    let body = bytes_at(s, p, 11, 2 * u16_at(s, p, 9) as u64);
     let mut at = put_word(out, 0x6000_0000);
     at += put_number_words(&mut out[at..], u64_at(s, p, 1));
-    at += put_address_words(&mut out[at..], &s[from..to]);
+    at += put_address_words(&mut out[at..], body);
     at
 }
 
@@ -77,11 +71,9 @@ fn put_relocation(out: &mut [u32], s: &[u8], p: usize) -> usize
     requires { ⌜ length (wordsAt 4 (now s) p) ≤ length (now out) ⌝ }
     ensures { λ r. ⌜ Put (wordsAt 4 (now (s .entry)) p) (now (out .entry)) r (now (out .exit)) ⌝ }
 {
-    let b = part_at(s, p, 11, u64_at(s, p, 3));
-    let from = b.from;
-    let to = b.to;
+    let body = bytes_at(s, p, 11, u64_at(s, p, 3));
     let mut at = put_word(out, relocation_head(s, p));
-    at += put_text_words(&mut out[at..], &s[from..to]);
+    at += put_text_words(&mut out[at..], body);
     at
 }
 
@@ -200,10 +192,8 @@ fn put_chunks(out: &mut [u32], s: &[u8], held: &mut [u8]) -> usize
             at += put_text_words(&mut out[at..], &held[0..n]);
             return at;
         };
-        let b = part_at(s, p, 9, u64_at(s, p, 1));
-        let from = b.from;
-        let to = b.to;
-        let c = put_chunk(&mut out[at..], &s[from..to], held, n);
+        let chunk = bytes_at(s, p, 9, u64_at(s, p, 1));
+        let c = put_chunk(&mut out[at..], chunk, held, n);
         at += c.at;
         n = c.count;
         place = next;

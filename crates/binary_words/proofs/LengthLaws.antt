@@ -14,7 +14,6 @@ use Rattle.format.specs.Words.{numberWords, textWords, recordWords, memoryWord}
 use Rattle.format.specs.Binary.{bytesAt, numberAt, memoriesFrom, addressesFrom}
 use Rattle.format.proofs.ListLaws.{by-test, flatMap-length}
 use Rattle.gather.specs.Places.{bytesAfter, places, placesOf, keyAt}
-use Rattle.bytes_at.specs.Part.{PartOf}
 use Rattle.gather.specs.Order.{HandsOut}
 use Rattle.gather.proofs.WindowLaws.{by-order, upsert-below, upsert-same, upsert-above}
 use Rattle.gather.proofs.WalkLaws.{after-0, after-1, after-2, after-4}
@@ -221,10 +220,6 @@ module _ (kind : ℕ) (s found now ps rest : List ℕ) (n : ℕ) (h : HandsOut p
 
   pub handed-less : 0 < n → length rest < length ps
   handed-less l = omega (arith, ap length (h .others), length-drop n ps, h .windowed .count, length-take (length found) ps)
-
--- a part's length
-pub part-length : (s : List ℕ) (at n from to : ℕ) → PartOf s at n from to → to - from ≡ length (bytesAt at n s)
-part-length s at n from to p = omega (arith, ap length (p .holds), length-take (to - from) (drop from s), length-drop from s, p .ordered, p .inside)
 
 -- place by place
 module _ (kind : ℕ) (s win : List ℕ) (n i : ℕ) where

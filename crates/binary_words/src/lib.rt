@@ -1,5 +1,5 @@
 // The words of the records of a binary file, part by part.
-use bytes_at::part_at;
+use bytes_at::bytes_at;
 use bytes_at::u16_at;
 use bytes_at::u64_at;
 use gather::Found;
@@ -25,19 +25,15 @@ fn body_length(s: &[u8], kind: u8, p: usize) -> usize
     ensures { λ r. ⌜ r ≡ bodyLength kind (now (s .entry)) p ⌝ }
 {
     if kind == 0 {
-        let b = part_at(s, p, 5, 3 * u16_at(s, p, 3) as u64);
-        return b.to - b.from;
+        return bytes_at(s, p, 5, 3 * u16_at(s, p, 3) as u64).len();
     }
     if kind == 1 {
-        let b = part_at(s, p, 20, u64_at(s, p, 12));
-        return b.to - b.from;
+        return bytes_at(s, p, 20, u64_at(s, p, 12)).len();
     }
     if kind == 2 {
-        let b = part_at(s, p, 11, 2 * u16_at(s, p, 9) as u64);
-        return b.to - b.from;
+        return bytes_at(s, p, 11, 2 * u16_at(s, p, 9) as u64).len();
     }
-    let b = part_at(s, p, 11, u64_at(s, p, 3));
-    b.to - b.from
+    bytes_at(s, p, 11, u64_at(s, p, 3)).len()
 }
 
 // How many words the record of a kind at a place has.
@@ -221,8 +217,7 @@ fn chunks_length(s: &[u8]) -> usize
         let Found::At(p, next) = next_place(s, 3, at) else {
             return sum;
         };
-        let b = part_at(s, p, 9, u64_at(s, p, 1));
-        sum += b.to - b.from;
+        sum += bytes_at(s, p, 9, u64_at(s, p, 1)).len();
         at = next;
     }
 }

@@ -1,17 +1,10 @@
-// Numbers and parts of an input at its places, for every place: of bytes past the end of the input there are none.
+// Numbers and bytes of an input at its places, for every place: of bytes past the end of the input there are none.
 ghost use mathlib.Core.Path.{_≡_};
 ghost use Prim.Native.Nat.{_+_, _^_, _≤_, _<_, min};
 ghost use lib.ListN.{length};
 ghost use lib.Dec.{leb};
 ghost use Rattle.format.specs.Digits.{valueOf};
-ghost use Rattle.format.specs.Binary.{numberAt};
-ghost use Rattle.bytes_at.specs.Part.{PartOf};
-
-// A part of the input: where it starts and ends.
-pub struct Part {
-    pub from: usize,
-    pub to: usize,
-}
+ghost use Rattle.format.specs.Binary.{bytesAt, numberAt};
 
 // The number whose bytes are `s`, low byte first.
 fn value_le(s: &[u8]) -> u64
@@ -134,11 +127,11 @@ pub fn u64_at(s: &[u8], p: usize, k: usize) -> u64
     clipped_value(s, p, k, 8)
 }
 
-// The n bytes k bytes past a place.
-pub fn part_at(s: &[u8], p: usize, k: usize, n: u64) -> Part
-    ensures { λ r. ⌜ PartOf (now (s .entry)) (p + k) n (r .from) (r .to) ⌝ }
+// The n bytes k bytes past a place, less those that are not there.
+pub fn bytes_at<'a>(s: &'a [u8], p: usize, k: usize, n: u64) -> &'a [u8]
+    ensures { λ r. ⌜ now r ≡ bytesAt (p + k) n (now (s .entry)) ⌝ }
 {
     let a = offset(s, p, k);
     let e = end_of(s, a, n);
-    Part { from: a, to: e }
+    &s[a..e]
 }

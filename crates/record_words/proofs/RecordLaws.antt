@@ -18,7 +18,6 @@ use Rattle.writing.proofs.WriteLaws.{filled-fits, written-fits}
 use Rattle.writing.proofs.Parts.{State, Emits, rest, has-room}
 use Rattle.writing.proofs.TextLaws.{firstWord, word-three, words-at}
 use borrow.Rule.Slice.PartAt.{part-to-end}
-use Rattle.bytes_at.specs.Part.{PartOf}
 use Rattle.binary_words.specs.RecordAt.{wordsAt}
 use Rattle.binary_words.proofs.LengthLaws.{memories-length, addresses-length}
 use Rattle.record_words.specs.OneWord.{memoryOfBytes, textWordOf, labelHead, relocationHead}
@@ -146,31 +145,28 @@ module _ (s : List ℕ) (p : ℕ) (fits : (k : ℕ) → getD s k 0 < 256) where
   head-external e = rw (ne-eqb (numberAt (p + 3) 1 s) 0 (λ z. e (flag-byte ∙ z))) (omega arith)
 
 -- RECORDS, part by part, by what a writer has read of them
-module _ (s : List ℕ) (p from to : ℕ) where
-  abbrev body : List ℕ
-  body = take (to - from) (drop from s)
-
-  pub block-parts : (h n : ℕ) → h ≡ numberAt (p + 1) 2 s → n ≡ numberAt (p + 3) 2 s → PartOf s (p + 5) (3 * n) from to
+module _ (s : List ℕ) (p : ℕ) (body : List ℕ) where
+  pub block-parts : (h n : ℕ) → h ≡ numberAt (p + 1) 2 s → n ≡ numberAt (p + 3) 2 s → body ≡ bytesAt (p + 5) (3 * n) s
       → wordsAt 0 s p ≡ (h ∷ []) ++ (memoryWords body ++ [])
   unfolding wordsAt recordWords
   block-parts h n eh en q =
-      rw (append-nil (memoryWords body), q .holds, en, eh)
+      rw (append-nil (memoryWords body), q, en, eh)
       (ap (λ (w : ℕ). w ∷ memoryWords (bytesAt (p + 5) (3 * numberAt (p + 3) 2 s) s)) (zero-add (numberAt (p + 1) 2 s)))
 
-  pub label-parts : (h n : ℕ) → h ≡ labelHead s p → n ≡ numberAt (p + 12) 8 s → PartOf s (p + 20) n from to
+  pub label-parts : (h n : ℕ) → h ≡ labelHead s p → n ≡ numberAt (p + 12) 8 s → body ≡ bytesAt (p + 20) n s
       → wordsAt 1 s p ≡ (h ∷ []) ++ (numberWords (numberAt (p + 4) 8 s) ++ (textWords body ++ []))
   unfolding wordsAt recordWords
-  label-parts h n eh en q = rw (append-nil (textWords body), q .holds, en, eh) refl
+  label-parts h n eh en q = rw (append-nil (textWords body), q, en, eh) refl
 
-  pub lines-parts : (n : ℕ) → n ≡ numberAt (p + 9) 2 s → PartOf s (p + 11) (2 * n) from to
+  pub lines-parts : (n : ℕ) → n ≡ numberAt (p + 9) 2 s → body ≡ bytesAt (p + 11) (2 * n) s
       → wordsAt 2 s p ≡ (0x6000_0000 ∷ []) ++ (numberWords (numberAt (p + 1) 8 s) ++ (addressWords body ++ []))
   unfolding wordsAt recordWords
-  lines-parts n en q = rw (append-nil (addressWords body), q .holds, en) refl
+  lines-parts n en q = rw (append-nil (addressWords body), q, en) refl
 
-  pub relocation-parts : (h n : ℕ) → h ≡ relocationHead s p → n ≡ numberAt (p + 3) 8 s → PartOf s (p + 11) n from to
+  pub relocation-parts : (h n : ℕ) → h ≡ relocationHead s p → n ≡ numberAt (p + 3) 8 s → body ≡ bytesAt (p + 11) n s
       → wordsAt 4 s p ≡ (h ∷ []) ++ (textWords body ++ [])
   unfolding wordsAt recordWords
-  relocation-parts h n eh en q = rw (append-nil (textWords body), q .holds, en, eh) refl
+  relocation-parts h n eh en q = rw (append-nil (textWords body), q, en, eh) refl
 
 -- a kind without records
 pub other-words : (k : ℕ) (s : List ℕ) (p : ℕ) → (k ≡ 0 → ⊥) → (k ≡ 1 → ⊥) → (k ≡ 2 → ⊥) → (k ≡ 4 → ⊥) → wordsAt k s p ≡ []

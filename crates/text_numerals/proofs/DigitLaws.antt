@@ -12,6 +12,7 @@ use mathlib.Core.List.{_++_}
 use Rattle.format.specs.Digits.{digitsOf}
 use Rattle.format.specs.TextWriter.{upperDigit, lowerDigit, numeral, hex4, decimal, spaces, toRight}
 use Rattle.writing.specs.Written.{Put}
+use Rattle.writing.proofs.WriteLaws.{stored as stored-part}
 
 numeral-on : (k base v : ℕ) (ds : List ℕ) → base ≤ v → numeral (suc k) base v ds ≡ numeral k base (v / base) (lowerDigit (v % base) ∷ ds)
 unfolding numeral

@@ -28,7 +28,7 @@ abbrev μ-loop : tie.MeasureT-loop
 μ-loop out₀ s held₀ at₀ n₀ place₀ out held at n place = length s - place
 
 abbrev Taken : Type 0
-Taken = tie.After-part-at Inv-loop μ-loop
+Taken = tie.After-bytes-at Inv-loop μ-loop
 
 abbrev bytes : Taken → List ℕ
 bytes c = now (c .before .before .before .before .before .before .before .before .before .before .args .s)
@@ -37,7 +37,7 @@ abbrev front : Taken → List ℕ
 front c = take (c .before .before .before .before .before .before .loop .n) (c .before .before .before .before .before .before .loop .held)
 
 abbrev chunk : Taken → List ℕ
-chunk c = take (c .part-at .result .to - c .part-at .result .from) (drop (c .part-at .result .from) (bytes c))
+chunk c = now (c .bytes-at .result)
 
 abbrev others : Taken → List ℕ
 others c = flatMap (chunkAt (bytes c)) (placesFrom 3 (bytes c) (c .before .before .before .p .given .0 .1 .0))
@@ -56,13 +56,13 @@ next c =
     let s = bytes c in
     let l = m .before .loop in
     let f = found-next 3 s (l .place) (m .next-place .result) (m .next-place .ensures .0) (g .0 .0) (g .0 .1 .0) (g .1) in
-    let e : chunk c ≡ chunkAt s (g .0 .0) = c .part-at .ensures .holds
+    let e : chunk c ≡ chunkAt s (g .0 .0) = c .bytes-at .ensures
     ∙ ap (λ (j : ℕ). bytesAt (g .0 .0 + 9) j s) (c .before .u64-at .ensures) in
     chunk-next (front c) (chunk c) (others c) (flatMap (chunkAt s) (placesFrom 3 s (l .place)))
     (chunks-first s (l .place) (g .0 .0) (g .0 .1 .0) f ∙ ap (λ (z : List ℕ). z ++ others c) (sym e))
 
 emits : (c : tie.After-put-chunk Inv-loop μ-loop) →
-    let q = c .before .before .before .before in
+    let q = c .before .before .before in
     Emits (textWords (chunksOf (bytes q)))
     (now (q .before .before .before .before .before .before .before .before .before .before .args .out)) (textWords (over q ++ others q))
     (after (record {
@@ -70,7 +70,7 @@ emits : (c : tie.After-put-chunk Inv-loop μ-loop) →
       out = q .before .before .before .before .before .before .loop .out;
     }) (c .put-chunk .result .at) (c .put-chunk .last .0))
 emits c =
-    let q = c .before .before .before .before in
+    let q = c .before .before .before in
     emit (q .before .before .before .before .before .before .loop .inv .2) (wholeWords (front q ++ chunk q))
     (textWords (over q ++ others q)) (next q) (c .put-chunk .ensures .put)
 
@@ -97,7 +97,7 @@ loop-holds c = (omega arith, c .before .before .before .pre .0, begin _ _ (c .be
 loop-again : tie.Need-loop-again Inv-loop μ-loop
 loop-again c =
     let p = c .before .before .before .before .before in
-    let q = p .before .before .before .before in (
+    let q = p .before .before .before in (
       p .put-chunk .ensures .few,
       p .put-chunk .kept .1 .1 .0 ∙ q .before .before .before .before .before .before .loop .inv .1,
       subst (λ (z : List ℕ). Emits (textWords (chunksOf (bytes q)))
@@ -112,7 +112,7 @@ loop-again c =
 
 loop-less : tie.Need-loop-less Inv-loop μ-loop
 loop-less c =
-    let q = c .before .before .before .before .before .before .before .before .before in
+    let q = c .before .before .before .before .before .before .before .before in
     let m = q .before .before .before .before .before in
     let g = q .before .before .before .p .given in
     omega (
@@ -123,7 +123,7 @@ loop-less c =
 
 put-chunk-requires : tie.Need-put-chunk-requires Inv-loop μ-loop
 put-chunk-requires c κs =
-    let q = c .before .before .before in
+    let q = c .before .before in
     let l = q .before .before .before .before .before .before .loop in
     (l .inv .1, l .inv .0, room-for (l .inv .2) (wholeWords (front q ++ chunk q)) (textWords (over q ++ others q)) (next q))
 
@@ -155,9 +155,6 @@ put-chunks-spec =
     (λ c. let e = c .before .before .before .before .before .before .loop .inv .2 in omega (arith, within e, same e))
     (λ c. within (c .before .before .before .before .before .before .loop .inv .2))
     (λ c. within (c .before .before .before .before .before .before .loop .inv .2))
-    (λ c. search needs)
-    (λ c. search needs)
-    (λ c. search needs)
     (λ c. search needs)
     put-chunk-requires
     (λ c. let e = emits (c .before .before .before .before .before) in omega (arith, within e, same e))

@@ -4,7 +4,6 @@ use mathlib.Core.Path.{refl, sym, ap}
 use mathlib.Core.List.{List, [], _∷_, _++_}
 use Prim.Native.Nat.{ℕ, _+_, _-_}
 use native.Mathlib.Omega.{arith}
-use lib.ListN.{take, drop}
 use denote.Ref.{now}
 use Rattle.format.specs.Words.{numberWords, textWords}
 use Rattle.format.specs.Binary.{numberAt}
@@ -25,7 +24,7 @@ abbrev start1 : tie.After-put-word → tie.Start
 start1 c = c .before .before .before .before .before .before .before
 
 abbrev body : tie.After-put-word → List ℕ
-body c = let q = c .before .before .before .part-at .result in take (q .to - q .from) (drop (q .from) (bytes (start1 c)))
+body c = now (c .before .before .before .bytes-at .result)
 
 abbrev left1 : tie.After-put-word → List ℕ
 left1 c = numberWords (numberAt (start1 c .args .p + 4) 8 (bytes (start1 c))) ++ (textWords (body c) ++ [])
@@ -36,9 +35,9 @@ state1 c = record { at = c .put-word .result; out = c .put-word .last .0 }
 emits1 : (c : tie.After-put-word) → Leaves (start1 c) (left1 c) (state1 c)
 emits1 c =
     let k = start1 c in
-    let q = c .before .before .before .part-at in
+    let q = c .before .before .before .bytes-at in
     first (_ ∷ []) (left1 c)
-    (label-parts (bytes k) (k .args .p) (q .result .from) (q .result .to) (c .before .label-head .result)
+    (label-parts (bytes k) (k .args .p) (body c) (c .before .label-head .result)
     (c .before .before .before .before .u64-at .result)
     (c .before .label-head .ensures) (c .before .before .before .before .u64-at .ensures) (q .ensures))
     (k .pre) (c .put-word .ensures)
@@ -56,13 +55,13 @@ emits2 c =
     (ap (λ (n : ℕ). numberWords n ++ more) (sym (v .ensures))) (c .put-number-words .ensures)
 
 abbrev state3 : tie.After-put-text-words → State ℕ
-state3 c = after (state2 (c .before .before .before .before .before)) (c .put-text-words .result) (c .put-text-words .last .0)
+state3 c = after (state2 (c .before .before .before .before)) (c .put-text-words .result) (c .put-text-words .last .0)
 
 emits3 : (c : tie.After-put-text-words)
-    → Leaves (start1 (c .before .before .before .before .before .before .before .before .before .before)) [] (state3 c)
+    → Leaves (start1 (c .before .before .before .before .before .before .before .before .before)) [] (state3 c)
 emits3 c =
-    emit (emits2 (c .before .before .before .before .before))
-    (textWords (body (c .before .before .before .before .before .before .before .before .before .before))) [] refl
+    emit (emits2 (c .before .before .before .before))
+    (textWords (body (c .before .before .before .before .before .before .before .before .before))) [] refl
     (c .put-text-words .ensures)
 
 pub put-label-spec : {M : Type 1} → statement M
@@ -83,9 +82,6 @@ put-label-spec =
     (λ c. let e = emits2 (c .before .before) in omega (arith, within e, same e))
     (λ c. within (emits2 (c .before .before)))
     (λ c. within (emits2 (c .before .before)))
-    (λ c. search needs)
-    (λ c. search needs)
-    (λ c. search needs)
     (λ c. search needs)
     (λ c κs. search needs)
     (λ c. let e = emits3 (c .before .before) in omega (arith, within e, same e))

@@ -4,7 +4,6 @@ use mathlib.Core.Path.{refl}
 use mathlib.Core.List.{List, [], _∷_, _++_}
 use Prim.Native.Nat.{ℕ, _-_}
 use native.Mathlib.Omega.{arith}
-use lib.ListN.{take, drop}
 use denote.Ref.{now}
 use Rattle.format.specs.Words.{textWords}
 use Rattle.writing.proofs.Parts.{State, Emits, after, emit, emitted, within, same}
@@ -24,7 +23,7 @@ abbrev start1 : tie.After-put-word → tie.Start
 start1 c = c .before .before .before .before .before .before .before
 
 abbrev body : tie.After-put-word → List ℕ
-body c = let q = c .before .before .before .part-at .result in take (q .to - q .from) (drop (q .from) (bytes (start1 c)))
+body c = now (c .before .before .before .bytes-at .result)
 
 abbrev left1 : tie.After-put-word → List ℕ
 left1 c = textWords (body c) ++ []
@@ -35,19 +34,19 @@ state1 c = record { at = c .put-word .result; out = c .put-word .last .0 }
 emits1 : (c : tie.After-put-word) → Leaves (start1 c) (left1 c) (state1 c)
 emits1 c =
     let k = start1 c in
-    let q = c .before .before .before .part-at in
+    let q = c .before .before .before .bytes-at in
     first (_ ∷ []) (left1 c)
-    (relocation-parts (bytes k) (k .args .p) (q .result .from) (q .result .to) (c .before .relocation-head .result)
+    (relocation-parts (bytes k) (k .args .p) (body c) (c .before .relocation-head .result)
     (c .before .before .before .before .u64-at .result)
     (c .before .relocation-head .ensures) (c .before .before .before .before .u64-at .ensures) (q .ensures))
     (k .pre) (c .put-word .ensures)
 
 abbrev state2 : tie.After-put-text-words → State ℕ
-state2 c = after (state1 (c .before .before .before .before .before)) (c .put-text-words .result) (c .put-text-words .last .0)
+state2 c = after (state1 (c .before .before .before .before)) (c .put-text-words .result) (c .put-text-words .last .0)
 
-emits2 : (c : tie.After-put-text-words) → Leaves (start1 (c .before .before .before .before .before)) [] (state2 c)
+emits2 : (c : tie.After-put-text-words) → Leaves (start1 (c .before .before .before .before)) [] (state2 c)
 emits2 c =
-    emit (emits1 (c .before .before .before .before .before)) (textWords (body (c .before .before .before .before .before))) [] refl
+    emit (emits1 (c .before .before .before .before)) (textWords (body (c .before .before .before .before))) [] refl
     (c .put-text-words .ensures)
 
 pub put-relocation-spec : {M : Type 1} → statement M
@@ -61,9 +60,6 @@ put-relocation-spec =
     (λ c. let e = emits1 (c .before .before) in omega (arith, within e, same e))
     (λ c. within (emits1 (c .before .before)))
     (λ c. within (emits1 (c .before .before)))
-    (λ c. search needs)
-    (λ c. search needs)
-    (λ c. search needs)
     (λ c. search needs)
     (λ c κs. search needs)
     (λ c. let e = emits2 (c .before .before) in omega (arith, within e, same e))

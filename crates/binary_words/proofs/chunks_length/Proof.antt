@@ -1,4 +1,5 @@
-use mathlib.Core.Path.{_≡_, ap, _∙_}
+use mathlib.Core.Path.{_≡_, sym, ap, _∙_}
+use mathlib.Core.List.{List}
 use Prim.Native.Nat.{ℕ, _+_, _-_, _/_}
 use native.Mathlib.Omega.{arith}
 use lib.ListN.{length}
@@ -8,7 +9,6 @@ use Rattle.format.specs.Binary.{bytesAt}
 use Rattle.gather.specs.Places.{placesFrom, placesOf}
 use Rattle.gather.proofs.OrderLaws.{found-next, found-none, found-moves}
 use Rattle.binary_words.specs.RecordAt.{chunkAt}
-use Rattle.binary_words.proofs.LengthLaws.{part-length}
 use Rattle.binary_words.proofs.SourceLaws.{chunksLength, chunks-cons, chunks-none, all-chunks-few}
 use Rattle.binary_words.proofs.chunks_length.Statement.{statement}
 use Rattle.binary_words.proofs.chunks_length.Tie as tie
@@ -49,52 +49,37 @@ returns c =
 u64-at-requires : tie.Need-u64-at-requires Inv-loop μ-loop
 u64-at-requires c κs = search needs
 
--- src/lib.rt:205:13
-part-at-requires : tie.Need-part-at-requires Inv-loop μ-loop
-part-at-requires c κs = search needs
+-- what a chunk adds
+module _ (c : tie.After-bytes-at Inv-loop μ-loop) where
+  abbrev found : tie.After-next-place Inv-loop μ-loop
+  found = c .before .before .before .before .before
 
--- src/lib.rt:206:16
-sub-sum : tie.Need-sub-sum Inv-loop μ-loop
-sub-sum c = c .before .part-at .ensures .ordered
+  abbrev s : List ℕ
+  s = now (found .before .before .before .args .s)
 
--- src/lib.rt:206:9
+  abbrev p : ℕ
+  p = c .before .before .before .p .given .0 .0
+
+  abbrev next : ℕ
+  next = c .before .before .before .p .given .0 .1 .0
+
+  adds : chunksLength s (placesFrom 3 s (found .before .loop .at)) ≡ length (now (c .bytes-at .result)) + chunksLength s (placesFrom 3 s next)
+  adds =
+      let e = found-next 3 s (found .before .loop .at) (found .next-place .result) (found .next-place .ensures .0) p next (c .before .before .before .p .given .1) in
+      let n : length (now (c .bytes-at .result)) ≡ length (chunkAt s p) =
+      ap length (c .bytes-at .ensures ∙ ap (λ (j : ℕ). bytesAt (p + 9) j s) (c .before .u64-at .ensures)) in
+      ap (chunksLength s) e ∙ chunks-cons s p (placesFrom 3 s next) ∙ ap (λ (j : ℕ). j + chunksLength s (placesFrom 3 s next)) (sym n)
+
 add-sum : tie.Need-add-sum Inv-loop μ-loop
-add-sum c =
-    let m = c .before .before .before .before .before .before in
-    let g = c .before .before .before .before .p .given in
-    let l = m .before .loop in
-    let s = now (m .before .before .before .args .s) in
-    let e = found-next 3 s (l .at) (m .next-place .result) (m .next-place .ensures .0) (g .0 .0) (g .0 .1 .0) (g .1) in
-    let q = c .before .part-at in
-    let n : q .result .to - q .result .from ≡ length (chunkAt s (g .0 .0)) = part-length s (g .0 .0 + 9) (c .before .before .u64-at .result) (q .result .from) (q .result .to) (q .ensures) ∙ ap (λ (j : ℕ). length (bytesAt (g .0 .0 + 9) j s)) (c .before .before .u64-at .ensures) in
-    let t : chunksLength s (placesFrom 3 s (l .at)) ≡ length (chunkAt s (g .0 .0)) + chunksLength s (placesFrom 3 s (g .0 .1 .0)) = ap (chunksLength s) e ∙ chunks-cons s (g .0 .0) (placesFrom 3 s (g .0 .1 .0)) in
-    omega (arith, l .inv, all-chunks-few s)
+add-sum c = omega (arith, adds c, found c .before .loop .inv, all-chunks-few (s c))
 
--- src/lib.rt:201:5
 loop-less : tie.Need-loop-less Inv-loop μ-loop
 loop-less c =
-    let m = c .before .before .before .before .before .before in
-    let g = c .before .before .before .before .p .given in
-    let l = m .before .loop in
-    let s = now (m .before .before .before .args .s) in
-    let e = found-next 3 s (l .at) (m .next-place .result) (m .next-place .ensures .0) (g .0 .0) (g .0 .1 .0) (g .1) in
-    let q = c .before .part-at in
-    let n : q .result .to - q .result .from ≡ length (chunkAt s (g .0 .0)) = part-length s (g .0 .0 + 9) (c .before .before .u64-at .result) (q .result .from) (q .result .to) (q .ensures) ∙ ap (λ (j : ℕ). length (bytesAt (g .0 .0 + 9) j s)) (c .before .before .u64-at .ensures) in
-    let t : chunksLength s (placesFrom 3 s (l .at)) ≡ length (chunkAt s (g .0 .0)) + chunksLength s (placesFrom 3 s (g .0 .1 .0)) = ap (chunksLength s) e ∙ chunks-cons s (g .0 .0) (placesFrom 3 s (g .0 .1 .0)) in
-    omega (arith, found-moves (l .at) (length s) (g .0 .0) (g .0 .1 .0) (m .next-place .result) (m .next-place .ensures .1) (g .1))
+    let f = found c in
+    omega (arith, found-moves (f .before .loop .at) (length (s c)) (p c) (next c) (f .next-place .result) (f .next-place .ensures .1) (c .before .before .before .p .given .1))
 
--- src/lib.rt:201:5
 loop-again : tie.Need-loop-again Inv-loop μ-loop
-loop-again c =
-    let m = c .before .before .before .before .before .before in
-    let g = c .before .before .before .before .p .given in
-    let l = m .before .loop in
-    let s = now (m .before .before .before .args .s) in
-    let e = found-next 3 s (l .at) (m .next-place .result) (m .next-place .ensures .0) (g .0 .0) (g .0 .1 .0) (g .1) in
-    let q = c .before .part-at in
-    let n : q .result .to - q .result .from ≡ length (chunkAt s (g .0 .0)) = part-length s (g .0 .0 + 9) (c .before .before .u64-at .result) (q .result .from) (q .result .to) (q .ensures) ∙ ap (λ (j : ℕ). length (bytesAt (g .0 .0 + 9) j s)) (c .before .before .u64-at .ensures) in
-    let t : chunksLength s (placesFrom 3 s (l .at)) ≡ length (chunkAt s (g .0 .0)) + chunksLength s (placesFrom 3 s (g .0 .1 .0)) = ap (chunksLength s) e ∙ chunks-cons s (g .0 .0) (placesFrom 3 s (g .0 .1 .0)) in
-    omega (arith, l .inv)
+loop-again c = omega (arith, adds c, found c .before .loop .inv)
 
 pub chunks-length-spec : {M : Type 1} → statement M
 chunks-length-spec =
@@ -108,8 +93,7 @@ chunks-length-spec =
     enum-told
     returns
     u64-at-requires
-    part-at-requires
-    sub-sum
+    (λ c κs. search needs)
     add-sum
     loop-less
     loop-again)

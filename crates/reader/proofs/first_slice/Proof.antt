@@ -50,10 +50,13 @@ use Rattle.reader.proofs.Reader.Laws as T′
 use Rattle.reader.proofs.Apart.{B}
 use Rattle.reader.proofs.new as new
 use Rattle.reader.proofs.new.Symbol as new-def
+use Rattle.reader.proofs.new.Symbol.{name as #reader·new}
 use Rattle.reader.proofs.new.Met as new-thm
 use Rattle.reader.proofs.take_slice as next
 use Rattle.reader.proofs.take_slice.Symbol as next-def
+use Rattle.reader.proofs.take_slice.Symbol.{name as #reader·take-slice}
 use Rattle.reader.proofs.take_slice.Met as next-thm
+use Rattle.reader.proofs.first_slice.Key.{name as #reader·first-slice}
 use Rattle.reader.proofs.first_slice as first
 use Rattle.reader.proofs.first_slice.Statement as stated
 use Rattle.reader.proofs.first_slice.Code as code

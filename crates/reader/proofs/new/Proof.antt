@@ -39,6 +39,7 @@ use denote.Exit.{yes}
 use Rattle.reader.specs.declared.Reader.{Reader}
 use Rattle.reader.proofs.Reader as T
 use Rattle.reader.proofs.Reader.Laws as T′
+use Rattle.reader.proofs.new.Key.{name as #reader·new}
 use Rattle.reader.proofs.new as new
 use Rattle.reader.proofs.new.Statement as stated
 use Rattle.reader.proofs.new.Code as code
