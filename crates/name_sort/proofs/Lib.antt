@@ -1,2 +1,2 @@
 pub mod NameLaws
-pub mod OrderLaws
+pub mod RisingLaws
