@@ -45,7 +45,8 @@ put-back-requires c κs = let d = c .before .before .before in (start1 d .pre .0
 pub put-object-spec : {M : Type 1} → statement M
 put-object-spec =
     tie.close
-    (tie.spec (λ c. search needs) (λ c. search needs) (λ c. search needs) (λ c. search needs) (λ c κs. c .before .before .before .before .before .pre .3) (λ c. search needs)
+    (tie.spec (λ c. search needs) (λ c. search needs) (λ c. search needs) (λ c. search needs)
+    (λ c κs. c .before .before .before .before .before .pre .3) (λ c. search needs)
     (λ c. let h = within (emits1 (c .before .before)) in search needs) (λ c. within (emits1 (c .before .before))) (λ c. within (emits1 (c .before .before)))
     (λ c. search needs) put-back-requires (λ c. small (emits2 (c .before .before)) (omega arith)) (λ c. search needs)
     (λ c. emitted (emits2 (c .before .before)) refl))
