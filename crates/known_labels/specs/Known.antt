@@ -1,5 +1,4 @@
--- The words of a text file's labels, from arrays that hold them or from the rows. Assumes nothing.
-use mathlib.Core.Bool.{Bool}
+-- The words of a text file's labels, from an array that holds them or from the rows. Assumes nothing.
 use mathlib.Core.List.{List, map}
 use Prim.Native.Nat.{ℕ}
 use Rattle.format.specs.Basics.{if_then_else_}
@@ -12,6 +11,6 @@ use Rattle.text_labels.specs.Labels.{labelsOf}
 abbrev pub labelParts : List ℕ → List (List ℕ)  -- of each label
 labelParts u = map recordWords (map label (labelsOf u))
 
--- those that arrays hold, if they hold all
-unfoldable pub knownParts : List ℕ → List ℕ → List ℕ → List ℕ → List ℕ → Cached → List (List ℕ)
-knownParts u ss es hs xs r = if r .whole then map recordWords (map label (cachedLabels u ss es hs xs (r .count))) else labelParts u
+-- those that an array holds, if it holds all
+unfoldable pub knownParts : List ℕ → List ℕ → Cached → List (List ℕ)
+knownParts u items r = if r .whole then map recordWords (map label (cachedLabels u items (r .count))) else labelParts u

@@ -1,4 +1,4 @@
-// The words of a text file's labels, by way of arrays where these have room for all labels, and else from the rows.
+// The words of a text file's labels, by way of an array where it has room for all labels, and else from the rows.
 use label_cache::Cached;
 use label_cache::gather_labels;
 use label_items::cached_room;
@@ -11,79 +11,49 @@ ghost use Rattle.text_words.specs.Room.{roomOf, roomAfter};
 ghost use Rattle.text_words.specs.Written.{PutEach};
 ghost use Rattle.known_labels.specs.Known.{labelParts, knownParts};
 
-// The room after the labels, from arrays if they hold all.
-pub fn known_room(
-    u: &[u8],
-    starts: &[usize],
-    ends: &[usize],
-    heads: &[u32],
-    indices: &[u64],
-    cached: Cached,
-    room: usize,
-) -> Room
-    ensures { λ r. ⌜ roomOf r ≡ roomAfter (knownParts (now (u .entry)) (now (starts .entry)) (now (ends .entry)) (now (heads .entry))
-        (now (indices .entry)) cached) room ⌝ }
+// The room after the labels, from an array if it holds all.
+pub fn known_room(u: &[u8], items: &[usize], cached: Cached, room: usize) -> Room
+    ensures { λ r. ⌜ roomOf r ≡ roomAfter (knownParts (now (u .entry)) (now (items .entry)) cached) room ⌝ }
 {
     if cached.whole {
-        return cached_room(u, starts, ends, heads, indices, cached.count, room);
+        return cached_room(u, items, cached.count, room);
     }
     labels_room(u, room)
 }
 
-// The labels, from arrays if they hold all.
-pub fn put_known(
-    out: &mut [u32],
-    u: &[u8],
-    starts: &[usize],
-    ends: &[usize],
-    heads: &[u32],
-    indices: &[u64],
-    cached: Cached,
-) -> usize
-    ensures { λ r. ⌜ PutEach (knownParts (now (u .entry)) (now (starts .entry)) (now (ends .entry)) (now (heads .entry)) (now (indices .entry)) cached)
+// The labels, from an array if it holds all.
+pub fn put_known(out: &mut [u32], u: &[u8], items: &[usize], cached: Cached) -> usize
+    ensures { λ r. ⌜ PutEach (knownParts (now (u .entry)) (now (items .entry)) cached)
         (now (out .entry)) r (now (out .exit)) ⌝ }
 {
     if cached.whole {
-        return put_cached(out, u, starts, ends, heads, indices, cached.count);
+        return put_cached(out, u, items, cached.count);
     }
     put_labels(out, u)
 }
 
-// The room after the labels, by way of arrays.
-fn gathered_room(
-    u: &[u8],
-    starts: &mut [usize],
-    ends: &mut [usize],
-    heads: &mut [u32],
-    indices: &mut [u64],
-    room: usize,
-) -> Room
+// The room after the labels, by way of an array.
+fn gathered_room(u: &[u8], items: &mut [usize], room: usize) -> Room
     ensures { λ r. ⌜ roomOf r ≡ roomAfter (labelParts (now (u .entry))) room ⌝ }
 {
-    let cached = gather_labels(u, starts, ends, heads, indices);
-    known_room(u, starts, ends, heads, indices, cached, room)
+    let cached = gather_labels(u, items);
+    known_room(u, items, cached, room)
 }
 
-// The same, of a short text: small arrays are cleared sooner.
+// The same, of a short text: a small array is cleared sooner.
 fn few_room(u: &[u8], room: usize) -> Room
     ensures { λ r. ⌜ roomOf r ≡ roomAfter (labelParts (now (u .entry))) room ⌝ }
 {
-    let mut starts = [0usize; 1024];
-    let mut ends = [0usize; 1024];
-    let mut heads = [0u32; 1024];
-    let mut indices = [0u64; 1024];
-    gathered_room(u, &mut starts, &mut ends, &mut heads, &mut indices, room)
+    let mut items = [0usize; 4096];
+    gathered_room(u, &mut items, room)
 }
 
 // The same, of any text.
 fn many_room(u: &[u8], room: usize) -> Room
     ensures { λ r. ⌜ roomOf r ≡ roomAfter (labelParts (now (u .entry))) room ⌝ }
 {
-    let mut starts = [0usize; 4096];
-    let mut ends = [0usize; 4096];
-    let mut heads = [0u32; 4096];
-    let mut indices = [0u64; 4096];
-    gathered_room(u, &mut starts, &mut ends, &mut heads, &mut indices, room)
+    let mut items = [0usize; 16384];
+    gathered_room(u, &mut items, room)
 }
 
 // The room after the labels of a text file.

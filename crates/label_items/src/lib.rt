@@ -1,4 +1,4 @@
-// Labels in arrays of numbers, as items: their words, the room after these, and how two tables of them are joined.
+// Labels in an array of numbers, as items: their words, the room after these, and how two tables of them are joined.
 use gather::compare_bytes;
 use text_words::Room;
 use text_words::put_label;
@@ -7,6 +7,7 @@ use trim::Span;
 ghost use mathlib.Core.Path.{_≡_};
 ghost use mathlib.Core.Bool.{not, _&&_};
 ghost use mathlib.Core.List.{map};
+ghost use Prim.Native.Nat.{_/_, _≤_};
 ghost use lib.ListN.{length, getD};
 ghost use Rattle.format.specs.Sorted.{order};
 ghost use Rattle.format.specs.Records.{label};
@@ -23,8 +24,8 @@ ghost use Rattle.label_items.specs.Items.{labelOf, itemAt, cachedLabels}
 pub struct Item {
     pub start: usize,
     pub end: usize,
-    pub head: u32,
-    pub index: u64,
+    pub head: usize,
+    pub index: usize,
 }
 
 // Number i of an array of places; 0 past its end.
@@ -37,37 +38,44 @@ pub fn place_at(a: &[usize], i: usize) -> usize
     0
 }
 
-fn head_at(a: &[u32], i: usize) -> u32
-    ensures { λ r. ⌜ r ≡ getD (now (a .entry)) i 0 ⌝ }
+// Item i where less than four numbers of it are there.
+fn last_item(items: &[usize], i: usize) -> Item
+    requires { ⌜ length (now items) / 4 ≤ i ⌝ }
+    ensures { λ r. ⌜ r ≡ itemAt (now (items .entry)) i ⌝ }
 {
-    if i < a.len() {
-        return a[i];
+    if items.len() / 4 < i {
+        return Item {
+            start: 0,
+            end: 0,
+            head: 0,
+            index: 0,
+        };
     }
-    0
-}
-
-fn index_at(a: &[u64], i: usize) -> u64
-    ensures { λ r. ⌜ r ≡ getD (now (a .entry)) i 0 ⌝ }
-{
-    if i < a.len() {
-        return a[i];
-    }
-    0
-}
-
-// Item i of four arrays.
-pub fn item_at(starts: &[usize], ends: &[usize], heads: &[u32], indices: &[u64], i: usize) -> Item
-    ensures { λ r. ⌜ r ≡ itemAt (now (starts .entry)) (now (ends .entry)) (now (heads .entry)) (now (indices .entry)) i ⌝ }
-{
-    let start = place_at(starts, i);
-    let end = place_at(ends, i);
-    let head = head_at(heads, i);
-    let index = index_at(indices, i);
+    let at = 4 * i;
+    let start = place_at(items, at);
+    let end = place_at(items, at + 1);
+    let head = place_at(items, at + 2);
     Item {
         start: start,
         end: end,
         head: head,
-        index: index,
+        index: 0,
+    }
+}
+
+// Item i of an array, four numbers to an item.
+pub fn item_at(items: &[usize], i: usize) -> Item
+    ensures { λ r. ⌜ r ≡ itemAt (now (items .entry)) i ⌝ }
+{
+    if items.len() / 4 <= i {
+        return last_item(items, i);
+    }
+    let at = 4 * i;
+    Item {
+        start: items[at],
+        end: items[at + 1],
+        head: items[at + 2],
+        index: items[at + 3],
     }
 }
 
@@ -106,28 +114,19 @@ fn put_item(out: &mut [u32], t: &[u8], x: Item) -> usize
         out,
         (head % 65536) as u16,
         external,
-        x.index,
+        x.index as u64,
         &t[start..end],
     )
 }
 
-// The words of the first n labels of four arrays.
-pub fn put_cached(
-    out: &mut [u32],
-    t: &[u8],
-    starts: &[usize],
-    ends: &[usize],
-    heads: &[u32],
-    indices: &[u64],
-    n: usize,
-) -> usize
-    ensures { λ r. ⌜ PutEach (map recordWords (map label (cachedLabels (now (t .entry)) (now (starts .entry)) (now (ends .entry))
-        (now (heads .entry)) (now (indices .entry)) n))) (now (out .entry)) r (now (out .exit)) ⌝ }
+// The words of the first n labels of an array.
+pub fn put_cached(out: &mut [u32], t: &[u8], items: &[usize], n: usize) -> usize
+    ensures { λ r. ⌜ PutEach (map recordWords (map label (cachedLabels (now (t .entry)) (now (items .entry)) n))) (now (out .entry)) r (now (out .exit)) ⌝ }
 {
     let mut at = 0;
     let mut i = 0;
     while i < n {
-        let x = item_at(starts, ends, heads, indices, i);
+        let x = item_at(items, i);
         at += put_item(&mut out[at..], t, x);
         i += 1;
     }
@@ -145,23 +144,14 @@ fn item_room(t: &[u8], x: Item, room: usize) -> Room
     take_room(room, n)
 }
 
-// The room after the words of the first n labels of four arrays.
-pub fn cached_room(
-    t: &[u8],
-    starts: &[usize],
-    ends: &[usize],
-    heads: &[u32],
-    indices: &[u64],
-    n: usize,
-    room: usize,
-) -> Room
-    ensures { λ r. ⌜ roomOf r ≡ roomAfter (map recordWords (map label (cachedLabels (now (t .entry)) (now (starts .entry)) (now (ends .entry))
-        (now (heads .entry)) (now (indices .entry)) n))) room ⌝ }
+// The room after the words of the first n labels of an array.
+pub fn cached_room(t: &[u8], items: &[usize], n: usize, room: usize) -> Room
+    ensures { λ r. ⌜ roomOf r ≡ roomAfter (map recordWords (map label (cachedLabels (now (t .entry)) (now (items .entry)) n))) room ⌝ }
 {
     let mut left = room;
     let mut i = 0;
     while i < n {
-        let x = item_at(starts, ends, heads, indices, i);
+        let x = item_at(items, i);
         let Room::Left(m) = item_room(t, x, left) else {
             return Room::Short;
         };

@@ -8,7 +8,7 @@ use native.Mathlib.Omega.{arith}
 use lib.ListN.{length, length-append}
 use lib.Dec.{eqb, leb}
 use borrow.Author.Tests.{ne-eqb, leb-true, leb-false}
-use Rattle.format.specs.Basics.{isEmpty, andThen, if_then_else_}
+use Rattle.format.specs.Basics.{isEmpty, andThen}
 use Rattle.format.specs.ObjectFile.{Label}
 use Rattle.format.specs.Records.{label, sourceRecords}
 use Rattle.format.specs.Words.{textWords, recordWords}

@@ -8,7 +8,7 @@ use Prim.Native.Nat.{ℕ, _+_, _/_}
 use lib.ListN.{length}
 use Rattle.format.specs.Basics.{if_then_else_, isEmpty, andThen}
 use Rattle.format.specs.Sorted.{sorted}
-use Rattle.format.specs.Records.{label, sourceRecords}
+use Rattle.format.specs.Records.{sourceRecords}
 use Rattle.format.specs.Words.{recordWords}
 use Rattle.text_tables.specs.Debug.{lineView}
 use Rattle.text_scan.specs.Walk.{lineBlocksOf, sourceOf}
@@ -69,7 +69,7 @@ restWords u sourced = length (joined (labelParts u)) + length (joined (relocatio
 unfoldable pub othersRoom : ℕ → List (List ℕ) → ℕ → Option ℕ
 othersRoom n ps room = andThen (roomFor n room) λ left. roomAfter ps left
 
--- labels in arrays, and the room after them
-abbrev pub Gathers : List ℕ → List ℕ → List ℕ → List ℕ → List ℕ → ℕ → Gathered → Type 0
-Gathers u ss es hs xs room (gathered.Left cached left) = HoldsLabels u ss es hs xs cached × (some left ≡ roomAfter (labelParts u) room)
-Gathers u ss es hs xs room gathered.Short = none ≡ roomAfter (labelParts u) room
+-- labels in an array, and the room after them
+abbrev pub Gathers : List ℕ → List ℕ → ℕ → Gathered → Type 0
+Gathers u items room (gathered.Left cached left) = HoldsLabels u items cached × (some left ≡ roomAfter (labelParts u) room)
+Gathers u items room gathered.Short = none ≡ roomAfter (labelParts u) room

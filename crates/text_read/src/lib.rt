@@ -128,21 +128,13 @@ fn keeps_relocations(sourced: bool, labels: usize) -> bool
 }
 
 // The blocks and the labels.
-fn put_front(
-    out: &mut [u32],
-    u: &[u8],
-    starts: &[usize],
-    ends: &[usize],
-    heads: &[u32],
-    indices: &[u64],
-    cached: Cached,
-) -> usize
-    requires { ⌜ HoldsLabels (now u) (now starts) (now ends) (now heads) (now indices) cached ⌝ }
+fn put_front(out: &mut [u32], u: &[u8], items: &[usize], cached: Cached) -> usize
+    requires { ⌜ HoldsLabels (now u) (now items) cached ⌝ }
     ensures { λ r. ⌜ PutEach (frontParts (now (u .entry))) (now (out .entry)) r (now (out .exit)) ⌝ }
 {
     let mut at = 0;
     at += put_rows(&mut out[at..], u, 0);
-    at += put_known(&mut out[at..], u, starts, ends, heads, indices, cached);
+    at += put_known(&mut out[at..], u, items, cached);
     at
 }
 
@@ -166,20 +158,17 @@ fn put_object(
     sourced: bool,
     rows: usize,
     kept: bool,
-    starts: &[usize],
-    ends: &[usize],
-    heads: &[u32],
-    indices: &[u64],
+    items: &[usize],
     cached: Cached,
 ) -> usize
     requires { ⌜ (sourced ≡ true → Unescapes (now t) rows)
         × (length (joined (objectParts (now u) (now t) sourced rows)) ≤ length (now out))
         × (kept ≡ keepsRelocations sourced (now u))
-        × HoldsLabels (now u) (now starts) (now ends) (now heads) (now indices) cached ⌝ }
+        × HoldsLabels (now u) (now items) cached ⌝ }
     ensures { λ r. ⌜ Put (joined (objectParts (now (u .entry)) (now (t .entry)) sourced rows)) (now (out .entry)) r (now (out .exit)) ⌝ }
 {
     let mut at = 0;
-    at += put_front(&mut out[at..], u, starts, ends, heads, indices, cached);
+    at += put_front(&mut out[at..], u, items, cached);
     at += put_back(&mut out[at..], u, t, sourced, rows, kept);
     at
 }
@@ -251,31 +240,24 @@ pub fn text_length(s: &[u8]) -> Measured
     length_scanned(s, scanned)
 }
 
-// Labels in arrays and the room after them, or too short a room.
+// Labels in an array and the room after them, or too short a room.
 enum Gathered {
     Left(Cached, usize),
     Short,
 }
 
-// The labels in arrays, if they have room for all, and the room after them.
-fn gather_room(
-    u: &[u8],
-    starts: &mut [usize],
-    ends: &mut [usize],
-    heads: &mut [u32],
-    indices: &mut [u64],
-    room: usize,
-) -> Gathered
-    ensures { λ r. ⌜ Gathers (now (u .entry)) (now (starts .exit)) (now (ends .exit)) (now (heads .exit)) (now (indices .exit)) room r ⌝ }
+// The labels in an array, if it has room for all, and the room after them.
+fn gather_room(u: &[u8], items: &mut [usize], room: usize) -> Gathered
+    ensures { λ r. ⌜ Gathers (now (u .entry)) (now (items .exit)) room r ⌝ }
 {
-    let cached = gather_labels(u, starts, ends, heads, indices);
-    let Room::Left(left) = known_room(u, starts, ends, heads, indices, cached, room) else {
+    let cached = gather_labels(u, items);
+    let Room::Left(left) = known_room(u, items, cached, room) else {
         return Gathered::Short;
     };
     Gathered::Left(cached, left)
 }
 
-// The words of an object, by way of arrays for its labels.
+// The words of an object, by way of an array for its labels.
 fn fill_in(
     out: &mut [u32],
     u: &[u8],
@@ -283,59 +265,30 @@ fn fill_in(
     sourced: bool,
     rows: usize,
     fixed: usize,
-    starts: &mut [usize],
-    ends: &mut [usize],
-    heads: &mut [u32],
-    indices: &mut [u64],
+    items: &mut [usize],
 ) -> Filled
     requires { ⌜ (sourced ≡ true → Unescapes (now t) rows) × (fixed ≡ fixedWords (now u) (now t) sourced rows) ⌝ }
     ensures { λ r. ⌜ filledOf r (now (out .exit)) ≡ fill (given (joined (objectParts (now (u .entry)) (now (t .entry)) sourced rows))) (now (out .entry)) ⌝ }
 {
     let room = out.len();
-    let Gathered::Left(cached, left) = gather_room(u, starts, ends, heads, indices, room) else {
+    let Gathered::Left(cached, left) = gather_room(u, items, room) else {
         return Filled::refused(3);
     };
     let kept = keeps_relocations(sourced, room - left);
     let Room::Left(_) = others_room(u, kept, fixed, left) else {
         return Filled::refused(3);
     };
-    let n = put_object(
-        out,
-        u,
-        t,
-        sourced,
-        rows,
-        kept,
-        starts,
-        ends,
-        heads,
-        indices,
-        cached,
-    );
+    let n = put_object(out, u, t, sourced, rows, kept, items, cached);
     Filled::given(n)
 }
 
-// The same, of a short text: small arrays are cleared sooner.
+// The same, of a short text: a small array is cleared sooner.
 fn fill_few(out: &mut [u32], u: &[u8], t: &[u8], sourced: bool, rows: usize, fixed: usize) -> Filled
     requires { ⌜ (sourced ≡ true → Unescapes (now t) rows) × (fixed ≡ fixedWords (now u) (now t) sourced rows) ⌝ }
     ensures { λ r. ⌜ filledOf r (now (out .exit)) ≡ fill (given (joined (objectParts (now (u .entry)) (now (t .entry)) sourced rows))) (now (out .entry)) ⌝ }
 {
-    let mut starts = [0usize; 1024];
-    let mut ends = [0usize; 1024];
-    let mut heads = [0u32; 1024];
-    let mut indices = [0u64; 1024];
-    fill_in(
-        out,
-        u,
-        t,
-        sourced,
-        rows,
-        fixed,
-        &mut starts,
-        &mut ends,
-        &mut heads,
-        &mut indices,
-    )
+    let mut items = [0usize; 4096];
+    fill_in(out, u, t, sourced, rows, fixed, &mut items)
 }
 
 // The same, of any text.
@@ -350,22 +303,8 @@ fn fill_many(
     requires { ⌜ (sourced ≡ true → Unescapes (now t) rows) × (fixed ≡ fixedWords (now u) (now t) sourced rows) ⌝ }
     ensures { λ r. ⌜ filledOf r (now (out .exit)) ≡ fill (given (joined (objectParts (now (u .entry)) (now (t .entry)) sourced rows))) (now (out .entry)) ⌝ }
 {
-    let mut starts = [0usize; 4096];
-    let mut ends = [0usize; 4096];
-    let mut heads = [0u32; 4096];
-    let mut indices = [0u64; 4096];
-    fill_in(
-        out,
-        u,
-        t,
-        sourced,
-        rows,
-        fixed,
-        &mut starts,
-        &mut ends,
-        &mut heads,
-        &mut indices,
-    )
+    let mut items = [0usize; 16384];
+    fill_in(out, u, t, sourced, rows, fixed, &mut items)
 }
 
 // The words of an object, of which blocks, line blocks and source have so many.

@@ -1,8 +1,7 @@
 -- The room, and the words. Assumes nothing.
 use borrow.Author.Needs.{needs}
-use mathlib.Core.Path.{_≡_, sym, ap, _∙_, subst}
-use mathlib.Core.List.{List}
-use Prim.Native.Nat.{ℕ, _≤_}
+use mathlib.Core.Path.{sym, ap, _∙_, subst}
+use Prim.Native.Nat.{_≤_}
 use lib.ListN.{length}
 use denote.Ref.{now}
 use Rattle.units.specs.Filled.{filledOf}
@@ -16,25 +15,25 @@ use Rattle.text_read.proofs.fill_in.Statement.{statement}
 use Rattle.text_read.proofs.fill_in.Tie as tie
 
 abbrev start : tie.After-gather-room → tie.Start
-start g = g .before .before .before .before .before .before .before .before .before .before .before .before
+start g = g .before .before .before .before .before .before
 
 abbrev to-gather : tie.After-known-told → tie.After-gather-room
-to-gather c = c .before .before .before .before .before .before .before .before .before .before .before
+to-gather c = c .before .before .before .before .before
 
 abbrev short : tie.After-enum-told → tie.After-gather-room
-short c = c .before .before .before .before .before .before .before .before .before .before
+short c = c .before .before .before .before
 
 hold : (c : tie.After-known-told) →
     let g = to-gather c in
     let l = g .gather-room .last in
     let k = start g in
-    Gathers (now (k .args .u)) (l .1 .0) (l .1 .1 .0) (l .1 .1 .1 .0) (l .1 .1 .1 .1 .0) (length (now (k .args .out)))
+    Gathers (now (k .args .u)) (l .1 .0) (length (now (k .args .out)))
     (gathered.Left (c .before .cached .given .0 .0) (c .before .cached .given .0 .1 .0))
 hold c =
     let g = to-gather c in
     let l = g .gather-room .last in
     let k = start g in
-    subst (Gathers (now (k .args .u)) (l .1 .0) (l .1 .1 .0) (l .1 .1 .1 .0) (l .1 .1 .1 .1 .0) (length (now (k .args .out)))) (c .before .cached .given .1) (g .gather-room .ensures)
+    subst (Gathers (now (k .args .u)) (l .1 .0) (length (now (k .args .out)))) (c .before .cached .given .1) (g .gather-room .ensures)
 
 returns : tie.Need-returns
 returns c =
@@ -46,7 +45,7 @@ returns c =
     ap (λ x. filledOf x (now (a .out))) (c .refused .ensures)
     ∙ fill-lacks _ _ (a .sourced) (a .rows) (a .fixed) (k .pre .1) (now (a .out))
     (labels-lack (now (a .u)) (a .sourced) (a .fixed) (length (now (a .out)))
-    (subst (Gathers (now (a .u)) (l .1 .0) (l .1 .1 .0) (l .1 .1 .1 .0) (l .1 .1 .1 .1 .0) (length (now (a .out)))) (d .enum-told .given .1) (g .gather-room .ensures)))
+    (subst (Gathers (now (a .u)) (l .1 .0) (length (now (a .out)))) (d .enum-told .given .1) (g .gather-room .ensures)))
 
 returns-2 : tie.Need-returns-2
 returns-2 c =
@@ -72,7 +71,7 @@ fits d =
 
 put-object-requires : tie.Need-put-object-requires
 put-object-requires c κs =
-    let d = c .before .before .before .before .before in
+    let d = c .before .before in
     let o = d .before .before in
     let h = o .before .before in
     let k = start (to-gather h) in
@@ -82,23 +81,11 @@ returns-3 : tie.Need-returns-3
 returns-3 c =
     let p = c .before .before .before in
     ap (λ x. filledOf x (p .put-object .last .0)) (c .given .ensures)
-    ∙ put-fills _ _ (fits (p .before .before .before .before .before .before)) (p .put-object .ensures)
-
-abbrev last : tie.After-given → tie.After-gather-room
-last c = to-gather (c .before .before .before .before .before .before .before .before .before .before .before .before .before)
-
-abbrev second : tie.After-refused2 → tie.After-gather-room
-second c = to-gather (c .before .before .before .before .before)
+    ∙ put-fills _ _ (fits (p .before .before .before)) (p .put-object .ensures)
 
 pub fill-in-spec : {M : Type 1} → statement M
 fill-in-spec =
     tie.close
-    (tie.spec (λ c κs. search needs) (λ c. search needs) (λ c. search needs) (λ c κs. search needs)
-    (λ c. short (c .before) .gather-room .kept .1 .0) (λ c. short (c .before) .gather-room .kept .1 .1 .0)
-    (λ c. short (c .before) .gather-room .kept .1 .1 .1 .0) (λ c. short (c .before) .gather-room .kept .1 .1 .1 .1 .0) returns
+    (tie.spec (λ c κs. search needs) (λ c. search needs) (λ c. search needs) (λ c κs. search needs) (λ c. search needs) returns
     (λ c. labels-below _ _ _ (hold c .1)) (λ c κs. search needs) (λ c κs. search needs) (λ c. search needs) (λ c. search needs) (λ c κs. search needs)
-    (λ c. second c .gather-room .kept .1 .0) (λ c. second c .gather-room .kept .1 .1 .0) (λ c. second c .gather-room .kept .1 .1 .1 .0)
-    (λ c. second c .gather-room .kept .1 .1 .1 .1 .0) returns-2 put-object-requires (λ c κs. search needs)
-    (λ c. c .before .before .before .put-object .kept .0)
-    (λ c. last c .gather-room .kept .1 .0) (λ c. last c .gather-room .kept .1 .1 .0) (λ c. last c .gather-room .kept .1 .1 .1 .0)
-    (λ c. last c .gather-room .kept .1 .1 .1 .1 .0) returns-3)
+    (λ c. search needs) returns-2 put-object-requires (λ c κs. search needs) (λ c. search needs) (λ c. search needs) returns-3)

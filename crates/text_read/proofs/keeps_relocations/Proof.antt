@@ -1,7 +1,6 @@
 use borrow.Author.Needs.{needs}
-use mathlib.Core.Path.{_≡_, sym, ap}
-use mathlib.Core.Bool.{Bool, false, _||_, not}
-use Prim.Native.Nat.{ℕ}
+use mathlib.Core.Path.{sym, ap}
+use mathlib.Core.Bool.{Bool, _||_, not}
 use lib.Dec.{eqb}
 use Rattle.text_read.proofs.keeps_relocations.Statement.{statement}
 use Rattle.text_read.proofs.keeps_relocations.Tie as tie

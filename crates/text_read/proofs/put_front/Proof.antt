@@ -15,7 +15,7 @@ use Rattle.text_read.proofs.put_front.Statement.{statement}
 use Rattle.text_read.proofs.put_front.Tie as tie
 
 abbrev start : tie.After-put-rows → tie.Start
-start c = c .before .before .before .before .before .before .before .before
+start c = c .before .before .before .before .before
 
 abbrev room : tie.After-put-rows → List ℕ
 room c = now (start c .args .out)
@@ -37,7 +37,7 @@ puts2 : (c : tie.After-put-known) →
     Puts [] (frontParts (now (start d .args .u))) (room d) (putMid at (length (out1 d) - at) (out1 d) (c .put-known .last .0)) (at + c .put-known .result)
 puts2 c =
     let d = rows c in
-    puts-on _ [] _ _ _ _ _ _ _ (puts1 d) (sym (append-nil _)) (put-same _ _ _ _ _ _ _ _ _ (start d .pre) (c .put-known .ensures))
+    puts-on _ [] _ _ _ _ _ _ _ (puts1 d) (sym (append-nil _)) (put-same _ _ _ _ _ _ (start d .pre) (c .put-known .ensures))
 
 pub put-front-spec : {M : Type 1} → statement M
 put-front-spec =

@@ -5,7 +5,7 @@ use mathlib.Core.Path.{refl, sym}
 use mathlib.Core.List.{List, [], append-nil}
 use Prim.Native.Nat.{ℕ}
 use denote.Ref.{now}
-use Rattle.writing.proofs.Parts.{State, Emits, after, begin, emit, emitted, within, small, same}
+use Rattle.writing.proofs.Parts.{State, Emits, after, begin, emit, emitted, within, small}
 use Rattle.text_runs.proofs.RunLaws.{room-for}
 use Rattle.text_read.specs.Parts.{joined, frontParts, backParts, objectParts}
 use Rattle.text_read.proofs.PartLaws.{joined-kept, emit-each}
@@ -19,7 +19,7 @@ abbrev back : tie.Start → List ℕ
 back k = let a = k .args in joined (backParts (now (a .u)) (now (a .t)) (a .sourced) (a .rows) (a .kept))
 
 abbrev start1 : tie.After-put-front → tie.Start
-start1 c = c .before .before .before .before .before .before .before .before .before
+start1 c = c .before .before .before .before .before .before
 
 abbrev state1 : tie.After-put-front → State ℕ
 state1 c = after (record { at = 0; out = now (start1 c .args .out) }) (c .put-front .result) (c .put-front .last .0)
@@ -45,7 +45,8 @@ put-back-requires c κs = let d = c .before .before .before in (start1 d .pre .0
 pub put-object-spec : {M : Type 1} → statement M
 put-object-spec =
     tie.close
-    (tie.spec (λ c. search needs) (λ c. search needs) (λ c. search needs) (λ c. search needs) (λ c κs. c .before .before .before .before .before .before .before .before .pre .3) (λ c. search needs)
+    (tie.spec (λ c. search needs) (λ c. search needs) (λ c. search needs) (λ c. search needs)
+    (λ c κs. c .before .before .before .before .before .pre .3) (λ c. search needs)
     (λ c. let h = within (emits1 (c .before .before)) in search needs) (λ c. within (emits1 (c .before .before))) (λ c. within (emits1 (c .before .before)))
     (λ c. search needs) put-back-requires (λ c. small (emits2 (c .before .before)) (omega arith)) (λ c. search needs)
     (λ c. emitted (emits2 (c .before .before)) refl))

@@ -1,14 +1,13 @@
 -- Two parts: the head, and the text. Assumes nothing.
 use borrow.Author.Needs.{needs}
 use native.Mathlib.Omega.{arith}
-use mathlib.Core.Path.{_≡_, refl}
+use mathlib.Core.Path.{refl}
 use mathlib.Core.List.{List, [], _∷_, _++_}
 use Prim.Native.Nat.{ℕ}
-use lib.ListN.{length}
 use denote.Ref.{now}
 use borrow.Author.Tests.{not-true, not-false}
 use Rattle.format.specs.Words.{textWords}
-use Rattle.writing.proofs.Parts.{State, Emits, after, begin, emit, emitted, within, small, same}
+use Rattle.writing.proofs.Parts.{State, Emits, after, begin, emit, emitted, within, small}
 use Rattle.text_read.specs.SourceText.{sourceAt}
 use Rattle.text_read.specs.Parts.{joined, sourceParts}
 use Rattle.text_runs.proofs.RunLaws.{room-for}

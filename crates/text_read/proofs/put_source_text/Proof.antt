@@ -1,7 +1,7 @@
 -- Token by token. Assumes nothing.
 use borrow.Author.Needs.{needs}
 use native.Mathlib.Omega.{arith}
-use mathlib.Core.Path.{_≡_, subst, _∙_}
+use mathlib.Core.Path.{subst, _∙_}
 use lib.ListN.{length}
 use denote.Ref.{now}
 use Rattle.text_source.specs.Stream.{bytesLeft}
