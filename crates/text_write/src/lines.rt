@@ -22,7 +22,6 @@ use text_runs_out::measure_line_records;
 use text_runs_out::measure_run;
 use text_runs_out::put_line_records;
 use text_runs_out::put_run;
-use writing::put_bytes;
 ghost use mathlib.Core.Path.{_≡_};
 ghost use mathlib.Core.List.{[], _∷_};
 ghost use mathlib.Core.Bool.{true};
@@ -275,8 +274,8 @@ fn measure_line_table(room: usize, ws: &[u32], p: SourcePlan) -> Room
     measure_line_records(rest, ws, t, next, p.first)
 }
 
-// It, written into a room that suffices.
-fn put_line_table(out: &mut [u8], ws: &[u32], p: SourcePlan) -> usize
+// The line table, written into a room that suffices.
+pub(crate) fn put_line_table(out: &mut [u8], ws: &[u32], p: SourcePlan) -> usize
     requires { ⌜ (checked (now ws) ≡ 0) × Tabled (now ws) p
         × (length (lineTable (plannedText (now ws) p) (lineBlocksIn (now ws))) ≤ length (now out)) ⌝ }
     ensures { λ r. ⌜ Put (lineTable (plannedText (now (ws .entry)) p) (lineBlocksIn (now (ws .entry)))) (now (out .entry)) r
@@ -295,12 +294,10 @@ fn put_line_table(out: &mut [u8], ws: &[u32], p: SourcePlan) -> usize
         known: true,
         place: p.place,
     };
-    let mut len = 0;
-    len += put_line_header(&mut out[len..], p.width);
+    let mut len = put_line_header(out, p.width);
     let rows = put_run(&mut out[len..], ws, t, early, 0);
     len += rows.len;
-    len += put_line_records(&mut out[len..], ws, t, rows.start, p.first);
-    len
+    len + put_line_records(&mut out[len..], ws, t, rows.start, p.first)
 }
 
 // The room that the line table and the divider line after it leave; all of it without a source.
@@ -318,16 +315,4 @@ pub(crate) fn measure_source(room: usize, ws: &[u32], p: SourcePlan) -> Room
         return Room::Short;
     }
     Room::Left(left - 21)
-}
-
-// They, written into a room that suffices.
-pub(crate) fn put_source(out: &mut [u8], ws: &[u32], p: SourcePlan) -> usize
-    requires { ⌜ (checked (now ws) ≡ 0) × (length (sourceTable (now ws)) ≤ length (now out)) × PlanOf (now ws) p ⌝ }
-    ensures { λ r. ⌜ Put (sourceTable (now (ws .entry))) (now (out .entry)) r (now (out .exit)) ⌝ }
-{
-    if p.bare {
-        return 0;
-    }
-    let len = put_line_table(out, ws, p);
-    len + put_bytes(&mut out[len..], b"====================\n")
 }
