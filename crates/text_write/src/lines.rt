@@ -2,22 +2,18 @@
 use label_tables::column_widths;
 use measuring::Room;
 use object::body_end;
-use object::body_len;
 use object::kind;
-use object::number_at;
 use object::text_len;
-use source_info::Place;
 use source_info::count_newlines;
 use text_lines_out::Rows;
 use text_lines_out::Run;
 use text_lines_out::Table;
 use text_lines_out::Wrapped;
-use text_lines_out::larger;
-use text_lines_out::last_line;
+use text_lines_out::column_width;
 use text_lines_out::measure_line_header;
 use text_lines_out::put_line_header;
-use text_lines_out::straight_count;
-use text_numerals::count_digits;
+use text_lines_out::top_at;
+use text_lines_out::wrapped_on;
 use text_runs_out::measure_line_records;
 use text_runs_out::measure_run;
 use text_runs_out::put_line_records;
@@ -32,7 +28,6 @@ ghost use Rattle.format.specs.Calls.{checked};
 ghost use Rattle.format.specs.TextWriter.{lineTable, decimal, lineWidth, addBlocks, plainRows, blocksOnly};
 ghost use Rattle.writing.specs.Written.{Put};
 ghost use Rattle.object.specs.Texts.{textBytes};
-ghost use Rattle.source_info.specs.Sources.{Sourced};
 ghost use Rattle.text_numerals.specs.Memory.{knownWord};
 ghost use Rattle.measuring.specs.Room.{roomOf, lessPart};
 ghost use Rattle.text_lines_out.specs.Lines.{At, Next, rowsText};
@@ -41,66 +36,7 @@ ghost use Rattle.text_lines_out.specs.Runs.{row, Measured, Planned, sourceOf, r
 ghost use Rattle.text_lines_out.specs.Walk.{recordRows, recordText, recordDone, Follows, Passes, walkRows};
 ghost use Rattle.text_lines_out.specs.Walk.{lineBlocksIn, wrappedAt, Wraps, topAt, sourceTable};
 ghost use Rattle.text_write.specs.Tables.{objectIn};
-ghost use Rattle.text_write.specs.Layouts.{WrapsOn, plannedText, Past, Links, Tabled, PlanOf};
-
-// Those of the record at a place: none unless it is a line block.
-fn wrapped_at(ws: &[u32], at: usize) -> Wrapped
-    requires { ⌜ at < length (now ws) ⌝ }
-    ensures { λ r. ⌜ Wraps (now (ws .entry)) (wrappedAt (now (ws .entry)) at) r ⌝ }
-{
-    if kind(ws[at]) != 3 {
-        return Wrapped { place: 0, count: 0 };
-    }
-    let body = at + 1;
-    let words = body + 3;
-    let first = number_at(ws, body);
-    let count = body_len(ws, words);
-    let kept = straight_count(first, count);
-    Wrapped {
-        place: words + kept,
-        count: count - kept,
-    }
-}
-
-// Those found before; else those of the record at a place.
-fn wrapped_on(ws: &[u32], at: usize, before: Wrapped) -> Wrapped
-    requires { ⌜ at < length (now ws) ⌝ }
-    ensures { λ r. ⌜ WrapsOn (now (ws .entry)) at before r ⌝ }
-{
-    if before.count > 0 {
-        return before;
-    }
-    wrapped_at(ws, at)
-}
-
-// The larger of a line number and those of the record at a place.
-fn top_at(ws: &[u32], at: usize, top: u64) -> u64
-    requires { ⌜ at < length (now ws) ⌝ }
-    ensures { λ r. ⌜ r ≡ topAt (now (ws .entry)) at top ⌝ }
-{
-    if kind(ws[at]) != 3 {
-        return top;
-    }
-    let body = at + 1;
-    let words = body + 3;
-    let first = number_at(ws, body);
-    let count = body_len(ws, words);
-    if count == 0 {
-        return top;
-    }
-    larger(top, last_line(first, count))
-}
-
-// The width of the column of line numbers up to this one.
-fn column_width(top: u64) -> usize
-    ensures { λ r. ⌜ r ≡ max (length (decimal top)) 4 ⌝ }
-{
-    let digits = count_digits(top);
-    if digits < 4 {
-        return 4;
-    }
-    digits
-}
+ghost use Rattle.text_write.specs.Layouts.{plannedText, Past, First, Tabled, PlanOf};
 
 // What all rows of an object's line table stand by: the width of the column of line numbers, and the words whose lines wrap.
 pub struct Layout {
@@ -178,35 +114,19 @@ fn past_labels(ws: &[u32]) -> usize
     at
 }
 
-// Where its relocations begin, from there on.
-fn past_source(ws: &[u32], from: usize) -> usize
+// Where its first record of a kind begins, its source or relocations, from there on; the end where it has none.
+fn find(ws: &[u32], from: usize, k: u32) -> usize
     requires { ⌜ Past (now ws) from ⌝ }
-    ensures { λ r. ⌜ Links (now (ws .entry)) r ⌝ }
+    ensures { λ r. ⌜ First (now (ws .entry)) k r ⌝ }
 {
     let mut at = from;
     while at < ws.len() {
-        if kind(ws[at]) == 5 {
+        if kind(ws[at]) == k {
             return at;
         }
         at = body_end(ws, at + 1);
     }
     at
-}
-
-// Where the words of its source begin, from there on.
-fn find_source(ws: &[u32], from: usize) -> Place
-    requires { ⌜ Past (now ws) from ⌝ }
-    ensures { λ r. ⌜ Sourced (now (ws .entry)) r ⌝ }
-{
-    let mut at = from;
-    while at < ws.len() {
-        let body = at + 1;
-        if kind(ws[at]) == 4 {
-            return Place::At(body);
-        }
-        at = body_end(ws, body);
-    }
-    Place::Nothing
 }
 
 // That of a well formed object, of which it is known whether it has blocks only.
@@ -218,13 +138,15 @@ pub(crate) fn plan_source(ws: &[u32], only: bool) -> SourcePlan
         return plan_bare(only, 0, 0, 0);
     }
     let first = past_labels(ws);
-    let links = past_source(ws, first);
+    let links = find(ws, first, 5);
     let widths = column_widths(ws);
     let names = widths.names;
     let indices = widths.indices;
-    let Place::At(at) = find_source(ws, first) else {
+    let source = find(ws, first, 4);
+    if ws.len() <= source {
         return plan_bare(only, links, names, indices);
-    };
+    }
+    let at = source + 1;
     let end = body_end(ws, at);
     let n = text_len(ws, at, end);
     let lines = count_newlines(ws, at, n) + 1;
