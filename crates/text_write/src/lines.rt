@@ -1,6 +1,7 @@
 // The line table of the text form: what is found of it in one walk along the line blocks and one along the source, and its parts.
 use label_tables::column_widths;
 use measuring::Room;
+use measuring::take;
 use object::body_end;
 use object::kind;
 use object::text_len;
@@ -63,7 +64,8 @@ fn lay_out(ws: &[u32], lines: u64, from: usize) -> Layout
 }
 
 // What is found once of an object for measuring and writing: whether it has blocks only, and whether it has no source; where it goes on
-// past its labels, where its relocations begin, and the widths of its label table. Else the source of `n` bytes and so many lines in the words from `text` on, the width of the column of line numbers, and the words whose lines wrap.
+// past its labels, where its relocations begin, and the widths of its label table. Else the source of `n` bytes and so many lines in the
+// words from `text` on, the width of the column of line numbers, and the words whose lines wrap.
 pub struct SourcePlan {
     pub only: bool,
     pub bare: bool,
@@ -233,8 +235,5 @@ pub(crate) fn measure_source(room: usize, ws: &[u32], p: SourcePlan) -> Room
     let Room::Left(left) = measure_line_table(room, ws, p) else {
         return Room::Short;
     };
-    if left < 21 {
-        return Room::Short;
-    }
-    Room::Left(left - 21)
+    take(left, 21)
 }
