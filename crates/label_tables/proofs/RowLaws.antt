@@ -47,43 +47,43 @@ unfolding numberAt
 start-none ws p h = rw (number-few ws (p + 1) (omega arith)) refl
 
 -- A ROW OF .SYMBOL
-five : (a b c d e z : List ℕ) → a ++ b ++ c ++ d ++ e ++ z ≡ a ++ (b ++ (c ++ (d ++ (e ++ z))))
-five a b c d e z =
-    append-assoc (a ++ b ++ c ++ d) e z ∙ append-assoc (a ++ b ++ c) d (e ++ z) ∙ append-assoc (a ++ b) c (d ++ (e ++ z))
-    ∙ append-assoc a b (c ++ (d ++ (e ++ z)))
+five : (a b c d e z : List ℕ) → a ++ b ++ c ++ d ++ e ++ z ≡ a ++ ((b ++ (c ++ d)) ++ (e ++ z))
+five a b c d e z = simp append-assoc
 
 -- the parts that its writer puts together
 abbrev pub div : List ℕ
 div = 0x20 ∷ 0x7C ∷ 0x20 ∷ []
 
-abbrev pub symbolParts : ℕ → ℕ → List ℕ → List ℕ
-symbolParts address ext name = hex4 address ++ (div ++ (toRight 3 (decimal ext) ++ (div ++ (name ++ (0x0A ∷ [])))))
+-- EXT between its dividers, by its digit
+abbrev pub extCell : ℕ → List ℕ
+extCell digit = 0x20 ∷ 0x7C ∷ 0x20 ∷ 0x20 ∷ 0x20 ∷ digit ∷ 0x20 ∷ 0x7C ∷ 0x20 ∷ []
 
-pub symbol-parts : (ws : List ℕ) (p : ℕ) (w ext : ℕ) (name : List ℕ) → w ≡ getD ws p 0 → ext ≡ flagBit (leb (2 ^ 16) (w % 2 ^ 29))
-    → name ≡ nameAt ws p → symbolParts (w % 2 ^ 16) ext name ≡ symbolLine ws p
-unfolding symbolLine ascii
-symbol-parts ws p w ext name e f g =
-    rw (g, f, e) (sym (five (hex4 (getD ws p 0 % 2 ^ 16)) div (toRight 3 (decimal (flagBit (leb (2 ^ 16) (getD ws p 0 % 2 ^ 29))))) div
-    (nameAt ws p) (0x0A ∷ [])))
-
-ext-length : (b : Bool) → length (toRight 3 (decimal (flagBit b))) ≡ 3
+ext-cell : (b : Bool) → extCell (0x30 + flagBit b) ≡ div ++ (toRight 3 (decimal (flagBit b)) ++ div)
 unfolding decimal numeral
-ext-length true = refl
-ext-length false = refl
+ext-cell true = refl
+ext-cell false = refl
 
-parts-length : (address : ℕ) (b : Bool) (name : List ℕ) → length (symbolParts address (flagBit b) name) ≡ length name + 14
+abbrev pub symbolParts : ℕ → ℕ → List ℕ → List ℕ
+symbolParts w digit name = hex4 (w % 2 ^ 16) ++ (extCell digit ++ (name ++ (0x0A ∷ [])))
+
+pub symbol-parts : (ws : List ℕ) (p : ℕ) (w digit : ℕ) (name : List ℕ) → w ≡ getD ws p 0
+    → digit ≡ 0x30 + flagBit (leb (2 ^ 16) (w % 2 ^ 29)) → name ≡ nameAt ws p → symbolParts w digit name ≡ symbolLine ws p
+unfolding symbolLine ascii
+symbol-parts ws p w digit name e f g =
+    let b = leb (2 ^ 16) (getD ws p 0 % 2 ^ 29) in
+    let address = hex4 (getD ws p 0 % 2 ^ 16) in
+    rw (g, f, e) (ap (λ l. address ++ (l ++ (nameAt ws p ++ (0x0A ∷ [])))) (ext-cell b)
+    ∙ sym (five address div (toRight 3 (decimal (flagBit b))) div (nameAt ws p) (0x0A ∷ [])))
+
+parts-length : (w digit : ℕ) (name : List ℕ) → length (symbolParts w digit name) ≡ length name + 14
 unfolding hex4 digitsOf
-parts-length address b name =
-    let r = toRight 3 (decimal (flagBit b)) in
-    let x = length-append name (0x0A ∷ []) in
-    let y = length-append r (div ++ (name ++ (0x0A ∷ []))) in
-    omega (arith, ext-length b)
+parts-length w digit name = omega (arith, length-append name (0x0A ∷ []))
 
 pub symbol-length : (ws : List ℕ) (p : ℕ) → length (symbolLine ws p) ≡ length (nameAt ws p) + 14
 symbol-length ws p =
     let w = getD ws p 0 in
-    ap length (sym (symbol-parts ws p w (flagBit (leb (2 ^ 16) (w % 2 ^ 29))) (nameAt ws p) refl refl refl))
-    ∙ parts-length (w % 2 ^ 16) (leb (2 ^ 16) (w % 2 ^ 29)) (nameAt ws p)
+    let digit = 0x30 + flagBit (leb (2 ^ 16) (w % 2 ^ 29)) in
+    ap length (sym (symbol-parts ws p w digit (nameAt ws p) refl refl refl)) ∙ parts-length w digit (nameAt ws p)
 
 -- A ROW OF THE LABEL TABLE
 four : (a b c d z : List ℕ) → a ++ b ++ c ++ d ++ z ≡ a ++ (b ++ (c ++ (d ++ z)))

@@ -1,14 +1,12 @@
 -- The rows of the tables of labels by the labels' places in the words of an object, for every slice of words and every place. That they are
 -- the rows of a well formed object's labels is said in proofs/TableLaws. Assumes nothing.
-use mathlib.Core.Path.{_≡_}
-use mathlib.Core.Bool.{Bool, true}
 use mathlib.Core.List.{List}
-use Prim.Native.Nat.{ℕ, _+_, _≤_, _<_}
+use Prim.Native.Nat.{ℕ, _+_}
 use lib.ListN.{length}
 use Rattle.format.specs.ObjectFile.{Label}
 use Rattle.format.specs.TextWriter.{textLine, symbolRow, labelRow}
 use Rattle.object.specs.Bodies.{bodyAt}
-use Rattle.object.specs.Texts.{textLen, textByte, textBytes}
+use Rattle.object.specs.Texts.{textLen, textBytes}
 use Rattle.object.specs.Access.{labelAt}
 
 -- the bytes of the text words from a place up to the next head
@@ -35,7 +33,3 @@ symbolLine ws p = textLine (symbolRow (rowLabel ws p))
 -- a row of the label table, in columns of these widths
 unfoldable pub labelLine : ℕ → ℕ → List ℕ → ℕ → List ℕ
 labelLine names indices ws p = textLine (labelRow names indices (rowLabel ws p))
-
--- what a test says of three bytes of a text of n: they are ASCII characters
-abbrev pub Ascii : List ℕ → ℕ → ℕ → ℕ → Bool → Type 0
-Ascii ws at i n t = t ≡ true → (i + 3 ≤ n) × (textByte ws at i < 0x80) × (textByte ws at (i + 1) < 0x80) × (textByte ws at (i + 1 + 1) < 0x80)

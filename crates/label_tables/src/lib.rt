@@ -7,14 +7,14 @@ use object::number_at;
 use object::put_text;
 use object::text_byte;
 use object::text_len;
+use object::whole_words;
 use text_numerals::count_digits;
 use text_numerals::put_hex4;
 use text_numerals::put_right;
 use text_numerals::put_spaces;
 use writing::put_bytes;
-use writing::put_u8;
 ghost use mathlib.Core.Path.{_≡_};
-ghost use Prim.Native.Nat.{_+_, _-_, _*_, _%_, _^_, _≤_, _<_, max};
+ghost use Prim.Native.Nat.{_+_, _-_, _*_, _/_, _%_, _^_, _≤_, max};
 ghost use mathlib.Core.List.{flatMap};
 ghost use lib.ListN.{length, getD};
 ghost use lib.Dec.{leb};
@@ -25,18 +25,10 @@ ghost use Rattle.utf8.specs.Chars.{begins};
 ghost use Rattle.writing.specs.Written.{Put};
 ghost use Rattle.object.specs.Bodies.{numberAt};
 ghost use Rattle.object.specs.Texts.{textBytes};
-ghost use Rattle.label_tables.specs.Rows.{nameAt, symbolLine, labelLine, Ascii};
+ghost use Rattle.label_tables.specs.Rows.{nameAt, symbolLine, labelLine};
 ghost use Rattle.measuring.specs.Room.{roomOf, less, lessPart};
 ghost use Rattle.label_tables.specs.Tables.{namesWidth, indicesWidth, symbolsLength, columnsLength};
 ghost use Rattle.label_order.specs.Labels.{labelPlaces};
-
-// 000's TABLE_DIV.
-const TABLE_DIV: [u8; 3] = [0x20, 0x7C, 0x20];
-
-// The header of the label table in two parts: LABEL, and after its spaces the divider and INDEX.
-const LABEL: [u8; 5] = [0x4C, 0x41, 0x42, 0x45, 0x4C];
-
-const DIV_INDEX: [u8; 8] = [0x20, 0x7C, 0x20, 0x49, 0x4E, 0x44, 0x45, 0x58];
 
 // A label's name: where its words begin, and how many bytes it has.
 struct Name {
@@ -81,14 +73,14 @@ fn start_at(ws: &[u32], p: usize) -> u64
     number_at(ws, p + 1)
 }
 
-// EXT: 1 for an external label.
-fn external(w: u32) -> u64
-    ensures { λ r. ⌜ r ≡ flagBit (leb (2 ^ 16) (w % 2 ^ 29)) ⌝ }
+// EXT: the digit 1 for an external label, else 0.
+fn ext_digit(w: u32) -> u8
+    ensures { λ r. ⌜ r ≡ 0x30 + flagBit (leb (2 ^ 16) (w % 2 ^ 29)) ⌝ }
 {
     if w % 0x2000_0000 < 0x1_0000 {
-        return 0;
+        return 0x30;
     }
-    1
+    0x31
 }
 
 // A row of .SYMBOL: address, EXT and name.
@@ -100,16 +92,15 @@ pub fn put_symbol_row(out: &mut [u8], ws: &[u32], p: usize) -> usize
         return 0;
     }
     let w = head_at(ws, p);
-    let ext = external(w);
-    let div = TABLE_DIV;
-    let mut at = 0;
-    at += put_hex4(&mut out[at..], (w % 0x1_0000) as u16);
-    at += put_bytes(&mut out[at..], &div);
-    at += put_right(&mut out[at..], 3, ext);
-    at += put_bytes(&mut out[at..], &div);
-    at += put_text(&mut out[at..], ws, name.at, name.len);
-    at += put_u8(&mut out[at..], 0x0A);
-    at
+    let ext = ext_digit(w);
+    let mut k = put_hex4(out, (w % 0x1_0000) as u16);
+    k += put_bytes(
+        &mut out[k..],
+        &[0x20, 0x7C, 0x20, 0x20, 0x20, ext, 0x20, 0x7C, 0x20],
+    );
+    k += put_text(&mut out[k..], ws, name.at, name.len);
+    out[k] = 0x0A;
+    k + 1
 }
 
 // 1 for a byte that begins a character.
@@ -125,45 +116,23 @@ fn begins(b: u8) -> usize
     0
 }
 
-// Whether a word of three ASCII characters begins at byte i of a text of n bytes, as most words of names do.
-fn is_ascii(ws: &[u32], at: usize, i: usize, n: usize) -> bool
-    requires { ⌜ i < n ⌝ }
-    ensures { λ r. ⌜ Ascii (now (ws .entry)) at i n r ⌝ }
+// How many of the three bytes of a word begin a character.
+fn word_begins(w: u32) -> usize
+    ensures { λ r. ⌜ (r ≡ begins (w % 256) + begins (w / 256 % 256) + begins (w / 65536 % 256)) × (r ≤ 3) ⌝ }
 {
-    if i % 3 != 0 {
-        return false;
-    }
-    if n - i < 3 {
-        return false;
-    }
-    if ws.len() <= at {
-        return false;
-    }
-    if ws.len() - at <= i / 3 {
-        return false;
-    }
-    let w = ws[at + i / 3];
-    if 0x7F < w % 256 {
-        return false;
-    }
-    if 0x7F < w / 256 % 256 {
-        return false;
-    }
-    if 0x7F < w / 65536 % 256 {
-        return false;
-    }
-    true
+    begins((w % 256) as u8) + begins((w / 256 % 256) as u8) + begins((w / 65536 % 256) as u8)
 }
 
-// How many characters the first n bytes of the text words from a place on have.
+// How many characters the first n bytes of the text words from a place on have: by whole words, then byte by byte.
 fn characters(ws: &[u32], at: usize, n: usize) -> usize
     ensures { λ r. ⌜ r ≡ characters (textBytes (now (ws .entry)) at n) ⌝ }
 {
+    let whole = whole_words(ws, at, n);
     let mut count = 0;
     let mut i = 0;
     while i < n {
-        if is_ascii(ws, at, i, n) {
-            count += 3;
+        if i / 3 < whole {
+            count += word_begins(ws[at + i / 3]);
             i += 3;
         } else {
             count += begins(text_byte(ws, at, i));
@@ -220,14 +189,12 @@ pub fn put_label_row(out: &mut [u8], ws: &[u32], p: usize, names: usize, indices
     if !is_room(out.len(), name.len + 4, fill, right) {
         return 0;
     }
-    let div = TABLE_DIV;
-    let mut at = 0;
-    at += put_text(&mut out[at..], ws, name.at, name.len);
-    at += put_spaces(&mut out[at..], fill);
-    at += put_bytes(&mut out[at..], &div);
-    at += put_right(&mut out[at..], indices, start);
-    at += put_u8(&mut out[at..], 0x0A);
-    at
+    let mut k = put_text(out, ws, name.at, name.len);
+    k += put_spaces(&mut out[k..], fill);
+    k += put_bytes(&mut out[k..], b" | ");
+    k += put_right(&mut out[k..], indices, start);
+    out[k] = 0x0A;
+    k + 1
 }
 
 // The larger of two numbers.
@@ -373,13 +340,10 @@ pub fn put_label_header(out: &mut [u8], names: usize, indices: usize) -> usize
     if !is_room(out.len(), 14, a, b) {
         return 0;
     }
-    let label = LABEL;
-    let index = DIV_INDEX;
-    let mut at = 0;
-    at += put_bytes(&mut out[at..], &label);
-    at += put_spaces(&mut out[at..], a);
-    at += put_bytes(&mut out[at..], &index);
-    at += put_spaces(&mut out[at..], b);
-    at += put_u8(&mut out[at..], 0x0A);
-    at
+    let mut k = put_bytes(out, b"LABEL");
+    k += put_spaces(&mut out[k..], a);
+    k += put_bytes(&mut out[k..], b" | INDEX");
+    k += put_spaces(&mut out[k..], b);
+    out[k] = 0x0A;
+    k + 1
 }

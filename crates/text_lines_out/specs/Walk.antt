@@ -11,6 +11,7 @@ use Rattle.format.specs.ObjectFile.{LineBlock, lineEnd}
 use Rattle.format.specs.Records.{emptyObject}
 use Rattle.format.specs.Words.{objectOf}
 use Rattle.format.specs.TextWriter.{Row, plainRows, lineTable, barLine}
+use Rattle.object.specs.Bodies.{bodyAt}
 use Rattle.object.specs.Access.{kindAt, lineBlockAt}
 use Rattle.measuring.specs.Room.{lessPart}
 use Rattle.text_lines_out.specs.Merge.{smaller, blockRows, straight, walkFrom}
@@ -18,6 +19,7 @@ use Rattle.text_lines_out.specs.Lines.{At, rowsText}
 use Rattle.text_lines_out.specs.Runs.{addressFrom, runRows, sourceOf}
 use Rattle.text_lines_out.specs.declared.Table.{Table}
 use Rattle.text_lines_out.specs.declared.Wrapped.{Wrapped}
+use Rattle.text_lines_out.specs.declared.Lines.{Lines}
 use Rattle.text_lines_out.specs.declared.Passed.{Passed}
 use Rattle.text_lines_out.specs.declared.Passed.the-variants as answer
 
@@ -69,6 +71,18 @@ wrappedAt ws at = if eqb (kindAt ws at) 3 then drop (2 ^ 64 - lineBlockAt ws at 
 pub record Wraps (ws xs : List ℕ) (r : Wrapped) : Type 0 where
   pub count : r .count ≡ length xs
   pub rows : runRows 0 (addressFrom true ws (r .place)) 0 (r .count) ≡ blockRows 0 xs
+
+-- words found before stay; else they are those of the record at a place
+pub record WrapsOn (ws : List ℕ) (at : ℕ) (before r : Wrapped) : Type 0 where
+  pub kept : 0 < before .count → r ≡ before
+  pub found : before .count ≡ 0 → Wraps ws (wrappedAt ws at) r
+
+-- the lines of the record at a place: none unless it is a line block
+pub record LinesAt (ws : List ℕ) (at : ℕ) (r : Lines) : Type 0 where
+  pub other : (kindAt ws at ≡ 3 → ⊥) → r .count ≡ 0
+  pub block :
+      kindAt ws at ≡ 3 → (r .first ≡ lineBlockAt ws at .first) × (r .count ≡ length (bodyAt ws (at + 1 + 3))) × (r .place ≡ at + 1 + 3)
+  pub fits : r .place + r .count ≤ length ws + 4
 
 -- the largest line number that a block with addresses sets in: the largest 64-bit value where lines wrap
 abbrev pub lastLine : LineBlock → ℕ

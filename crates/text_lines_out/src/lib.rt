@@ -1,16 +1,21 @@
 // The line table of the text form: its rows in the order of their numbers, what a walk along an object's records knows of them, and the
 // functions on them that hold of every input. The walk itself is crate text_write's.
 use measuring::Room;
+use object::body_len;
+use object::kind;
+use object::number_at;
+use text_numerals::count_digits;
 use text_numerals::put_spaces;
 use writing::put_bytes;
 ghost use mathlib.Core.Path.{_≡_};
-ghost use Prim.Native.Nat.{_+_, _-_, _^_};
-ghost use lib.ListN.{getD};
-ghost use Rattle.format.specs.TextWriter.{textLine, lineHeader};
+ghost use Prim.Native.Nat.{_+_, _-_, _^_, max};
+ghost use lib.ListN.{length, getD};
+ghost use Rattle.format.specs.TextWriter.{decimal, textLine, lineHeader};
 ghost use Rattle.writing.specs.Written.{Put};
 ghost use Rattle.object.specs.Access.{addressIn};
 ghost use Rattle.measuring.specs.Room.{roomOf, lessPart};
 ghost use Rattle.text_lines_out.specs.Merge.{smaller};
+ghost use Rattle.text_lines_out.specs.Walk.{LinesAt, WrapsOn, topAt};
 
 // The smaller of two.
 pub fn smaller(a: usize, b: usize) -> usize
@@ -155,6 +160,79 @@ pub fn last_line(first: u64, count: usize) -> u64
         return first + more;
     }
     0xFFFF_FFFF_FFFF_FFFF
+}
+
+// The lines of a line block: the first, how many, and the place of the first one's word.
+pub struct Lines {
+    pub first: u64,
+    pub count: usize,
+    pub place: usize,
+}
+
+// Those of the record at a place: none unless it is a line block.
+fn lines_at(ws: &[u32], at: usize) -> Lines
+    ensures { λ r. ⌜ LinesAt (now (ws .entry)) at r ⌝ }
+{
+    if ws.len() <= at {
+        return Lines {
+            first: 0,
+            count: 0,
+            place: 0,
+        };
+    }
+    if kind(ws[at]) != 3 {
+        return Lines {
+            first: 0,
+            count: 0,
+            place: 0,
+        };
+    }
+    let body = at + 1;
+    let place = body + 3;
+    let first = number_at(ws, body);
+    let count = body_len(ws, place);
+    Lines {
+        first,
+        count,
+        place,
+    }
+}
+
+// The larger of a line number and those of the record at a place.
+pub fn top_at(ws: &[u32], at: usize, top: u64) -> u64
+    ensures { λ r. ⌜ r ≡ topAt (now (ws .entry)) at top ⌝ }
+{
+    let lines = lines_at(ws, at);
+    if lines.count == 0 {
+        return top;
+    }
+    larger(top, last_line(lines.first, lines.count))
+}
+
+// The words found before whose lines wrap; else those of the record at a place.
+pub fn wrapped_on(ws: &[u32], at: usize, before: Wrapped) -> Wrapped
+    ensures { λ r. ⌜ WrapsOn (now (ws .entry)) at before r ⌝ }
+{
+    if before.count > 0 {
+        return before;
+    }
+    let lines = lines_at(ws, at);
+    let kept = straight_count(lines.first, lines.count);
+    Wrapped {
+        place: lines.place + kept,
+        count: lines.count - kept,
+    }
+}
+
+// The width of the column of line numbers up to this one.
+pub fn column_width(top: u64) -> usize
+    ensures { λ r. ⌜ r ≡ max (length (decimal top)) 4 ⌝ }
+{
+    let digits = count_digits(top);
+    if digits < 4 {
+        return 4;
+    }
+    digits
 }
 
 // The header of the line table, for a column of this width.

@@ -8,10 +8,9 @@ use borrow.Author.Tests.{eqb-true, eqb-false}
 use Rattle.format.specs.ObjectFile.{LineBlock}
 use Rattle.format.proofs.ListLaws.{by-test}
 use Rattle.text_lines_out.specs.Merge.{wrapped}
-use Rattle.text_lines_out.specs.Walk.{lineBlocksIn, wrappedAt, Wraps}
+use Rattle.text_lines_out.specs.Walk.{lineBlocksIn, wrappedAt, Wraps, WrapsOn}
 use Rattle.text_lines_out.specs.declared.Wrapped.{Wrapped}
 use Rattle.text_lines_out.proofs.TableLaws.{Steps, wrapped-on, wrapped-here, wraps-none, wrapped-nothing, none-here}
-use Rattle.text_write.specs.Layouts.{WrapsOn}
 
 -- before the line blocks that are left: words found are all, and none found leaves them to the rest
 pub record Finds (ws : List ℕ) (ls : List LineBlock) (r : Wrapped) : Type 0 where

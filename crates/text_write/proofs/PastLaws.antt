@@ -11,7 +11,7 @@ use borrow.Author.Tests.{ne-eqb, eqb-true, eqb-false}
 use Rattle.format.specs.Basics.{Outcome, given, givenOr, isEmpty}
 use Rattle.format.specs.ObjectFile.{Block, Label, LineBlock, Relocation, ObjectFile}
 use Rattle.format.specs.Records.{Record, block, label, lineBlock, source, relocation, recordKey, recordsOf, sourceRecords, emptyObject, placed}
-use Rattle.format.specs.Words.{isHead, recordsFrom}
+use Rattle.format.specs.Words.{isHead, recordsFrom, objectOf}
 use Rattle.format.specs.TextWriter.{textLine, blockLines, linkerRow}
 use Rattle.format.specs.Calls.{checked}
 use Rattle.format.proofs.ListLaws.{by-test}
@@ -25,11 +25,13 @@ use Rattle.object.proofs.Formed.{formed, held}
 use Rattle.object.proofs.BodyLaws.{head-at}
 use Rattle.object.proofs.WordLaws.{head-kind}
 use Rattle.object.proofs.AccessLaws.{next, record-is}
-use Rattle.source_info.proofs.RecordLaws.{Left, start, here, on, lines-other, source-other}
+use Rattle.source_info.proofs.RecordLaws.{Left, start, finish, here, on, lines-other, source-here, source-other, source-text}
+use Rattle.source_info.specs.Sources.{Sourced}
+use Rattle.source_info.specs.declared.Place.the-variants as place
 use Rattle.text_lines_out.specs.Walk.{lineBlocksIn}
 use Rattle.text_lines_out.proofs.TableLaws.{blocks-start}
 use Rattle.text_write.specs.Tables.{objectIn, blockTable, relocationRows, relocationPart, relocationsText}
-use Rattle.text_write.specs.Layouts.{Past, Links}
+use Rattle.text_write.specs.Layouts.{Past, First, Links}
 use Rattle.text_write.proofs.GroupLaws.{row-there}
 use Rattle.text_write.proofs.PartLaws.{relocations-walk}
 use Rattle.text_write.proofs.WalkLaws.{past, walk-end, walk-part}
@@ -72,16 +74,34 @@ module _ (ws : List ℕ) where
         let g = here ws linksOf at v h l in
         on ws linksOf linksOf at n v g e (links-other ws at (g .rest) (head-at ws at h (l .stops)) k)
 
+    pub sourced-on : (v : Option (List ℕ)) → (kindAt ws at ≡ 4 → ⊥) → Left ws at sourceOf v → Left ws n sourceOf v
+    sourced-on v k l = let g = here ws sourceOf at v h l in on ws sourceOf sourceOf at n v g e (source-other ws at (g .rest) k)
+
     pub past-on : kindAt ws at ≤ 2 → Past ws at → Past ws n
     past-on k p =
         let v = lineBlocksIn ws in
-        let g = here ws linesOf at v h (p .0) in
-        let s = objectIn ws .source in
-        let b = here ws sourceOf at s h (p .2) in (
+        let g = here ws linesOf at v h (p .0) in (
           on ws linesOf linesOf at n v g e (lines-other ws at (g .rest) (λ z. omega (arith, k, z))),
           linked-on (objectIn ws .relocations) (λ z. omega (arith, k, z)) (p .1),
-          on ws sourceOf sourceOf at n s b e (source-other ws at (b .rest) (λ z. omega (arith, k, z))),
+          sourced-on (objectIn ws .source) (λ z. omega (arith, k, z)) (p .2),
         )
+
+  -- the source, where the first record of its kind was looked for
+  module _ (at : ℕ) (f : First ws 4 at) where
+    same-source : (h : ObjectFile) → objectOf ws ≡ given h → h .source ≡ objectIn ws .source
+    same-source h q = sym (ap (λ o. givenOr o emptyObject .source) q)
+
+    pub source-found : at < length ws → Sourced ws (place.At (at + 1))
+    source-found h o q =
+        let a = here ws sourceOf at (objectIn ws .source) h (f .source refl) in
+        (same-source o q ∙ sym (a .same) ∙ source-here ws at (a .rest) (f .there h), source-text ws sourceOf at (objectIn ws .source) a (f .there h))
+
+    pub source-missing : length ws ≤ at → Sourced ws place.Nothing
+    unfolding emptyObject
+    source-missing h o q = same-source o q ∙ sym (finish ws sourceOf at (objectIn ws .source) h (f .source refl))
+
+  pub first-links : (at : ℕ) → First ws 5 at → Links ws at
+  first-links at f = (f .links refl, f .there)
 
   -- the rows of relocations
   module _ (at : ℕ) (l : Left ws at linksOf (objectIn ws .relocations)) where

@@ -1,4 +1,4 @@
--- A walk from head to head along a well formed object passes its blocks, and its relocations. Assumes nothing.
+-- A walk from head to head along a well formed object passes its blocks, and its relocations; and the tables of its labels. Assumes nothing.
 use mathlib.Core.Path.{_≡_, refl, sym, ap, subst, _∙_}
 use mathlib.Core.List.{List, [], _∷_, _++_, flatMap}
 use Prim.Native.Nat.{ℕ, zero, suc, _+_, _-_, _≤_, _<_}
@@ -6,6 +6,8 @@ use native.Mathlib.Omega.{arith}
 use lib.ListN.{length}
 use lib.Dec.{ltb, eqb}
 use borrow.Author.Tests.{ltb-true, ltb-false, eqb-true, eqb-false}
+use Rattle.format.specs.ObjectFile.{Label}
+use Rattle.format.specs.TextWriter.{symbolTable, symbolHeader, labelTable, labelHeader}
 use Rattle.format.specs.Calls.{checked}
 use Rattle.format.proofs.ListLaws.{by-test}
 use Rattle.writing.specs.Written.{Put}
@@ -16,6 +18,12 @@ use Rattle.measuring.specs.Fitting.{fitting}
 use Rattle.measuring.proofs.FittingLaws.{all-put}
 use Rattle.text_parts_out.specs.Parts.{heads, leading, blockText, blockPlaces, linkText}
 use Rattle.text_parts_out.proofs.HeadLaws.{heads-end, heads-next, leading-end, leading-other, leading-next}
+use Rattle.label_order.specs.Labels.{labelPlaces}
+use Rattle.label_tables.specs.Rows.{symbolLine, labelLine}
+use Rattle.label_tables.specs.Tables.{namesWidth, indicesWidth, byAddress, byStart}
+use Rattle.label_tables.proofs.TableLaws.{symbols-text, labels-text}
+use Rattle.label_windows.specs.Fits.{tableFitting}
+use Rattle.label_windows.proofs.FitLaws.{table-put}
 use Rattle.text_write.specs.Tables.{objectIn, blockTable, blockPart, blocksText, relocationRows, relocationPart, relocationsText}
 use Rattle.text_write.specs.Layouts.{Links}
 use Rattle.text_write.proofs.WalkLaws.{past, walk-start, walk-end, walk-part, walk-on}
@@ -109,3 +117,32 @@ module _ (ws : List ℕ) where
     links-put room after r h p =
         subst (λ (x : List ℕ). Put x room r after) links-are
         (all-put (linkText ws) (heads ws at) room after r (omega (arith, h, ap length links-are)) p)
+
+-- THE TABLES OF LABELS
+subst₂ : (P : ℕ → ℕ → Type 0) {a b c d : ℕ} → a ≡ b → c ≡ d → P a c → P b d
+subst₂ P {a} {b} {c} {d} e f p = subst (λ (x : ℕ). P b x) f (subst (λ (x : ℕ). P x c) e p)
+
+module _ (ws : List ℕ) (z : checked ws ≡ 0) where
+  abbrev labels : List Label
+  labels = objectIn ws .labels
+
+  pub symbols-put : (room after : List ℕ) (r : ℕ) → length (symbolTable labels) ≤ length room
+      → Put (tableFitting symbolHeader (symbolLine ws) (labelPlaces ws) (byAddress ws) (length room)) room r after
+      → Put (symbolTable labels) room r after
+  symbols-put room after r h p =
+      subst (λ (x : List ℕ). Put x room r after) (symbols-text ws z)
+      (table-put symbolHeader (symbolLine ws) (labelPlaces ws) (byAddress ws) room after r
+      (omega (arith, h, ap length (symbols-text ws z))) p)
+
+  pub labels-put : (names indices : ℕ) → (names ≡ namesWidth ws) × (indices ≡ indicesWidth ws) → (room after : List ℕ) (r : ℕ)
+      → length (labelTable labels) ≤ length room
+      → Put (tableFitting (labelHeader names indices) (labelLine names indices ws) (labelPlaces ws) (byStart ws) (length room)) room r after
+      → Put (labelTable labels) room r after
+  labels-put names indices q room after r h p =
+      let x = namesWidth ws in
+      let y = indicesWidth ws in
+      subst (λ (x : List ℕ). Put x room r after) (labels-text ws z)
+      (table-put (labelHeader x y) (labelLine x y ws) (labelPlaces ws) (byStart ws) room after r
+      (omega (arith, h, ap length (labels-text ws z)))
+      (subst₂ (λ n i. Put (tableFitting (labelHeader n i) (labelLine n i ws) (labelPlaces ws) (byStart ws) (length room)) room r after)
+      (q .0) (q .1) p))

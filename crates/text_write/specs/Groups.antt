@@ -39,17 +39,11 @@ groups h = if blocksOnly h then [] else symbolGroups h
 abbrev pub linkerText : List ℕ → List ℕ
 linkerText ws = linkerTable (objectIn ws .relocations)
 
-abbrev pub symbolsText : List ℕ → List ℕ
-symbolsText ws = textLine (ascii ".SYMBOL") ++ symbolTable (objectIn ws .labels)
-
 abbrev pub linksText : List ℕ → List ℕ
 linksText ws = linkerLines ++ linkerText ws
 
 abbrev pub namesText : List ℕ → List ℕ
-namesText ws = nameGroups (objectIn ws)
-
-abbrev pub labelsText : List ℕ → List ℕ
-labelsText ws = debugLines ++ labelTable (objectIn ws .labels)
+namesText ws = textLine [] ++ nameGroups (objectIn ws)
 
 abbrev pub linesText : List ℕ → List ℕ
 linesText ws = barLine ++ sourceTable ws
@@ -59,9 +53,6 @@ debugText ws = debugGroup (objectIn ws)
 
 abbrev pub groupsText : List ℕ → List ℕ
 groupsText ws = groups (objectIn ws)
-
-abbrev pub frontText : List ℕ → List ℕ
-frontText ws = headLines ++ blocksText ws
 
 abbrev pub restText : List ℕ → List ℕ
 restText ws = textLine [] ++ groupsText ws

@@ -11,16 +11,11 @@ use Rattle.object.specs.Texts.{textBytes}
 use Rattle.object.specs.Access.{kindAt}
 use Rattle.source_info.proofs.RecordLaws.{Left}
 use Rattle.text_lines_out.specs.Merge.{wrapped}
-use Rattle.text_lines_out.specs.Walk.{lineBlocksIn, wrappedAt, Wraps, sourceTable}
+use Rattle.text_lines_out.specs.Walk.{lineBlocksIn, Wraps, sourceTable}
 use Rattle.text_lines_out.specs.declared.Wrapped.{Wrapped}
 use Rattle.label_tables.specs.Tables.{namesWidth, indicesWidth}
 use Rattle.text_write.specs.Tables.{objectIn}
 use Rattle.text_write.specs.declared.lines.SourcePlan.{SourcePlan}
-
--- words found before stay; else they are those of the record at a place
-pub record WrapsOn (ws : List ℕ) (at : ℕ) (before r : Wrapped) : Type 0 where
-  pub kept : 0 < before .count → r ≡ before
-  pub found : before .count ≡ 0 → Wraps ws (wrappedAt ws at) r
 
 -- the source of a plan, and its words whose lines wrap
 abbrev pub plannedText : List ℕ → SourcePlan → List ℕ
@@ -34,6 +29,12 @@ abbrev pub Past : List ℕ → ℕ → Type 0
 Past ws at =
     Left ws at (λ h. h .lineBlocks) (lineBlocksIn ws) × Left ws at (λ h. h .relocations) (objectIn ws .relocations)
     × Left ws at (λ h. h .source) (objectIn ws .source)
+
+-- of this kind is the record at a head past which the object's source lies (4), or its relocations (5); or it is the end
+pub record First (ws : List ℕ) (k at : ℕ) : Type 0 where
+  pub source : k ≡ 4 → Left ws at (λ h. h .source) (objectIn ws .source)
+  pub links : k ≡ 5 → Left ws at (λ h. h .relocations) (objectIn ws .relocations)
+  pub there : at < length ws → kindAt ws at ≡ k
 
 -- the object's relocations begin at a head, or there are none
 abbrev pub Links : List ℕ → ℕ → Type 0

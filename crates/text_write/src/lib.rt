@@ -9,7 +9,7 @@ use label_windows::put_symbol_table;
 use lines::SourcePlan;
 use lines::measure_source;
 use lines::plan_source;
-use lines::put_source;
+use lines::put_line_table;
 use measuring::Room;
 use measuring::take;
 use object::body_end;
@@ -28,12 +28,11 @@ ghost use Prim.Native.Nat.{_≤_};
 ghost use lib.ListN.{length};
 ghost use Rattle.format.specs.Calls.{checked, fill, writeText};
 ghost use Rattle.units.specs.Filled.{filledOf};
-ghost use Rattle.format.specs.TextWriter.{blocksOnly};
+ghost use Rattle.format.specs.TextWriter.{barLine, blocksOnly};
 ghost use Rattle.writing.specs.Written.{Put};
 ghost use Rattle.measuring.specs.Room.{roomOf, lessPart};
-ghost use Rattle.text_write.specs.Groups.{linkerText, symbolsText, linksText, namesText, labelsText, linesText, debugText};
-ghost use Rattle.text_write.specs.Groups.{groupsText, frontText, restText, fileText};
-ghost use Rattle.label_tables.specs.Tables.{namesWidth, indicesWidth};
+ghost use Rattle.text_write.specs.Groups.{linkerText, linksText, namesText, linesText, debugText};
+ghost use Rattle.text_write.specs.Groups.{groupsText, restText, fileText};
 ghost use Rattle.text_write.specs.Layouts.{Links, PlanOf};
 ghost use Rattle.text_write.specs.Tables.{objectIn};
 
@@ -49,18 +48,6 @@ fn measure_linker(room: usize, ws: &[u32], from: usize) -> Room
         return Room::Left(room);
     }
     take(left, 13)
-}
-
-// The linker table.
-fn put_linker(out: &mut [u8], ws: &[u32], from: usize) -> usize
-    requires { ⌜ Links (now ws) from × (length (linkerText (now ws)) ≤ length (now out)) ⌝ }
-    ensures { λ r. ⌜ Put (linkerText (now (ws .entry))) (now (out .entry)) r (now (out .exit)) ⌝ }
-{
-    if ws.len() <= from {
-        return 0;
-    }
-    let n = put_bytes(out, b"ADDR | LABEL\n");
-    n + put_relocations(&mut out[n..], ws, from)
 }
 
 // Whether a record of this kind is neither a block nor a line block.
@@ -128,100 +115,78 @@ fn measure_file(room: usize, ws: &[u32], p: SourcePlan) -> Room
     measure_groups(b, ws, p)
 }
 
-// .SYMBOL.
-fn put_symbols(out: &mut [u8], ws: &[u32]) -> usize
-    requires { ⌜ (checked (now ws) ≡ 0) × (length (symbolsText (now ws)) ≤ length (now out)) ⌝ }
-    ensures { λ r. ⌜ Put (symbolsText (now (ws .entry))) (now (out .entry)) r (now (out .exit)) ⌝ }
-{
-    let n = put_bytes(out, b".SYMBOL\n");
-    n + put_symbol_table(&mut out[n..], ws)
-}
-
-// .LINKER_INFO, after an empty line.
+// .LINKER_INFO after an empty line; its table has a header only if there are rows.
 fn put_links(out: &mut [u8], ws: &[u32], from: usize) -> usize
     requires { ⌜ (length (linksText (now ws)) ≤ length (now out)) × Links (now ws) from ⌝ }
     ensures { λ r. ⌜ Put (linksText (now (ws .entry))) (now (out .entry)) r (now (out .exit)) ⌝ }
 {
-    let n = put_bytes(out, b"\n.LINKER_INFO\n");
-    n + put_linker(&mut out[n..], ws, from)
+    if ws.len() <= from {
+        return put_bytes(out, b"\n.LINKER_INFO\n");
+    }
+    let n = put_bytes(out, b"\n.LINKER_INFO\nADDR | LABEL\n");
+    n + put_relocations(&mut out[n..], ws, from)
 }
 
-// .SYMBOL and .LINKER_INFO.
+// After an empty line, .SYMBOL and .LINKER_INFO.
 fn put_names(out: &mut [u8], ws: &[u32], from: usize) -> usize
     requires { ⌜ (checked (now ws) ≡ 0) × (length (namesText (now ws)) ≤ length (now out)) × Links (now ws) from ⌝ }
     ensures { λ r. ⌜ Put (namesText (now (ws .entry))) (now (out .entry)) r (now (out .exit)) ⌝ }
 {
-    let n = put_symbols(out, ws);
+    let mut n = put_bytes(out, b"\n.SYMBOL\n");
+    n += put_symbol_table(&mut out[n..], ws);
     n + put_links(&mut out[n..], ws, from)
 }
 
-// The fixed lines of .DEBUG, after an empty line, and the label table, in columns of its widths.
-fn put_labels(out: &mut [u8], ws: &[u32], names: usize, indices: usize) -> usize
-    requires { ⌜ (checked (now ws) ≡ 0) × (length (labelsText (now ws)) ≤ length (now out)) × (names ≡ namesWidth (now ws))
-        × (indices ≡ indicesWidth (now ws)) ⌝ }
-    ensures { λ r. ⌜ Put (labelsText (now (ws .entry))) (now (out .entry)) r (now (out .exit)) ⌝ }
+// A divider line.
+fn put_bar(out: &mut [u8]) -> usize
+    ensures { λ r. ⌜ Put barLine (now (out .entry)) r (now (out .exit)) ⌝ }
 {
-    let n = put_bytes(out, b"\n.DEBUG\n# DEBUG SYMBOLS FOR LC3TOOLS\n\n");
-    n + put_label_table(&mut out[n..], ws, names, indices)
+    put_bytes(out, b"====================\n")
 }
 
-// A divider line, and the line table.
+// A divider line, and with a source the line table and another one.
 fn put_lines(out: &mut [u8], ws: &[u32], p: SourcePlan) -> usize
     requires { ⌜ (checked (now ws) ≡ 0) × (length (linesText (now ws)) ≤ length (now out)) × PlanOf (now ws) p ⌝ }
     ensures { λ r. ⌜ Put (linesText (now (ws .entry))) (now (out .entry)) r (now (out .exit)) ⌝ }
 {
-    let n = put_bytes(out, b"====================\n");
-    n + put_source(&mut out[n..], ws, p)
+    let mut n = put_bar(out);
+    if p.bare {
+        return n;
+    }
+    n += put_line_table(&mut out[n..], ws, p);
+    n + put_bar(&mut out[n..])
 }
 
-// .DEBUG, after an empty line.
+// .DEBUG after an empty line: its fixed lines, the label table, and the line table.
 fn put_debug(out: &mut [u8], ws: &[u32], p: SourcePlan) -> usize
     requires { ⌜ (checked (now ws) ≡ 0) × (length (debugText (now ws)) ≤ length (now out)) × PlanOf (now ws) p
         × (p .only ≡ false) ⌝ }
     ensures { λ r. ⌜ Put (debugText (now (ws .entry))) (now (out .entry)) r (now (out .exit)) ⌝ }
 {
-    let n = put_labels(out, ws, p.names, p.indices);
+    let mut n = put_bytes(out, b"\n.DEBUG\n# DEBUG SYMBOLS FOR LC3TOOLS\n\n");
+    n += put_label_table(&mut out[n..], ws, p.names, p.indices);
     n + put_lines(&mut out[n..], ws, p)
 }
 
-// The groups past .TEXT; none where the object has blocks only.
-fn put_groups(out: &mut [u8], ws: &[u32], p: SourcePlan) -> usize
-    requires { ⌜ (checked (now ws) ≡ 0) × (length (groupsText (now ws)) ≤ length (now out)) × PlanOf (now ws) p ⌝ }
-    ensures { λ r. ⌜ Put (groupsText (now (ws .entry))) (now (out .entry)) r (now (out .exit)) ⌝ }
-{
-    if p.only {
-        return 0;
-    }
-    let mut n = 0;
-    n += put_names(&mut out[n..], ws, p.links);
-    n += put_debug(&mut out[n..], ws, p);
-    n
-}
-
-// The fixed lines at the front, and the blocks.
-fn put_text(out: &mut [u8], ws: &[u32]) -> usize
-    requires { ⌜ (checked (now ws) ≡ 0) × (length (frontText (now ws)) ≤ length (now out)) ⌝ }
-    ensures { λ r. ⌜ Put (frontText (now (ws .entry))) (now (out .entry)) r (now (out .exit)) ⌝ }
-{
-    let n = put_bytes(out, b"LC-3 OBJ FILE\n\n.TEXT\n");
-    n + put_blocks(&mut out[n..], ws)
-}
-
-// An empty line, and the groups.
+// An empty line, and the groups past .TEXT; none where the object has blocks only.
 fn put_rest(out: &mut [u8], ws: &[u32], p: SourcePlan) -> usize
     requires { ⌜ (checked (now ws) ≡ 0) × (length (restText (now ws)) ≤ length (now out)) × PlanOf (now ws) p ⌝ }
     ensures { λ r. ⌜ Put (restText (now (ws .entry))) (now (out .entry)) r (now (out .exit)) ⌝ }
 {
-    let n = put_u8(out, 0x0A);
-    n + put_groups(&mut out[n..], ws, p)
+    if p.only {
+        return put_u8(out, 0x0A);
+    }
+    let n = put_names(out, ws, p.links);
+    n + put_debug(&mut out[n..], ws, p)
 }
 
-// The text file of a well formed object.
+// The text file of a well formed object: the fixed lines at the front, the blocks, and the rest.
 fn put_file(out: &mut [u8], ws: &[u32], p: SourcePlan) -> usize
     requires { ⌜ (checked (now ws) ≡ 0) × (length (fileText (now ws)) ≤ length (now out)) × PlanOf (now ws) p ⌝ }
     ensures { λ r. ⌜ Put (fileText (now (ws .entry))) (now (out .entry)) r (now (out .exit)) ⌝ }
 {
-    let n = put_text(out, ws);
+    let mut n = put_bytes(out, b"LC-3 OBJ FILE\n\n.TEXT\n");
+    n += put_blocks(&mut out[n..], ws);
     n + put_rest(&mut out[n..], ws, p)
 }
 

@@ -1,28 +1,24 @@
 // The line table of the text form: what is found of it in one walk along the line blocks and one along the source, and its parts.
 use label_tables::column_widths;
 use measuring::Room;
+use measuring::take;
 use object::body_end;
-use object::body_len;
 use object::kind;
-use object::number_at;
 use object::text_len;
-use source_info::Place;
 use source_info::count_newlines;
 use text_lines_out::Rows;
 use text_lines_out::Run;
 use text_lines_out::Table;
 use text_lines_out::Wrapped;
-use text_lines_out::larger;
-use text_lines_out::last_line;
+use text_lines_out::column_width;
 use text_lines_out::measure_line_header;
 use text_lines_out::put_line_header;
-use text_lines_out::straight_count;
-use text_numerals::count_digits;
+use text_lines_out::top_at;
+use text_lines_out::wrapped_on;
 use text_runs_out::measure_line_records;
 use text_runs_out::measure_run;
 use text_runs_out::put_line_records;
 use text_runs_out::put_run;
-use writing::put_bytes;
 ghost use mathlib.Core.Path.{_≡_};
 ghost use mathlib.Core.List.{[], _∷_};
 ghost use mathlib.Core.Bool.{true};
@@ -33,7 +29,6 @@ ghost use Rattle.format.specs.Calls.{checked};
 ghost use Rattle.format.specs.TextWriter.{lineTable, decimal, lineWidth, addBlocks, plainRows, blocksOnly};
 ghost use Rattle.writing.specs.Written.{Put};
 ghost use Rattle.object.specs.Texts.{textBytes};
-ghost use Rattle.source_info.specs.Sources.{Sourced};
 ghost use Rattle.text_numerals.specs.Memory.{knownWord};
 ghost use Rattle.measuring.specs.Room.{roomOf, lessPart};
 ghost use Rattle.text_lines_out.specs.Lines.{At, Next, rowsText};
@@ -42,66 +37,7 @@ ghost use Rattle.text_lines_out.specs.Runs.{row, Measured, Planned, sourceOf, r
 ghost use Rattle.text_lines_out.specs.Walk.{recordRows, recordText, recordDone, Follows, Passes, walkRows};
 ghost use Rattle.text_lines_out.specs.Walk.{lineBlocksIn, wrappedAt, Wraps, topAt, sourceTable};
 ghost use Rattle.text_write.specs.Tables.{objectIn};
-ghost use Rattle.text_write.specs.Layouts.{WrapsOn, plannedText, Past, Links, Tabled, PlanOf};
-
-// Those of the record at a place: none unless it is a line block.
-fn wrapped_at(ws: &[u32], at: usize) -> Wrapped
-    requires { ⌜ at < length (now ws) ⌝ }
-    ensures { λ r. ⌜ Wraps (now (ws .entry)) (wrappedAt (now (ws .entry)) at) r ⌝ }
-{
-    if kind(ws[at]) != 3 {
-        return Wrapped { place: 0, count: 0 };
-    }
-    let body = at + 1;
-    let words = body + 3;
-    let first = number_at(ws, body);
-    let count = body_len(ws, words);
-    let kept = straight_count(first, count);
-    Wrapped {
-        place: words + kept,
-        count: count - kept,
-    }
-}
-
-// Those found before; else those of the record at a place.
-fn wrapped_on(ws: &[u32], at: usize, before: Wrapped) -> Wrapped
-    requires { ⌜ at < length (now ws) ⌝ }
-    ensures { λ r. ⌜ WrapsOn (now (ws .entry)) at before r ⌝ }
-{
-    if before.count > 0 {
-        return before;
-    }
-    wrapped_at(ws, at)
-}
-
-// The larger of a line number and those of the record at a place.
-fn top_at(ws: &[u32], at: usize, top: u64) -> u64
-    requires { ⌜ at < length (now ws) ⌝ }
-    ensures { λ r. ⌜ r ≡ topAt (now (ws .entry)) at top ⌝ }
-{
-    if kind(ws[at]) != 3 {
-        return top;
-    }
-    let body = at + 1;
-    let words = body + 3;
-    let first = number_at(ws, body);
-    let count = body_len(ws, words);
-    if count == 0 {
-        return top;
-    }
-    larger(top, last_line(first, count))
-}
-
-// The width of the column of line numbers up to this one.
-fn column_width(top: u64) -> usize
-    ensures { λ r. ⌜ r ≡ max (length (decimal top)) 4 ⌝ }
-{
-    let digits = count_digits(top);
-    if digits < 4 {
-        return 4;
-    }
-    digits
-}
+ghost use Rattle.text_write.specs.Layouts.{plannedText, Past, First, Tabled, PlanOf};
 
 // What all rows of an object's line table stand by: the width of the column of line numbers, and the words whose lines wrap.
 pub struct Layout {
@@ -128,7 +64,8 @@ fn lay_out(ws: &[u32], lines: u64, from: usize) -> Layout
 }
 
 // What is found once of an object for measuring and writing: whether it has blocks only, and whether it has no source; where it goes on
-// past its labels, where its relocations begin, and the widths of its label table. Else the source of `n` bytes and so many lines in the words from `text` on, the width of the column of line numbers, and the words whose lines wrap.
+// past its labels, where its relocations begin, and the widths of its label table. Else the source of `n` bytes and so many lines in the
+// words from `text` on, the width of the column of line numbers, and the words whose lines wrap.
 pub struct SourcePlan {
     pub only: bool,
     pub bare: bool,
@@ -179,35 +116,19 @@ fn past_labels(ws: &[u32]) -> usize
     at
 }
 
-// Where its relocations begin, from there on.
-fn past_source(ws: &[u32], from: usize) -> usize
+// Where its first record of a kind begins, its source or relocations, from there on; the end where it has none.
+fn find(ws: &[u32], from: usize, k: u32) -> usize
     requires { ⌜ Past (now ws) from ⌝ }
-    ensures { λ r. ⌜ Links (now (ws .entry)) r ⌝ }
+    ensures { λ r. ⌜ First (now (ws .entry)) k r ⌝ }
 {
     let mut at = from;
     while at < ws.len() {
-        if kind(ws[at]) == 5 {
+        if kind(ws[at]) == k {
             return at;
         }
         at = body_end(ws, at + 1);
     }
     at
-}
-
-// Where the words of its source begin, from there on.
-fn find_source(ws: &[u32], from: usize) -> Place
-    requires { ⌜ Past (now ws) from ⌝ }
-    ensures { λ r. ⌜ Sourced (now (ws .entry)) r ⌝ }
-{
-    let mut at = from;
-    while at < ws.len() {
-        let body = at + 1;
-        if kind(ws[at]) == 4 {
-            return Place::At(body);
-        }
-        at = body_end(ws, body);
-    }
-    Place::Nothing
 }
 
 // That of a well formed object, of which it is known whether it has blocks only.
@@ -219,13 +140,15 @@ pub(crate) fn plan_source(ws: &[u32], only: bool) -> SourcePlan
         return plan_bare(only, 0, 0, 0);
     }
     let first = past_labels(ws);
-    let links = past_source(ws, first);
+    let links = find(ws, first, 5);
     let widths = column_widths(ws);
     let names = widths.names;
     let indices = widths.indices;
-    let Place::At(at) = find_source(ws, first) else {
+    let source = find(ws, first, 4);
+    if ws.len() <= source {
         return plan_bare(only, links, names, indices);
-    };
+    }
+    let at = source + 1;
     let end = body_end(ws, at);
     let n = text_len(ws, at, end);
     let lines = count_newlines(ws, at, n) + 1;
@@ -275,8 +198,8 @@ fn measure_line_table(room: usize, ws: &[u32], p: SourcePlan) -> Room
     measure_line_records(rest, ws, t, next, p.first)
 }
 
-// It, written into a room that suffices.
-fn put_line_table(out: &mut [u8], ws: &[u32], p: SourcePlan) -> usize
+// The line table, written into a room that suffices.
+pub(crate) fn put_line_table(out: &mut [u8], ws: &[u32], p: SourcePlan) -> usize
     requires { ⌜ (checked (now ws) ≡ 0) × Tabled (now ws) p
         × (length (lineTable (plannedText (now ws) p) (lineBlocksIn (now ws))) ≤ length (now out)) ⌝ }
     ensures { λ r. ⌜ Put (lineTable (plannedText (now (ws .entry)) p) (lineBlocksIn (now (ws .entry)))) (now (out .entry)) r
@@ -295,12 +218,10 @@ fn put_line_table(out: &mut [u8], ws: &[u32], p: SourcePlan) -> usize
         known: true,
         place: p.place,
     };
-    let mut len = 0;
-    len += put_line_header(&mut out[len..], p.width);
+    let mut len = put_line_header(out, p.width);
     let rows = put_run(&mut out[len..], ws, t, early, 0);
     len += rows.len;
-    len += put_line_records(&mut out[len..], ws, t, rows.start, p.first);
-    len
+    len + put_line_records(&mut out[len..], ws, t, rows.start, p.first)
 }
 
 // The room that the line table and the divider line after it leave; all of it without a source.
@@ -314,20 +235,5 @@ pub(crate) fn measure_source(room: usize, ws: &[u32], p: SourcePlan) -> Room
     let Room::Left(left) = measure_line_table(room, ws, p) else {
         return Room::Short;
     };
-    if left < 21 {
-        return Room::Short;
-    }
-    Room::Left(left - 21)
-}
-
-// They, written into a room that suffices.
-pub(crate) fn put_source(out: &mut [u8], ws: &[u32], p: SourcePlan) -> usize
-    requires { ⌜ (checked (now ws) ≡ 0) × (length (sourceTable (now ws)) ≤ length (now out)) × PlanOf (now ws) p ⌝ }
-    ensures { λ r. ⌜ Put (sourceTable (now (ws .entry))) (now (out .entry)) r (now (out .exit)) ⌝ }
-{
-    if p.bare {
-        return 0;
-    }
-    let len = put_line_table(out, ws, p);
-    len + put_bytes(&mut out[len..], b"====================\n")
+    take(left, 21)
 }

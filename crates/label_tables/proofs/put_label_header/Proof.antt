@@ -2,15 +2,14 @@
 use borrow.Author.Needs.{needs}
 use borrow.Author.Tests.{not-true, not-false, leb-true, leb-false}
 use native.Mathlib.Omega.{arith}
-use mathlib.Core.Path.{_≡_, refl, sym, ap, ap₂, subst, _∙_}
+use mathlib.Core.Path.{_≡_, refl, sym, ap₂, _∙_}
 use mathlib.Core.List.{List, [], _∷_, _++_}
 use Prim.Native.Nat.{ℕ, _+_, _-_, _^_, _<_}
-use lib.ListN.{length}
+use lib.ListN.{length, set}
 use denote.Ref.{now}
 use Rattle.format.specs.TextWriter.{spaces, textLine, labelHeader}
-use Rattle.writing.specs.Written.{Put}
 use Rattle.writing.proofs.WriteLaws.{too-short}
-use Rattle.writing.proofs.Parts.{State, Emits, after, begin, emit, emitted, within, small, same}
+use Rattle.writing.proofs.Parts.{State, Emits, after, begun, emit, emit-one, room-one, emitted, within, small, same}
 use Rattle.label_tables.proofs.FrameLaws.{labelBytes, indexBytes, headerParts, label-header, label-header-size}
 use Rattle.label_tables.proofs.put_label_header.Statement.{statement}
 use Rattle.label_tables.proofs.put_label_header.Tie as tie
@@ -26,16 +25,22 @@ module _ (t : tie.After-is-room) where
   abbrev b : ℕ
   b = t .before .past-header2 .result
 
-  abbrev whole : List ℕ
-  whole = headerParts a b
-
   abbrev line : List ℕ
   line = textLine (labelHeader (start .args .names) (start .args .indices))
 
-  is-line : whole ≡ line
-  is-line =
-      ap₂ headerParts (t .before .before .past-header .ensures) (t .before .past-header2 .ensures)
-      ∙ label-header (start .args .names) (start .args .indices)
+  abbrev left3 : List ℕ
+  left3 = spaces b ++ (0x0A ∷ [])
+
+  abbrev left2 : List ℕ
+  left2 = indexBytes ++ left3
+
+  abbrev left1 : List ℕ
+  left1 = spaces a ++ left2
+
+  parts : line ≡ labelBytes ++ left1
+  parts =
+      sym (ap₂ headerParts (t .before .before .past-header .ensures) (t .before .past-header2 .ensures)
+      ∙ label-header (start .args .names) (start .args .indices))
 
   long : length line ≡ 14 + a + b
   long =
@@ -46,81 +51,70 @@ module _ (t : tie.After-is-room) where
   room = now (start .args .out)
 
   tight : length room < 2 ^ 64
-  tight = omega arith
+  tight = search needs
 
-emits0 : (c : tie.Else1) → Emits (whole (c .before)) (room (c .before)) (whole (c .before)) (record { at = 0; out = room (c .before) })
-emits0 c =
-    let t = c .before in
-    begin _ _ (omega (
-      arith,
-      ap length (is-line t),
-      long t,
-      leb-true (14 + a t + b t) (length (room t)) (sym (t .is-room .ensures) ∙ not-false _ (c .if1 .left)),
-    ))
+module _ (c : tie.After-put-bytes) where
+  abbrev else : tie.Else1
+  else = c .before .before .before
 
-abbrev State0 : tie.After-is-room → State ℕ
-State0 b = record { at = 0; out = room b }
+  abbrev t1 : tie.After-is-room
+  t1 = else .before
 
-abbrev base1 : tie.After-put-bytes → tie.After-is-room
-base1 c = c .before .before .before .before
+  abbrev state1 : State ℕ
+  state1 = record { at = c .put-bytes .result; out = c .put-bytes .last .0 }
 
-abbrev State1 : tie.After-put-bytes → State ℕ
-State1 c = after (State0 (base1 c)) (c .put-bytes .result) (c .put-bytes .last .0)
+  emits1 : Emits (line t1) (room t1) (left1 t1) state1
+  emits1 =
+      let h = leb-true (14 + a t1 + b t1) (length (room t1)) (sym (t1 .is-room .ensures) ∙ not-false _ (else .if1 .left)) in
+      begun labelBytes (left1 t1) (parts t1) (omega (arith, long t1, h)) (c .put-bytes .ensures)
 
-emits1 : (c : tie.After-put-bytes) → Emits (whole (base1 c)) (room (base1 c))
-    (spaces (a (base1 c)) ++ (indexBytes ++ (spaces (b (base1 c)) ++ (0x0A ∷ [])))) (State1 c)
-emits1 c = emit (emits0 (c .before .before .before))
-    (labelBytes) (spaces (a (base1 c)) ++ (indexBytes ++ (spaces (b (base1 c)) ++ (0x0A ∷ [])))) refl (c .put-bytes .ensures)
+module _ (c : tie.After-put-spaces) where
+  abbrev p1 : tie.After-put-bytes
+  p1 = c .before .before .before .before
 
-abbrev base2 : tie.After-put-spaces → tie.After-is-room
-base2 c = base1 (c .before .before .before .before)
+  abbrev t2 : tie.After-is-room
+  t2 = t1 p1
 
-abbrev State2 : tie.After-put-spaces → State ℕ
-State2 c = after (State1 (c .before .before .before .before)) (c .put-spaces .result) (c .put-spaces .last .0)
+  abbrev state2 : State ℕ
+  state2 = after (state1 p1) (c .put-spaces .result) (c .put-spaces .last .0)
 
-emits2 : (c : tie.After-put-spaces) → Emits (whole (base2 c)) (room (base2 c)) (indexBytes ++ (spaces (b (base2 c)) ++ (0x0A ∷ [])))
-    (State2 c)
-emits2 c = emit (emits1 (c .before .before .before .before)) (spaces (a (base2 c))) (indexBytes ++ (spaces (b (base2 c)) ++ (0x0A ∷ [])))
-    refl (c .put-spaces .ensures)
+  emits2 : Emits (line t2) (room t2) (left2 t2) state2
+  emits2 = emit (emits1 p1) (spaces (a t2)) (left2 t2) refl (c .put-spaces .ensures)
 
-abbrev base3 : tie.After-put-bytes2 → tie.After-is-room
-base3 c = base2 (c .before .before .before .before .before)
+module _ (c : tie.After-put-bytes2) where
+  abbrev p2 : tie.After-put-spaces
+  p2 = c .before .before .before .before .before
 
-abbrev State3 : tie.After-put-bytes2 → State ℕ
-State3 c = after (State2 (c .before .before .before .before .before)) (c .put-bytes2 .result) (c .put-bytes2 .last .0)
+  abbrev t3 : tie.After-is-room
+  t3 = t2 p2
 
-emits3 : (c : tie.After-put-bytes2) → Emits (whole (base3 c)) (room (base3 c)) (spaces (b (base3 c)) ++ (0x0A ∷ [])) (State3 c)
-emits3 c = emit (emits2 (c .before .before .before .before .before)) (indexBytes) (spaces (b (base3 c)) ++ (0x0A ∷ [])) refl
-    (c .put-bytes2 .ensures)
+  abbrev state3 : State ℕ
+  state3 = after (state2 p2) (c .put-bytes2 .result) (c .put-bytes2 .last .0)
 
-abbrev base4 : tie.After-put-spaces2 → tie.After-is-room
-base4 c = base3 (c .before .before .before .before)
+  emits3 : Emits (line t3) (room t3) (left3 t3) state3
+  emits3 = emit (emits2 p2) indexBytes (left3 t3) refl (c .put-bytes2 .ensures)
 
-abbrev State4 : tie.After-put-spaces2 → State ℕ
-State4 c = after (State3 (c .before .before .before .before)) (c .put-spaces2 .result) (c .put-spaces2 .last .0)
+module _ (c : tie.After-put-spaces2) where
+  abbrev p3 : tie.After-put-bytes2
+  p3 = c .before .before .before .before
 
-emits4 : (c : tie.After-put-spaces2) → Emits (whole (base4 c)) (room (base4 c)) (0x0A ∷ []) (State4 c)
-emits4 c = emit (emits3 (c .before .before .before .before)) (spaces (b (base4 c))) (0x0A ∷ []) refl (c .put-spaces2 .ensures)
+  abbrev t4 : tie.After-is-room
+  t4 = t3 p3
 
-abbrev base5 : tie.After-put-u8 → tie.After-is-room
-base5 c = base4 (c .before .before .before .before)
+  abbrev state4 : State ℕ
+  state4 = after (state3 p3) (c .put-spaces2 .result) (c .put-spaces2 .last .0)
 
-abbrev State5 : tie.After-put-u8 → State ℕ
-State5 c = after (State4 (c .before .before .before .before)) (c .put-u8 .result) (c .put-u8 .last .0)
+  emits4 : Emits (line t4) (room t4) (0x0A ∷ []) state4
+  emits4 = emit (emits3 p3) (spaces (b t4)) (0x0A ∷ []) refl (c .put-spaces2 .ensures)
 
-emits5 : (c : tie.After-put-u8) → Emits (whole (base5 c)) (room (base5 c)) [] (State5 c)
-emits5 c = emit (emits4 (c .before .before .before .before)) ((0x0A ∷ [])) [] refl (c .put-u8 .ensures)
+  emits5 : Emits (line t4) (room t4) [] (record { at = state4 .at + 1; out = set (state4 .out) (state4 .at) 0x0A })
+  emits5 = emit-one emits4 0x0A [] refl
 
 returns : tie.Need-returns
 returns c =
     let t = c .before in
     too-short _ _ (14 + a t + b t) (long t)
     (leb-false (14 + a t + b t) (length (room t)) (sym (t .is-room .ensures) ∙ not-true _ (c .if1 .taken)))
-
-returns-2 : tie.Need-returns-2
-returns-2 c =
-    subst (λ l. Put l (room (base5 (c .before .before))) (State5 (c .before .before) .at) (State5 (c .before .before) .out))
-    (is-line (base5 (c .before .before))) (emitted (emits5 (c .before .before)) refl)
 
 pub put-label-header-spec : {M : Type 1} → statement M
 put-label-header-spec =
@@ -131,31 +125,24 @@ put-label-header-spec =
     (λ c κs. search needs)
     returns
     (λ c. search needs)
-    (λ c. search needs)
-    (λ c. search needs)
-    (λ c. search needs)
     (λ c κs. search needs)
-    (λ c. search needs)
     (λ c. within (emits1 (c .before .before)))
     (λ c. within (emits1 (c .before .before)))
     (λ c. search needs)
     (λ c κs. search needs)
-    (λ c. small (emits2 (c .before .before)) (tight (base2 (c .before .before))))
+    (λ c. small (emits2 (c .before .before)) (tight (t2 (c .before .before))))
     (λ c. within (emits2 (c .before .before)))
     (λ c. within (emits2 (c .before .before)))
     (λ c. search needs)
     (λ c. search needs)
     (λ c κs. search needs)
-    (λ c. small (emits3 (c .before .before)) (tight (base3 (c .before .before))))
+    (λ c. small (emits3 (c .before .before)) (tight (t3 (c .before .before))))
     (λ c. within (emits3 (c .before .before)))
     (λ c. within (emits3 (c .before .before)))
     (λ c. search needs)
     (λ c κs. search needs)
-    (λ c. small (emits4 (c .before .before)) (tight (base4 (c .before .before))))
-    (λ c. within (emits4 (c .before .before)))
-    (λ c. within (emits4 (c .before .before)))
-    (λ c. search needs)
-    (λ c κs. search needs)
-    (λ c. small (emits5 (c .before .before)) (tight (base5 (c .before .before))))
+    (λ c. small (emits4 (c .before .before)) (tight (t4 (c .before .before))))
+    (λ c. room-one (emits4 (c .before .before)) 0x0A [] refl)
+    (λ c. small (emits5 (c .before .before)) (tight (t4 (c .before .before))))
     (λ c. same (emits5 (c .before .before)))
-    returns-2)
+    (λ c. emitted (emits5 (c .before .before)) refl))

@@ -2,19 +2,17 @@
 use borrow.Author.Needs.{needs}
 use borrow.Author.Tests.{not-true, not-false, leb-true, leb-false}
 use native.Mathlib.Omega.{arith}
-use mathlib.Core.Path.{_≡_, refl, sym, ap, subst, _∙_}
+use mathlib.Core.Path.{_≡_, refl, sym, _∙_}
 use mathlib.Core.List.{List, [], _∷_, _++_}
 use Prim.Native.Nat.{ℕ, _+_, _-_, _^_, _<_}
-use lib.ListN.{length}
+use lib.ListN.{length, set}
 use denote.Ref.{now}
 use Rattle.format.specs.TextWriter.{decimal, spaces, toRight}
-use Rattle.writing.specs.Written.{Put}
 use Rattle.writing.proofs.WriteLaws.{too-short}
-use Rattle.writing.proofs.Parts.{State, Emits, after, begin, emit, emitted, within, small, same}
+use Rattle.writing.proofs.Parts.{State, Emits, after, begun, emit, emit-one, room-one, emitted, within, small, same}
 use Rattle.object.specs.Texts.{textBytes}
-use Rattle.object.proofs.ByteLaws.{bytes-length}
 use Rattle.label_tables.specs.Rows.{labelLine}
-use Rattle.label_tables.proofs.RowLaws.{div, labelParts, label-parts, label-length}
+use Rattle.label_tables.proofs.RowLaws.{div, label-parts, label-size}
 use Rattle.label_tables.proofs.put_label_row.Statement.{statement}
 use Rattle.label_tables.proofs.put_label_row.Tie as tie
 
@@ -29,6 +27,9 @@ module _ (t : tie.After-is-room) where
   abbrev start : tie.Start
   start = named .before .before .before
 
+  abbrev ws : List ℕ
+  ws = now (start .args .ws)
+
   abbrev fill : ℕ
   fill = right .before .before .fill-of .result
 
@@ -36,111 +37,103 @@ module _ (t : tie.After-is-room) where
   first = right .before .start-at .result
 
   abbrev name : List ℕ
-  name = textBytes (now (start .args .ws)) (named .name-of .result .at) (named .name-of .result .len)
+  name = textBytes ws (named .name-of .result .at) (named .name-of .result .len)
 
-  abbrev whole : List ℕ
-  whole = labelParts name fill (start .args .indices) first
+  abbrev left3 : List ℕ
+  left3 = toRight (start .args .indices) (decimal first) ++ (0x0A ∷ [])
 
-  is-line : whole ≡ labelLine (start .args .names) (start .args .indices) (now (start .args .ws)) (start .args .p)
-  is-line =
-      label-parts (now (start .args .ws)) (start .args .p) (start .args .names) (start .args .indices) fill first name
-      (named .name-of .ensures .0)
-      (right .before .before .fill-of .ensures) (right .before .start-at .ensures)
+  abbrev left2 : List ℕ
+  left2 = div ++ left3
+
+  abbrev left1 : List ℕ
+  left1 = spaces fill ++ left2
+
+  abbrev line : List ℕ
+  line = labelLine (start .args .names) (start .args .indices) ws (start .args .p)
+
+  parts : line ≡ name ++ left1
+  parts =
+      sym (label-parts ws (start .args .p) (start .args .names) (start .args .indices) fill first name (named .name-of .ensures .0)
+      (right .before .before .fill-of .ensures) (right .before .start-at .ensures))
 
   -- how long it is
-  long : length whole ≡ named .name-of .result .len + 4 + fill + right .right-len .result
+  abbrev sum : ℕ
+  sum = named .name-of .result .len + 4 + fill + right .right-len .result
+
+  long : length line ≡ sum
   long =
-      omega (
-        arith,
-        label-length name fill (start .args .indices) first,
-        bytes-length (now (start .args .ws)) (named .name-of .result .at)
-            0 (named .name-of .result .len),
-        right .right-len .ensures,
-      )
+      label-size ws (start .args .p) (named .name-of .result .at) (named .name-of .result .len) (named .name-of .ensures .0)
+      (start .args .names) (start .args .indices) fill first (right .right-len .result) (right .before .before .fill-of .ensures)
+      (right .before .start-at .ensures) (right .right-len .ensures)
 
   abbrev room : List ℕ
   room = now (start .args .out)
 
   tight : length room < 2 ^ 64
-  tight = omega arith
+  tight = search needs
 
-emits0 : (b : tie.Else1) → Emits (whole (b .before)) (room (b .before)) (whole (b .before)) (record { at = 0; out = room (b .before) })
-emits0 b =
-    let t = b .before in
-    begin _ _ (omega (
-      arith,
-      long t,
-      leb-true (named t .name-of .result .len + 4 + fill t + right t .right-len .result) (length (room t))
-          (sym (t .is-room .ensures) ∙ not-false _ (b .if1 .left)),
-    ))
+module _ (c : tie.After-put-text) where
+  abbrev else : tie.Else1
+  else = c .before .before
 
-abbrev State0 : tie.After-is-room → State ℕ
-State0 b = record { at = 0; out = room b }
+  abbrev t1 : tie.After-is-room
+  t1 = else .before
 
-abbrev base1 : tie.After-put-text → tie.After-is-room
-base1 c = c .before .before .before
+  abbrev state1 : State ℕ
+  state1 = record { at = c .put-text .result; out = c .put-text .last .0 }
 
-abbrev State1 : tie.After-put-text → State ℕ
-State1 c = after (State0 (base1 c)) (c .put-text .result) (c .put-text .last .0)
+  emits1 : Emits (line t1) (room t1) (left1 t1) state1
+  emits1 =
+      let h = leb-true (sum t1) (length (room t1)) (sym (t1 .is-room .ensures) ∙ not-false _ (else .if1 .left)) in
+      begun (name t1) (left1 t1) (parts t1) (omega (arith, long t1, h)) (c .put-text .ensures)
 
-emits1 : (c : tie.After-put-text) → Emits (whole (base1 c)) (room (base1 c))
-    (spaces (fill (base1 c)) ++ (div ++ (toRight (start (base1 c) .args .indices) (decimal (first (base1 c))) ++ (0x0A ∷ [])))) (State1 c)
-emits1 c = emit (emits0 (c .before .before))
-    (name (base1 c)) (spaces (fill (base1 c))
-    ++ (div ++ (toRight (start (base1 c) .args .indices) (decimal (first (base1 c))) ++ (0x0A ∷ [])))) refl (c .put-text .ensures)
+module _ (c : tie.After-put-spaces) where
+  abbrev p1 : tie.After-put-text
+  p1 = c .before .before .before .before
 
-abbrev base2 : tie.After-put-spaces → tie.After-is-room
-base2 c = base1 (c .before .before .before .before)
+  abbrev t2 : tie.After-is-room
+  t2 = t1 p1
 
-abbrev State2 : tie.After-put-spaces → State ℕ
-State2 c = after (State1 (c .before .before .before .before)) (c .put-spaces .result) (c .put-spaces .last .0)
+  abbrev state2 : State ℕ
+  state2 = after (state1 p1) (c .put-spaces .result) (c .put-spaces .last .0)
 
-emits2 : (c : tie.After-put-spaces) → Emits (whole (base2 c)) (room (base2 c))
-    (div ++ (toRight (start (base2 c) .args .indices) (decimal (first (base2 c))) ++ (0x0A ∷ []))) (State2 c)
-emits2 c = emit (emits1 (c .before .before .before .before)) (spaces (fill (base2 c)))
-    (div ++ (toRight (start (base2 c) .args .indices) (decimal (first (base2 c))) ++ (0x0A ∷ []))) refl (c .put-spaces .ensures)
+  emits2 : Emits (line t2) (room t2) (left2 t2) state2
+  emits2 = emit (emits1 p1) (spaces (fill t2)) (left2 t2) refl (c .put-spaces .ensures)
 
-abbrev base3 : tie.After-put-bytes → tie.After-is-room
-base3 c = base2 (c .before .before .before .before .before)
+module _ (c : tie.After-put-bytes) where
+  abbrev p2 : tie.After-put-spaces
+  p2 = c .before .before .before .before .before
 
-abbrev State3 : tie.After-put-bytes → State ℕ
-State3 c = after (State2 (c .before .before .before .before .before)) (c .put-bytes .result) (c .put-bytes .last .0)
+  abbrev t3 : tie.After-is-room
+  t3 = t2 p2
 
-emits3 : (c : tie.After-put-bytes) → Emits (whole (base3 c)) (room (base3 c))
-    (toRight (start (base3 c) .args .indices) (decimal (first (base3 c))) ++ (0x0A ∷ [])) (State3 c)
-emits3 c = emit (emits2 (c .before .before .before .before .before)) (div)
-    (toRight (start (base3 c) .args .indices) (decimal (first (base3 c))) ++ (0x0A ∷ [])) refl (c .put-bytes .ensures)
+  abbrev state3 : State ℕ
+  state3 = after (state2 p2) (c .put-bytes .result) (c .put-bytes .last .0)
 
-abbrev base4 : tie.After-put-right → tie.After-is-room
-base4 c = base3 (c .before .before .before .before)
+  emits3 : Emits (line t3) (room t3) (left3 t3) state3
+  emits3 = emit (emits2 p2) div (left3 t3) refl (c .put-bytes .ensures)
 
-abbrev State4 : tie.After-put-right → State ℕ
-State4 c = after (State3 (c .before .before .before .before)) (c .put-right .result) (c .put-right .last .0)
+module _ (c : tie.After-put-right) where
+  abbrev p3 : tie.After-put-bytes
+  p3 = c .before .before .before .before
 
-emits4 : (c : tie.After-put-right) → Emits (whole (base4 c)) (room (base4 c)) (0x0A ∷ []) (State4 c)
-emits4 c = emit (emits3 (c .before .before .before .before)) (toRight (start (base4 c) .args .indices) (decimal (first (base4 c))))
-    (0x0A ∷ []) refl (c .put-right .ensures)
+  abbrev t4 : tie.After-is-room
+  t4 = t3 p3
 
-abbrev base5 : tie.After-put-u8 → tie.After-is-room
-base5 c = base4 (c .before .before .before .before)
+  abbrev state4 : State ℕ
+  state4 = after (state3 p3) (c .put-right .result) (c .put-right .last .0)
 
-abbrev State5 : tie.After-put-u8 → State ℕ
-State5 c = after (State4 (c .before .before .before .before)) (c .put-u8 .result) (c .put-u8 .last .0)
+  emits4 : Emits (line t4) (room t4) (0x0A ∷ []) state4
+  emits4 = emit (emits3 p3) (toRight (start t4 .args .indices) (decimal (first t4))) (0x0A ∷ []) refl (c .put-right .ensures)
 
-emits5 : (c : tie.After-put-u8) → Emits (whole (base5 c)) (room (base5 c)) [] (State5 c)
-emits5 c = emit (emits4 (c .before .before .before .before)) ((0x0A ∷ [])) [] refl (c .put-u8 .ensures)
+  emits5 : Emits (line t4) (room t4) [] (record { at = state4 .at + 1; out = set (state4 .out) (state4 .at) 0x0A })
+  emits5 = emit-one emits4 0x0A [] refl
 
 returns : tie.Need-returns
 returns c =
     let t = c .before in
-    let n = named t .name-of .result .len + 4 + fill t + right t .right-len .result in
-    too-short _ _ n (ap length (sym (is-line t)) ∙ long t)
-    (leb-false n (length (room t)) (sym (t .is-room .ensures) ∙ not-true _ (c .if1 .taken)))
-
-returns-2 : tie.Need-returns-2
-returns-2 c =
-    subst (λ l. Put l (room (base5 (c .before .before))) (State5 (c .before .before) .at) (State5 (c .before .before) .out))
-    (is-line (base5 (c .before .before))) (emitted (emits5 (c .before .before)) refl)
+    too-short _ _ (sum t) (long t)
+    (leb-false (sum t) (length (room t)) (sym (t .is-room .ensures) ∙ not-true _ (c .if1 .taken)))
 
 pub put-label-row-spec : {M : Type 1} → statement M
 put-label-row-spec =
@@ -153,31 +146,24 @@ put-label-row-spec =
     (λ c. search needs)
     (λ c κs. search needs)
     returns
-    (λ c. search needs)
-    (λ c. search needs)
-    (λ c. search needs)
     (λ c κs. search needs)
-    (λ c. search needs)
     (λ c. within (emits1 (c .before .before)))
     (λ c. within (emits1 (c .before .before)))
     (λ c. search needs)
     (λ c κs. search needs)
-    (λ c. small (emits2 (c .before .before)) (tight (base2 (c .before .before))))
+    (λ c. small (emits2 (c .before .before)) (tight (t2 (c .before .before))))
     (λ c. within (emits2 (c .before .before)))
     (λ c. within (emits2 (c .before .before)))
     (λ c. search needs)
     (λ c. search needs)
     (λ c κs. search needs)
-    (λ c. small (emits3 (c .before .before)) (tight (base3 (c .before .before))))
+    (λ c. small (emits3 (c .before .before)) (tight (t3 (c .before .before))))
     (λ c. within (emits3 (c .before .before)))
     (λ c. within (emits3 (c .before .before)))
     (λ c. search needs)
     (λ c κs. search needs)
-    (λ c. small (emits4 (c .before .before)) (tight (base4 (c .before .before))))
-    (λ c. within (emits4 (c .before .before)))
-    (λ c. within (emits4 (c .before .before)))
-    (λ c. search needs)
-    (λ c κs. search needs)
-    (λ c. small (emits5 (c .before .before)) (tight (base5 (c .before .before))))
+    (λ c. small (emits4 (c .before .before)) (tight (t4 (c .before .before))))
+    (λ c. room-one (emits4 (c .before .before)) 0x0A [] refl)
+    (λ c. small (emits5 (c .before .before)) (tight (t4 (c .before .before))))
     (λ c. same (emits5 (c .before .before)))
-    returns-2)
+    (λ c. emitted (emits5 (c .before .before)) refl))

@@ -1,78 +1,90 @@
--- An empty line, and the groups. Assumes nothing.
+-- The two parts of the groups, if there are any. Assumes nothing.
 use borrow.Author.Needs.{needs}
 use native.Mathlib.Omega.{arith}
 use mathlib.Core.Path.{_≡_, refl, sym, ap, subst, _∙_}
-use mathlib.Core.List.{List, [], _∷_, _++_, append-nil}
-use Prim.Native.Nat.{ℕ, _+_, _-_, _^_, _≤_, _<_}
+use mathlib.Core.List.{List, [], _++_, append-nil}
+use Prim.Native.Nat.{ℕ, _^_, _≤_, _<_}
 use lib.ListN.{length, length-append}
 use denote.Ref.{now}
-use Rattle.writing.proofs.Parts.{State, Emits, rest, after, emit, emitted, within, small}
-use Rattle.measuring.proofs.FittingLaws.{first-put, lent-room}
-use mathlib.Core.Bool.{false}
-use mathlib.Core.List.{append-assoc}
-use Rattle.format.specs.Basics.{ascii}
-use Rattle.format.specs.TextWriter.{textLine, symbolTable, symbolHeader, labelTable, labelHeader, barLine}
+use Rattle.format.specs.TextWriter.{textLine}
 use Rattle.writing.specs.Written.{Put}
-use Rattle.label_order.specs.Labels.{labelPlaces}
-use Rattle.label_tables.specs.Rows.{symbolLine, labelLine}
-use Rattle.label_tables.specs.Tables.{namesWidth, indicesWidth, byAddress, byStart, symbolsOf, labelsOf}
-use Rattle.label_tables.proofs.TableLaws.{symbols-text, labels-text}
-use Rattle.label_windows.specs.Fits.{tableFitting}
-use Rattle.label_windows.proofs.FitLaws.{table-put}
-use Rattle.text_lines_out.specs.Walk.{sourceTable}
-use Rattle.text_write.specs.Tables.{objectIn, blocksText}
-use Rattle.text_write.specs.Groups.{headLines, linkerLines, debugLines, nameGroups, debugGroup, linkerText, symbolsText, linksText, namesText, labelsText}
-use Rattle.text_write.specs.Groups.{linesText, debugText, groupsText, frontText, restText, fileText}
-use Rattle.text_write.proofs.GroupLaws.{file-parts}
-use Rattle.text_write.proofs.WalkedLaws.{blocks-put}
+use Rattle.writing.proofs.Parts.{State, Emits, after, emit, emitted, within, small}
+use Rattle.measuring.proofs.FittingLaws.{first-put, lent-room}
+use Rattle.text_write.specs.Tables.{objectIn}
+use Rattle.text_write.specs.Groups.{namesText, debugText, restText}
+use Rattle.text_write.proofs.GroupLaws.{groups-none, groups-some}
 use Rattle.text_write.proofs.put_rest.Statement.{statement}
 use Rattle.text_write.proofs.put_rest.Tie as tie
 
-module _ (s : tie.Start) where
+returns : tie.Need-returns
+returns c =
+    let p = c .before .before in
+    let t = p .before .before in
+    let s = t .before .before .before in
+    let e = groups-none (objectIn (now (s .args .ws))) (sym (s .pre .2 .only) ∙ t .if1 .taken) in
+    subst (λ (l : List ℕ). Put l (now (s .args .out)) (p .put-u8 .result) (p .put-u8 .last .0)) (ap (λ (l : List ℕ). textLine [] ++ l) (sym e))
+    (p .put-u8 .ensures)
+
+-- the object
+module _ (c : tie.Else1) where
+  abbrev s : tie.Start
+  s = c .before .before .before
+
+  abbrev ws : List ℕ
+  ws = now (s .args .ws)
+
   abbrev room : List ℕ
   room = now (s .args .out)
 
-  abbrev one : List ℕ
-  one = textLine []
+  whole : restText ws ≡ namesText ws ++ debugText ws
+  whole = ap (λ (l : List ℕ). textLine [] ++ l) (groups-some (objectIn ws) (sym (s .pre .2 .only) ∙ c .if1 .left))
 
-  abbrev two : List ℕ
-  two = groupsText (now (s .args .ws))
+  names-fit : length (namesText ws) ≤ length room
+  names-fit = omega (arith, s .pre .1, ap length whole, length-append (namesText ws) (debugText ws))
 
-  abbrev whole : List ℕ
-  whole = restText (now (s .args .ws))
+  long : length room < 2 ^ 64
+  long = search needs
 
-  parts : whole ≡ one ++ two
-  parts = refl
-
-module _ (c : tie.After-put-u8) where
-  abbrev s1 : tie.Start
-  s1 = c .before .before .before .before
+-- part by part
+module _ (c : tie.After-put-names) where
+  abbrev start : tie.Else1
+  start = c .before .before
 
   abbrev state1 : State ℕ
-  state1 = record { at = c .put-u8 .result; out = c .put-u8 .last .0 }
+  state1 = record { at = c .put-names .result; out = c .put-names .last .0 }
 
-  emits1 : Emits (whole s1) (room s1) (two s1) state1
-  emits1 = first-put (one s1) (two s1) (room s1) (parts s1) (s1 .pre .1) (c .put-u8 .ensures)
+  emits1 : Emits (restText (ws start)) (room start) (debugText (ws start)) state1
+  emits1 =
+      first-put (namesText (ws start)) (debugText (ws start)) (room start) (whole start) (s start .pre .1) (c .put-names .ensures)
 
-module _ (c : tie.After-put-groups) where
-  abbrev p : tie.After-put-u8
-  p = c .before .before .before .before
+module _ (c : tie.After-put-debug) where
+  abbrev put : tie.After-put-names
+  put = c .before .before .before .before
 
-  emits2 : Emits (whole (s1 p)) (room (s1 p)) [] (after (state1 p) (c .put-groups .result) (c .put-groups .last .0))
-  emits2 = emit (emits1 p) (two (s1 p)) [] (sym (append-nil (two (s1 p)))) (c .put-groups .ensures)
+  emits2 : Emits (restText (ws (start put))) (room (start put)) [] (after (state1 put) (c .put-debug .result) (c .put-debug .last .0))
+  emits2 = emit (emits1 put) (debugText (ws (start put))) [] (sym (append-nil _)) (c .put-debug .ensures)
 
-  tight : length (room (s1 p)) < 2 ^ 64
-  tight = search needs
+put-names-requires : tie.Need-put-names-requires
+put-names-requires c κs = let k = c .before in (s k .pre .0, names-fit k, s k .pre .2 .linked (k .if1 .left))
+
+put-debug-requires : tie.Need-put-debug-requires
+put-debug-requires c κs =
+    let p = c .before .before .before in
+    let group = debugText (ws (start p)) in
+    (s (start p) .pre .0, lent-room (emits1 p) group [] (sym (append-nil group)), s (start p) .pre .2, start p .if1 .left)
 
 pub put-rest-spec : {M : Type 1} → statement M
 put-rest-spec =
     tie.close
     (tie.spec
     (λ c κs. search needs)
+    (λ c. search needs)
+    returns
+    put-names-requires
     (λ c. within (emits1 (c .before .before)))
     (λ c. within (emits1 (c .before .before)))
     (λ c. search needs)
-    (λ c κs. let h = c .before .before .before in (s1 h .pre .0, lent-room (emits1 h) (two (s1 h)) [] (sym (append-nil (two (s1 h)))), s1 h .pre .2))
-    (λ c. small (emits2 (c .before .before)) (tight (c .before .before)))
+    put-debug-requires
+    (λ c. let p = c .before .before in small (emits2 p) (long (start (put p))))
     (λ c. search needs)
     (λ c. emitted (emits2 (c .before .before)) refl))

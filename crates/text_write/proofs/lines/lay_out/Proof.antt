@@ -87,8 +87,8 @@ lay-out-spec =
     μ-loop
     (λ c. search needs)
     loop-holds
-    (λ c κs. c .loop-test .taken)
-    (λ c κs. c .before .loop-test .taken)
+    (λ c κs. search needs)
+    (λ c κs. search needs)
     add-body-end
     (λ c κs. search needs)
     loop-less

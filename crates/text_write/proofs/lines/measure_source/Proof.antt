@@ -1,6 +1,5 @@
 -- The line table, then the divider line. Assumes nothing.
 use borrow.Author.Needs.{needs}
-use native.Mathlib.Omega.{arith}
 use mathlib.Core.Path.{_≡_, sym, ap, _∙_}
 use mathlib.Core.List.{List, _++_}
 use Prim.Native.Nat.{ℕ}
@@ -9,7 +8,7 @@ use Rattle.format.specs.TextWriter.{lineTable, barLine}
 use Rattle.text_lines_out.specs.Walk.{lineBlocksIn, sourceTable}
 use Rattle.text_lines_out.proofs.SourceLaws.{bar-length}
 use Rattle.measuring.specs.Room.{roomOf, less, lessPart}
-use Rattle.measuring.proofs.RoomLaws.{less-some, less-none, less-nothing, part-fits, part-short}
+use Rattle.measuring.proofs.RoomLaws.{less-nothing, part-fits, part-short}
 use Rattle.text_write.specs.Layouts.{plannedText, Tabled}
 use Rattle.text_write.proofs.lines.measure_source.Statement.{statement}
 use Rattle.text_write.proofs.lines.measure_source.Tie as tie
@@ -60,12 +59,7 @@ module _ (c : tie.After-known-told) where
       (sym (ap roomOf (c .before .left .given .1)) ∙ c .before .before .before .measure-line-table .ensures)
 
 returns-3 : tie.Need-returns-3
-returns-3 c = let d = c .before in less-none (left d) 21 (c .if2 .taken) ∙ ap (less (left d)) (sym bar-length) ∙ fits d
-
-returns-4 : tie.Need-returns-4
-returns-4 c =
-    let d = c .before in
-    less-some (left d) 21 (omega (arith, c .if2 .left)) ∙ ap (less (left d)) (sym bar-length) ∙ fits d
+returns-3 c = let d = c .before in c .take .ensures ∙ ap (less (left d)) (sym bar-length) ∙ fits d
 
 pub measure-source-spec : {M : Type 1} → statement M
 measure-source-spec =
@@ -76,5 +70,5 @@ measure-source-spec =
     (λ c. search needs)
     (λ c. search needs)
     returns-2
-    returns-3
-    returns-4)
+    (λ c κs. search needs)
+    returns-3)

@@ -19,27 +19,28 @@ use Rattle.text_lines_out.proofs.SourceLaws.{source-nothing, source-small, sour
 use Rattle.text_lines_out.proofs.TableLaws.{some-lines}
 use Rattle.text_write.specs.Layouts.{Links}
 use Rattle.text_write.proofs.OnlyLaws.{only-bare}
+use Rattle.text_write.proofs.PastLaws.{source-found, source-missing, first-links}
 use Rattle.text_write.proofs.lines.plan_source.Statement.{statement}
 use Rattle.text_write.proofs.lines.plan_source.Tie as tie
 
 -- the source
 module _ (c : tie.After-count-newlines) where
   abbrev s : tie.Start
-  s = c .before .before .before .before .before .before .before .before .before .before .before .before
+  s = c .before .before .before .before .before .before .before .before .before .before
 
   abbrev ws : List ℕ
   ws = now (s .args .ws)
 
   abbrev at : ℕ
-  at = c .before .before .before .before .at .given .0 .0
+  at = c .before .before .before .before .find2 .result + 1
 
   abbrev n : ℕ
   n = c .before .text-len .result
 
   good : Sourced ws (place.At at)
   good =
-      subst (Sourced ws) (c .before .before .before .before .at .given .1)
-      (c .before .before .before .before .before .before .find-source .ensures)
+      let e = c .before .before .before in
+      source-found ws (e .before .find2 .result) (e .before .find2 .ensures) (e .if2 .left)
 
   size : n ≡ textLen ws at (at + length (bodyAt ws at))
   size = c .before .text-len .ensures ∙ ap (textLen ws at) (c .before .before .body-end .ensures)
@@ -73,7 +74,7 @@ add-lines c = let h = few c in search needs
 
 lay-out-requires : tie.Need-lay-out-requires
 lay-out-requires c κs =
-    let o = c .before .before .before .before .before .before .before .before .before in
+    let o = c .before .before .before .before .before .before .before in
     (s c .pre .0, some-lines (text c) (lines c) (counted c), o .past-labels .ensures)
 
 returns : tie.Need-returns
@@ -90,16 +91,18 @@ returns c =
 
 returns-2 : tie.Need-returns-2
 returns-2 c =
-    let k = c .before .before .before in
-    let s = k .before .before .before .before .before .before in
-    let wide = k .before .column-widths .ensures in
+    let k = c .before .before in
+    let g = k .before in
+    let l = g .before in
+    let s = l .before .before .before .before in
     let ws = now (s .args .ws) in
     let q = c .plan-bare2 .ensures in
     record {
       only = q .0 ∙ s .pre .1;
-      linked = λ z. subst (Links ws) (sym (q .2)) (k .before .before .past-source .ensures);
-      wide = λ z. (q .3 ∙ wide .0, q .4 ∙ wide .1);
-      nothing = λ z. source-nothing ws (s .pre .0) (subst (Sourced ws) (c .before .enum-told .given .1) (k .find-source .ensures));
+      linked = λ z. subst (Links ws) (sym (q .2)) (first-links ws (l .find .result) (l .find .ensures));
+      wide = λ z. (q .3 ∙ g .column-widths .ensures .0, q .4 ∙ g .column-widths .ensures .1);
+      nothing = λ z. source-nothing ws (s .pre .0)
+          (source-missing ws (k .find2 .result) (k .find2 .ensures) (c .before .if2 .taken));
       tabled = λ z. absurd (true≢false (sym (q .1) ∙ z));
     }
 
@@ -107,11 +110,11 @@ returns-3 : tie.Need-returns-3
 returns-3 c =
     let l = c .before in
     let k = l .before in
-    let g = k .before .before .before .before .before .before .before in
+    let g = k .before .before .before .before .before in
     let o = g .before in
     record {
       only = s k .pre .1;
-      linked = λ z. o .past-source .ensures;
+      linked = λ z. first-links (ws k) (o .find .result) (o .find .ensures);
       wide = λ z. (g .column-widths .ensures .0, g .column-widths .ensures .1);
       nothing = λ z. absurd (true≢false (sym z));
       tabled = λ z. record {
@@ -136,10 +139,9 @@ plan-source-spec =
     (λ c κs. c .past-labels .ensures)
     (λ c κs. search needs)
     (λ c κs. c .before .before .past-labels .ensures)
-    (λ c. search needs)
-    (λ c. search needs)
     (λ c κs. search needs)
     returns-2
+    (λ c. search needs)
     (λ c κs. search needs)
     (λ c κs. search needs)
     (λ c κs. search needs)

@@ -9,7 +9,8 @@ use lib.ListN.{length}
 use denote.Ref.{now}
 use Rattle.format.specs.TextWriter.{Row, lineTable, lineHeader, textLine}
 use Rattle.text_escape.proofs.EscapeLaws.{part-room}
-use Rattle.writing.proofs.Parts.{State, Emits, rest, after, begin, emit, emitted, within, small, same}
+use Rattle.writing.proofs.Parts.{State, Emits, rest, after, emit, emitted, within, small}
+use Rattle.measuring.proofs.FittingLaws.{first-put}
 use Rattle.text_parts_out.specs.Parts.{heads}
 use Rattle.text_lines_out.specs.Merge.{smaller}
 use Rattle.text_lines_out.specs.Lines.{At, rowsText}
@@ -95,21 +96,15 @@ module _ (c : tie.After-shared-slice-known) where
       run-read ws table tiny 0 (addressFrom true ws (r .place)) (r .count) 0 (let h = short in omega (arith, h))
       (at-start text (s .pre .1 .sound))
 
-  abbrev state0 : State ℕ
-  state0 = record { at = 0; out = now (s .args .out) }
-
-  emits0 : Emits all (now (s .args .out)) all state0
-  emits0 = begin _ _ (s .pre .2)
-
 module _ (c : tie.After-put-line-header) where
   abbrev f : tie.After-shared-slice-known
   f = c .before .before
 
   abbrev state1 : State ℕ
-  state1 = after (state0 f) (c .put-line-header .result) (c .put-line-header .last .0)
+  state1 = record { at = c .put-line-header .result; out = c .put-line-header .last .0 }
 
   emits1 : Emits (all f) (now (s f .args .out)) (early f ++ late f) state1
-  emits1 = emit (emits0 f) (header f) (early f ++ late f) (parts f) (c .put-line-header .ensures)
+  emits1 = first-put (header f) (early f ++ late f) (now (s f .args .out)) (parts f) (s f .pre .2) (c .put-line-header .ensures)
 
 module _ (c : tie.After-put-run) where
   abbrev h : tie.After-put-line-header
@@ -157,51 +152,20 @@ module _ (c : tie.After-put-line-records) where
       (rest (state2 q)) (c .put-line-records .last .0) (c .put-line-records .result) (walked q) (part-room (emits2 q) (late g) [] nil)
       (c .put-line-records .ensures))
 
-add-len : tie.Need-add-len
-add-len c = let e = c .before .before in small (emits1 e) (long (f e))
-
-sub-put-run : tie.Need-sub-put-run
-sub-put-run c = within (emits1 (c .before .before))
-
-part-put-run-start : tie.Need-part-put-run-start
-part-put-run-start c = within (emits1 (c .before .before))
-
-add-len-2 : tie.Need-add-len-2
-add-len-2 c = let e = c .before .before .before in small (emits2 e) (long (f (h e)))
-
-sub-put-line-records : tie.Need-sub-put-line-records
-sub-put-line-records c = within (emits2 (c .before .before .before))
-
-part-put-line-records-start : tie.Need-part-put-line-records-start
-part-put-line-records-start c = within (emits2 (c .before .before .before))
-
-add-len-3 : tie.Need-add-len-3
-add-len-3 c = let e = c .before .before in small (emits3 e) (long (f (h (q e))))
-
-same-length : tie.Need-same-length
-same-length c = same (emits3 (c .before .before))
-
-returns : tie.Need-returns
-returns c = emitted (emits3 (c .before .before)) refl
-
 pub put-line-table-spec : {M : Type 1} → statement M
 put-line-table-spec =
     tie.close
     (tie.spec
-    (λ c. search needs)
-    (λ c. search needs)
+    (λ c κs. search needs)
+    (λ c. within (emits1 (c .before .before)))
+    (λ c. within (emits1 (c .before .before)))
     (λ c. search needs)
     (λ c κs. search needs)
-    add-len
-    sub-put-run
-    part-put-run-start
+    (λ c. let e = c .before .before .before in small (emits2 e) (long (f (h e))))
+    (λ c. within (emits2 (c .before .before .before)))
+    (λ c. within (emits2 (c .before .before .before)))
     (λ c. search needs)
     (λ c κs. search needs)
-    add-len-2
-    sub-put-line-records
-    part-put-line-records-start
+    (λ c. let e = c .before .before in small (emits3 e) (long (f (h (q e)))))
     (λ c. search needs)
-    (λ c κs. search needs)
-    add-len-3
-    same-length
-    returns)
+    (λ c. emitted (emits3 (c .before .before)) refl))

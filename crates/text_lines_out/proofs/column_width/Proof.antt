@@ -3,8 +3,8 @@ use borrow.Author.Needs.{needs}
 use native.Mathlib.Omega.{arith}
 use mathlib.Core.Path.{_≡_, ap, _∙_}
 use Prim.Native.Nat.{ℕ, max}
-use Rattle.text_write.proofs.lines.column_width.Statement.{statement}
-use Rattle.text_write.proofs.lines.column_width.Tie as tie
+use Rattle.text_lines_out.proofs.column_width.Statement.{statement}
+use Rattle.text_lines_out.proofs.column_width.Tie as tie
 
 returns : tie.Need-returns
 returns c =
