@@ -1,27 +1,16 @@
 -- Rows at the places of a window, and window after window. Assumes nothing.
-use mathlib.Core.Path.{_≡_, sym, ap, _∙_}
+use mathlib.Core.Path.{_≡_, ap, _∙_}
 use mathlib.Core.List.{List, [], _∷_, _++_, flatMap}
 use Prim.Native.Nat.{ℕ, _+_, _-_, _≤_, _<_}
 use native.Mathlib.Omega.{arith}
-use lib.ListN.{length, take, drop, getD, length-append, length-take, length-drop, take-append-drop, drop-of-length-le}
-use lib.Seq.{getD-take, length-take-le, take-take, take-all}
+use lib.ListN.{length, take, drop, length-append, length-take, length-drop, drop-of-length-le}
 use Rattle.format.specs.Sorted.{upsert, upsertAll, sorted}
-use Rattle.format.proofs.ListLaws.{flatMap-append}
 use borrow.Rule.Slice.PartAt.{part-to-end}
-use Rattle.writing.proofs.EachLaws.{flatMap-at}
 use Rattle.writing.proofs.Parts.{State, Emits, rest, has-room}
 use Rattle.gather.specs.Order.{HandsOut}
 use Rattle.gather.proofs.WindowLaws.{by-order, upsert-below, upsert-same, upsert-above}
-use Rattle.gather.proofs.OrderLaws.{held-front}
 
 module _ (line : ℕ → List ℕ) (win : List ℕ) (n i : ℕ) where
-  -- the row at a place, and those after it
-  pub window-row : i < n → n ≤ length win
-      → flatMap line (drop i (take n win)) ≡ line (getD win i 0) ++ flatMap line (drop (i + 1) (take n win))
-  window-row h k =
-      flatMap-at line 0 (take n win) i (omega (arith, length-take-le n win k))
-      ∙ ap (λ p. line p ++ flatMap line (drop (i + 1) (take n win))) (getD-take n win i 0 h)
-
   pub window-end : n ≤ i → flatMap line (drop i (take n win)) ≡ []
   unfolding flatMap
   window-end h = ap (flatMap line) (drop-of-length-le (take n win) {i = i} (omega (arith, length-take n win)))
@@ -44,18 +33,6 @@ module _ (places found now rest : List ℕ) (n : ℕ) (h : HandsOut places found
         h .windowed .count,
         handed-few,
       )
-
-  handed-front : take n now ≡ take n places
-  handed-front =
-      let w = take (length found) places in
-      held-front w found now n (h .windowed) ∙ sym (take-all n w (omega (arith, h .windowed .count)))
-      ∙ take-take n (length found) places handed-few
-
-  handed-all : take n now ++ rest ≡ places
-  handed-all = ap (λ l. take n now ++ l) (h .others) ∙ ap (λ l. l ++ drop n places) handed-front ∙ take-append-drop n places
-
-  pub handed-rows : (line : ℕ → List ℕ) → flatMap line places ≡ flatMap line (take n now) ++ flatMap line rest
-  handed-rows line = ap (flatMap line) (sym handed-all) ∙ flatMap-append line (take n now) rest
 
   pub handed-less : 0 < n → length rest < length places
   handed-less p = omega (arith, ap length (h .others), length-drop n places, few)
@@ -88,10 +65,6 @@ module _ (key : ℕ → List ℕ) (line : ℕ → List ℕ) where
   unfolding upsertAll
   all-rows [] acc = omega arith
   all-rows (p ∷ ps) acc = omega (arith, all-rows ps (upsert key p acc), upsert-rows p acc, rows-cons p ps)
-
-  pub sorted-rows : (ps : List ℕ) → length (flatMap line (sorted key ps)) ≤ length (flatMap line ps)
-  unfolding rows flatMap
-  sorted-rows ps = omega (arith, all-rows ps [])
 
 -- what is to be put next fits in the room that is lent
 pub lent-room : {whole room left : List ℕ} {s : State ℕ} (f : Emits whole room left s) (part left′ : List ℕ) → left ≡ part ++ left′

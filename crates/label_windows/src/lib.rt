@@ -8,7 +8,6 @@ use label_tables::put_label_header;
 use label_tables::put_label_row;
 use label_tables::put_symbol_row;
 use writing::put_bytes;
-ghost use mathlib.Core.Path.{_≡_};
 ghost use Prim.Native.Nat.{_≤_, _<_};
 ghost use lib.ListN.{length, take};
 ghost use Rattle.format.specs.TextWriter.{symbolHeader, labelHeader};

@@ -179,9 +179,6 @@ module _ (ws : List ℕ) (at lines wraps done : ℕ) where
     unfolding recordDone
     record-done = rw (eq-eqb (kindAt ws at) 3 k)
 
-    pub plan-done : r .done ≡ recordDone ws at lines wraps done
-    plan-done = p .past ∙ sym record-done
-
     gap-sum : done + r .gap ≡ smaller (r .own .first) lines
     gap-sum =
         let q = fs k in

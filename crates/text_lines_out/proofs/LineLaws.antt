@@ -1,7 +1,6 @@
 -- A source line by line. Assumes nothing.
 use mathlib.Core.Path.{_≡_, refl, sym, ap, ap₂, subst, _∙_}
 use mathlib.Core.Bool.{true, false}
-use mathlib.Core.Logic.{⊎-elim}
 use mathlib.Core.List.{List, [], _∷_, _++_, map, flatMap, append-nil, append-assoc}
 use mathlib.Core.Option.{Option, none, some}
 use Prim.Native.Nat.{ℕ, zero, suc, _+_, _-_, _^_, _≤_, _<_}
@@ -20,7 +19,7 @@ use Rattle.format.proofs.ListLaws.{by-test}
 use Rattle.format.proofs.Utf8Laws.{char-one, char-ascii, char-reads}
 use Rattle.source_info.specs.Passing.{span, spanFrom}
 use Rattle.source_info.proofs.LineLaws.{span-start, span-other, span-stop, span-pass, span-end, span-past}
-use Rattle.word_chars.specs.Stretches.{Other, Clear}
+use Rattle.word_chars.specs.Stretches.{Other}
 use Rattle.word_chars.proofs.CharLaws.{size-is, byte-is}
 use Rattle.object.specs.Access.{addressIn, lineBlockAt}
 use Rattle.object.specs.Bodies.{bodyAt}
@@ -191,15 +190,6 @@ module _ (ws : List ℕ) (at n start : ℕ) where
       subst (Passing text start) e
       (pass-on text start (start + d) (pass-each d (omega arith) (λ k a b. f k a (omega arith))) (omega (arith, size-is ws at n, l))
       (λ z. f (start + d) (omega arith) (omega arith) (byte-is ws at n (start + d) l ∙ z)))
-
-  pub pass-clear : (i : ℕ) → Clear ws at n start i → Passing text start i
-  pass-clear i c =
-      ⊎-elim
-      (λ h. let e : start ≡ i = omega (arith, h, c .0) in subst (Passing text start) e (passing-start text start))
-      (λ h.
-      let e : start + (i - start) ≡ i = omega (arith, c .0) in
-      subst (Passing text start) e (pass-each (i - start) (omega (arith, h, e)) (λ k a b. c .2 k a (omega (arith, e)))))
-      (c .1)
 
 -- line 0, and from line to line
 pub at-start : (s : List ℕ) → isUtf8 s ≡ true → At s 0 0
@@ -375,9 +365,6 @@ sum-below d k j h = omega arith
 
 regroup : (a d j : ℕ) → a + d + j ≡ a + (d + j)
 regroup a d j = omega arith
-
-pub smaller-same : (a : ℕ) → a ≡ smaller a a
-smaller-same a = omega arith
 
 smaller-left : (a b : ℕ) → smaller a b ≤ a
 smaller-left a b = omega arith

@@ -66,9 +66,6 @@ module _ (g : ℕ → ℕ) (least : ℕ) (rise : (n m : ℕ) → n ≤ m → g n
   below : (b w : ℕ) → b ≤ w → max b w ≡ w
   below b w h = omega arith
 
-  at-least : (b t w : ℕ) → t ≤ w → t ≤ max b w
-  at-least b t w h = omega arith
-
   pub wide-block :
       (i a : ℕ) (xs : List ℕ) (rows : List Row) → i + length xs < 2 ^ 64
       → wide g least (addRows i (a ∷ xs) rows) ≡ max (g (i + length xs)) (wide g least rows)

@@ -16,8 +16,7 @@ use Rattle.object.specs.Access.{kindAt, lineBlockAt}
 use Rattle.measuring.specs.Room.{lessPart}
 use Rattle.text_lines_out.specs.Merge.{smaller, blockRows, straight, walkFrom}
 use Rattle.text_lines_out.specs.Lines.{At, rowsText}
-use Rattle.text_lines_out.specs.Runs.{addressFrom, runRows, sourceOf}
-use Rattle.text_lines_out.specs.declared.Table.{Table}
+use Rattle.text_lines_out.specs.Runs.{addressFrom, runRows}
 use Rattle.text_lines_out.specs.declared.Wrapped.{Wrapped}
 use Rattle.text_lines_out.specs.declared.Lines.{Lines}
 use Rattle.text_lines_out.specs.declared.Passed.{Passed}
@@ -44,10 +43,6 @@ module _ (ws : List ℕ) (at lines wraps done : ℕ) where
   Follows =
       kindAt ws at ≡ 3 → (e : ℕ) × (e ≤ lineBlockAt ws at .first) × (lineBlockAt ws at .first < 2 ^ 64)
       × (done ≡ smaller (wraps + (e - wraps)) lines)
-
--- the rows of a record, in a table
-abbrev pub recordText : List ℕ → ℕ → Table → ℕ → List ℕ
-recordText ws at t done = rowsText (t .width) (sourceOf ws t) (recordRows ws at (t .lines) (t .wraps) done)
 
 -- the room that rows leave, how many of the source's lines are done, and where the next one starts
 abbrev pub Passes : ℕ → List ℕ → ℕ → List Row → ℕ → Passed → Type 0

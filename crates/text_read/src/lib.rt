@@ -59,7 +59,7 @@ fn put_source_text(out: &mut [u32], t: &[u8], rows: usize) -> usize
         next: rows,
     };
     loop {
-        let token = next_token(t, cur);
+        let token = next_token(t, cur.at, cur.end, cur.next);
         match token {
             Token::Plain(b, d) => {
                 h = push(out, h, b);

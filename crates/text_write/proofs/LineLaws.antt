@@ -7,8 +7,7 @@ use Prim.Native.Nat.{ℕ, zero, suc, _+_, _-_, _%_, _^_, _≤_, _<_}
 use native.Mathlib.Omega.{arith}
 use lib.ListN.{length, drop, getD}
 use lib.Dec.{ltb, eqb}
-use borrow.Author.Tests.{lt-ltb, le-ltb, ltb-true, ltb-false, eqb-true, eqb-false}
-use Rattle.format.specs.Basics.{if_then_else_}
+use borrow.Author.Tests.{ltb-true, ltb-false, eqb-true, eqb-false}
 use Rattle.format.specs.ObjectFile.{LineBlock, lineEnd}
 use Rattle.format.specs.Source.{lineCount}
 use Rattle.format.specs.TextWriter.{Row}
@@ -22,7 +21,7 @@ use Rattle.measuring.proofs.FittingLaws.{all-put}
 use Rattle.text_parts_out.specs.Parts.{heads}
 use Rattle.text_lines_out.specs.Merge.{smaller, walkFrom}
 use Rattle.text_lines_out.specs.Lines.{At, Next, rowsText}
-use Rattle.text_lines_out.specs.Runs.{row, addressFrom, runRows, sourceOf, rowsOf, Planned}
+use Rattle.text_lines_out.specs.Runs.{addressFrom, runRows, sourceOf, rowsOf, Planned}
 use Rattle.text_lines_out.specs.Walk.{Follows, recordRows, recordDone, walkRows, lineBlocksIn}
 use Rattle.text_lines_out.specs.declared.Table.{Table}
 use Rattle.text_lines_out.specs.declared.Plan.{Plan}
@@ -46,7 +45,7 @@ use Rattle.text_lines_out.proofs.BlockLaws.{
   walking-on,
   walk-rows,
 }
-use Rattle.text_runs_out.specs.Lines.{pastLine, nextStart, rowLine, rowLines, startPast, itself, joined, placedRows}
+use Rattle.text_runs_out.specs.Lines.{pastLine, nextStart, rowLines, startPast, itself, joined, placedRows}
 use Rattle.text_runs_out.proofs.StartLaws.{past-on, past-here, past-end}
 use Rattle.text_runs_out.proofs.RunLaws.{joined-append, start-append, lines-none, start-none, record-runs, placed-lines, placed-over}
 use Rattle.text_escape.specs.Escaped.{escapedIn}

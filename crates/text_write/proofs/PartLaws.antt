@@ -1,10 +1,10 @@
 -- The parts of each record. Assumes nothing.
 use mathlib.Core.Path.{_≡_, refl, sym, ap, _∙_}
 use mathlib.Core.Bool.{Bool, true}
-use mathlib.Core.List.{List, [], _∷_, _++_, map, flatMap, append-assoc}
-use Prim.Native.Nat.{ℕ, _+_, _-_, _*_, _≤_, _<_}
+use mathlib.Core.List.{List, [], _∷_, _++_, map, flatMap}
+use Prim.Native.Nat.{ℕ, _+_, _-_, _<_}
 use native.Mathlib.Omega.{arith}
-use lib.ListN.{length, getD, length-append, length-map}
+use lib.ListN.{length, getD, length-map}
 use lib.Dec.{eqb}
 use borrow.Author.Tests.{eq-eqb, ne-eqb, eqb-true, eqb-false}
 use Rattle.format.specs.Basics.{if_then_else_}
@@ -13,7 +13,7 @@ use Rattle.format.specs.Records.{Record, placed, emptyObject}
 use Rattle.format.specs.Words.{isHead}
 use Rattle.format.specs.TextWriter.{hex4, decimal, memoryText, textLine, blockLines, linkerRow}
 use Rattle.format.proofs.ListLaws.{by-test, flatMap-map}
-use Rattle.object.specs.Bodies.{bodyAt, textAt, Text}
+use Rattle.object.specs.Bodies.{bodyAt, Text}
 use Rattle.object.specs.Texts.{textLen, textBytes}
 use Rattle.object.proofs.ByteLaws.{text-len, text-bytes}
 use Rattle.object.proofs.WordLaws.{head-kind}

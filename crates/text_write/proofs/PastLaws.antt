@@ -7,8 +7,8 @@ use Prim.Native.Nat.{ℕ, _+_, _≤_, _<_}
 use native.Mathlib.Omega.{arith}
 use lib.ListN.{length, getD}
 use lib.Dec.{eqb}
-use borrow.Author.Tests.{ne-eqb, eqb-true, eqb-false}
-use Rattle.format.specs.Basics.{Outcome, given, givenOr, isEmpty}
+use borrow.Author.Tests.{ne-eqb, eqb-false}
+use Rattle.format.specs.Basics.{given, givenOr, isEmpty}
 use Rattle.format.specs.ObjectFile.{Block, Label, LineBlock, Relocation, ObjectFile}
 use Rattle.format.specs.Records.{Record, block, label, lineBlock, source, relocation, recordKey, recordsOf, sourceRecords, emptyObject, placed}
 use Rattle.format.specs.Words.{isHead, recordsFrom, objectOf}

@@ -6,7 +6,7 @@ use Rattle.format.specs.Basics.{andThen, if_then_else_, ascii}
 use Rattle.format.specs.ObjectFile.{ObjectFile}
 use Rattle.format.specs.TextWriter.{textLine, symbolTable, linkerTable, labelTable, lineTable, barLine, blocksOnly, symbolGroups, textFile}
 use Rattle.text_lines_out.specs.Walk.{sourceTable}
-use Rattle.text_write.specs.Tables.{objectIn, blocksText}
+use Rattle.text_write.specs.Tables.{objectIn}
 
 -- the lines before the blocks
 abbrev pub headLines : List ℕ

@@ -1,13 +1,12 @@
 -- Four parts, one after the other. Assumes nothing.
 use borrow.Author.Needs.{needs}
 use native.Mathlib.Omega.{arith}
-use mathlib.Core.Path.{_≡_, refl, sym, ap, subst, _∙_}
+use mathlib.Core.Path.{_≡_, refl, sym}
 use mathlib.Core.List.{List, [], _∷_, _++_}
 use Prim.Native.Nat.{ℕ, _+_, _%_, _^_, _<_}
 use lib.ListN.{length, set}
 use denote.Ref.{now}
 use Rattle.format.specs.TextWriter.{hex4}
-use Rattle.writing.specs.Written.{Put}
 use Rattle.writing.proofs.WriteLaws.{too-short}
 use Rattle.writing.proofs.Parts.{State, Emits, after, begun, emit, emit-one, room-one, emitted, within, small, same}
 use Rattle.object.specs.Texts.{textBytes}

@@ -1,8 +1,6 @@
 -- By the table. Assumes nothing.
 use borrow.Author.Needs.{needs}
-use mathlib.Core.Path.{_≡_, sym, subst}
-use mathlib.Core.List.{List}
-use Prim.Native.Nat.{ℕ}
+use mathlib.Core.Path.{sym, subst}
 use denote.Ref.{now}
 use Rattle.writing.specs.Written.{Put}
 use Rattle.label_order.specs.declared.By.{By}

@@ -1,12 +1,12 @@
 -- A row a turn. Assumes nothing.
 use borrow.Author.Needs.{needs}
 use native.Mathlib.Omega.{arith}
-use mathlib.Core.Path.{_≡_, sym, ap, _∙_}
-use mathlib.Core.List.{List, []}
+use mathlib.Core.Path.{ap, _∙_}
+use mathlib.Core.List.{List}
 use Prim.Native.Nat.{ℕ, _+_, _-_, _^_, _≤_, _<_}
 use lib.ListN.{length, take, drop, getD}
 use denote.Ref.{now}
-use Rattle.writing.proofs.Parts.{State, Emits, after, begin, emitted, within, small, same}
+use Rattle.writing.proofs.Parts.{State, Emits, after, emitted, within, small, same}
 use Rattle.measuring.specs.Fitting.{fitting}
 use Rattle.measuring.proofs.FittingLaws.{fill-begin, fill-one}
 use Rattle.label_windows.specs.Fits.{lineOf}
