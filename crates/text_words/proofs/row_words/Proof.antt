@@ -1,5 +1,4 @@
 use borrow.Author.Needs.{needs}
-use native.Mathlib.Omega.{arith}
 use Rattle.text_words.proofs.WordLaws.{block-count, linker-words, label-words}
 use Rattle.text_words.proofs.row_words.Statement.{statement}
 use Rattle.text_words.proofs.row_words.Tie as tie
