@@ -14,9 +14,9 @@ use Rattle.format.specs.Sorted.{order, byOrdering}
 use Rattle.format.specs.Records.{Record, label}
 use Rattle.format.specs.Words.{recordWords}
 use Rattle.text_rows.specs.Rows.{symbolRow, labelRow, rowIn, rowAt, labelsIn, joinOne, joinLabels, onlySymbol, onlyStart, bothFields}
-use Rattle.text_gather.specs.Keys.{lineAt, addressAt, nameAt}
+use Rattle.text_gather.specs.Keys.{lineAt, cellAt, addressAt}
 use Rattle.text_gather.specs.Order.{left}
-use Rattle.text_words.specs.Written.{externalAt, indexAt, wordsAt}
+use Rattle.text_words.specs.Written.{externalAt, indexAt, symbolWords, wordsAt}
 use Rattle.text_labels.specs.declared.Stream.{Stream}
 use Rattle.text_labels.specs.declared.Next.{Next}
 use Rattle.text_labels.specs.Labels.{labelsOf, leftIn, Within, Refilled, chosen, bothWords, nextWords, stepped}
@@ -43,7 +43,7 @@ left-first kind t win s p w h e =
 
 module _ (t : List ℕ) (p q : ℕ) (rs ds : List Record) where
   abbrev keys : Ordering
-  keys = order (nameAt 1 t p) (nameAt 3 t q)
+  keys = order (cellAt 2 t p 2) (cellAt 1 t q 0)
 
   start-only : labelWords [] (rowAt 3 t q ∷ ds) ≡ wordsAt 3 t q ∷ labelWords [] ds
   unfolding labelsIn joinLabels wordsAt rowAt rowIn labelRow
@@ -58,7 +58,7 @@ module _ (t : List ℕ) (p q : ℕ) (rs ds : List Record) where
       byOrdering o (wordsAt 1 t p ∷ labelWords rs (rowAt 3 t q ∷ ds)) (bothWords t p q ∷ labelWords rs ds) (wordsAt 3 t q ∷ labelWords (rowAt 1 t p ∷ rs) ds)
 
   by-keys : labelWords (rowAt 1 t p ∷ rs) (rowAt 3 t q ∷ ds) ≡ three keys
-  unfolding labelsIn joinLabels joinOne wordsAt rowAt rowIn symbolRow labelRow bothWords nameAt addressAt externalAt indexAt lineAt
+  unfolding labelsIn joinLabels joinOne wordsAt rowAt rowIn symbolRow labelRow bothWords symbolWords cellAt addressAt externalAt indexAt lineAt
   by-keys = go keys
     where
       go : (o : Ordering) → map recordWords (map label (byOrdering o
@@ -84,7 +84,7 @@ module _ (t : List ℕ) (p q : ℕ) (rs ds rs′ ds′ : List Record) where
   no : {P : Type 0} → true ≡ false → P
   no e = absurd (true≢false e)
 
-  turn-at : (a b : Bool) (o : Ordering) → o ≡ order (nameAt 1 t p) (nameAt 3 t q) → (a ≡ true → rs ≡ rowAt 1 t p ∷ rs′) → (a ≡ false → rs ≡ [])
+  turn-at : (a b : Bool) (o : Ordering) → o ≡ order (cellAt 2 t p 2) (cellAt 1 t q 0) → (a ≡ true → rs ≡ rowAt 1 t p ∷ rs′) → (a ≡ false → rs ≡ [])
       → (b ≡ true → ds ≡ rowAt 3 t q ∷ ds′) → (b ≡ false → ds ≡ []) → Turn (chosen a b o)
   unfolding chosen nextWords labelsIn joinLabels
   turn-at false false o e fa ga fb gb =
@@ -132,7 +132,7 @@ chosen-starts true true o h = refl
 module _ (t sw dw : List ℕ) (s d : Stream) (p q : ℕ) (ws : Within 1 sw s) (wd : Within 3 dw d)
     (ep : s .i < s .n → p ≡ getD sw (s .i) 0) (eq : d .i < d .n → q ≡ getD dw (d .i) 0)
     (es : s .n ≤ s .i → leftIn 1 t sw s ≡ []) (ed : d .n ≤ d .i → leftIn 3 t dw d ≡ [])
-    (x : Next) (e : x ≡ chosen (ltb (s .i) (s .n)) (ltb (d .i) (d .n)) (order (nameAt 1 t p) (nameAt 3 t q))) where
+    (x : Next) (e : x ≡ chosen (ltb (s .i) (s .n)) (ltb (d .i) (d .n)) (order (cellAt 2 t p 2) (cellAt 1 t q 0))) where
   abbrev rs : List Record
   rs = leftIn 1 t sw s
 
@@ -142,17 +142,17 @@ module _ (t sw dw : List ℕ) (s d : Stream) (p q : ℕ) (ws : Within 1 sw s) (w
   turn : Turn t p q rs ds (leftIn 1 t sw (stepped s true)) (leftIn 3 t dw (stepped d true)) x
   turn =
       subst (Turn t p q rs ds (leftIn 1 t sw (stepped s true)) (leftIn 3 t dw (stepped d true))) (sym e)
-      (turn-at t p q rs ds (leftIn 1 t sw (stepped s true)) (leftIn 3 t dw (stepped d true)) (ltb (s .i) (s .n)) (ltb (d .i) (d .n)) (order (nameAt 1 t p) (nameAt 3 t q)) refl
+      (turn-at t p q rs ds (leftIn 1 t sw (stepped s true)) (leftIn 3 t dw (stepped d true)) (ltb (s .i) (s .n)) (ltb (d .i) (d .n)) (order (cellAt 2 t p 2) (cellAt 1 t q 0)) refl
       (λ h. let l = ltb-true (s .i) (s .n) h in left-first 1 t sw s p ws l (ep l))
       (λ h. es (ltb-false (s .i) (s .n) h))
       (λ h. let l = ltb-true (d .i) (d .n) h in left-first 3 t dw d q wd l (eq l))
       (λ h. ed (ltb-false (d .i) (d .n) h)))
 
   pub symbol-there : x .symbol ≡ true → s .i < s .n
-  symbol-there h = ltb-true (s .i) (s .n) (chosen-symbols (ltb (s .i) (s .n)) (ltb (d .i) (d .n)) (order (nameAt 1 t p) (nameAt 3 t q)) (ap (λ (y : Next). y .symbol) (sym e) ∙ h))
+  symbol-there h = ltb-true (s .i) (s .n) (chosen-symbols (ltb (s .i) (s .n)) (ltb (d .i) (d .n)) (order (cellAt 2 t p 2) (cellAt 1 t q 0)) (ap (λ (y : Next). y .symbol) (sym e) ∙ h))
 
   pub start-there : x .start ≡ true → d .i < d .n
-  start-there h = ltb-true (d .i) (d .n) (chosen-starts (ltb (s .i) (s .n)) (ltb (d .i) (d .n)) (order (nameAt 1 t p) (nameAt 3 t q)) (ap (λ (y : Next). y .start) (sym e) ∙ h))
+  start-there h = ltb-true (d .i) (d .n) (chosen-starts (ltb (s .i) (s .n)) (ltb (d .i) (d .n)) (order (cellAt 2 t p 2) (cellAt 1 t q 0)) (ap (λ (y : Next). y .start) (sym e) ∙ h))
 
   kept-left : (kind : ℕ) (win : List ℕ) (u : Stream) (b : Bool) → kept t p q rs ds rs ds b (leftIn kind t win (stepped u true)) (leftIn kind t win u) ≡ leftIn kind t win (stepped u b)
   unfolding stepped
@@ -231,7 +231,7 @@ module _ (t : List ℕ) (all : List (List ℕ)) (room out sw₀ sw sw′ dw₀ d
       }
 
   module _ (p q : ℕ) (ep : s′ .i < s′ .n → p ≡ getD sw′ (s′ .i) 0) (eq : d′ .i < d′ .n → q ≡ getD dw′ (d′ .i) 0) (x : Next)
-      (e : x ≡ chosen (ltb (s′ .i) (s′ .n)) (ltb (d′ .i) (d′ .n)) (order (nameAt 1 t p) (nameAt 3 t q))) where
+      (e : x ≡ chosen (ltb (s′ .i) (s′ .n)) (ltb (d′ .i) (d′ .n)) (order (cellAt 2 t p 2) (cellAt 1 t q 0))) where
     pub join-end : (not (x .symbol) && not (x .start)) ≡ true → PutEach all room at out
     join-end h =
         puts-end (labelWords (leftIn 1 t sw′ s′) (leftIn 3 t dw′ d′)) all room out at (refilled .puts)

@@ -3,7 +3,7 @@ use mathlib.Core.Path.{_≡_, refl, sym, ap, ap₂, _∙_, subst}
 use mathlib.Core.Bool.{true, false, not, _&&_}
 use mathlib.Core.List.{List, [], _∷_, _++_, map}
 use mathlib.Core.Option.{none, some}
-use Prim.Native.Nat.{ℕ, _+_, _-_, _/_, _<_}
+use Prim.Native.Nat.{ℕ, _+_, _<_}
 use native.Mathlib.Omega.{arith}
 use lib.ListN.{length, getD}
 use lib.Dec.{ltb}
@@ -11,29 +11,28 @@ use Rattle.format.specs.Sorted.{order, sorted}
 use Rattle.format.specs.Records.{label}
 use Rattle.format.specs.Words.{recordWords}
 use Rattle.format.proofs.ListLaws.{by-test}
-use Rattle.trim.specs.Span.{Spans}
-use Rattle.text_lines.proofs.LineLaws.{length-part}
-use Rattle.text_rows.specs.Rows.{rowKey, rowsOf}
-use Rattle.text_gather.specs.Keys.{nameAt}
+use Rattle.text_rows.specs.Rows.{symbolRow, rowIn, rowAt, rowKey, rowsOf}
+use Rattle.text_gather.specs.Keys.{lineAt, cellAt}
+use Rattle.text_words.specs.Written.{symbolWords, wordsAt}
 use Rattle.text_words.specs.Room.{roomFor, roomAfter}
 use Rattle.text_words.proofs.WordLaws.{label-length}
-use Rattle.text_words.proofs.RoomLaws.{label-words, room-one, rooms-none, rooms-short, rooms-on}
+use Rattle.text_words.proofs.RoomLaws.{room-one, rooms-none, rooms-short, rooms-on}
 use Rattle.text_labels.specs.declared.Stream.{Stream}
 use Rattle.text_labels.specs.declared.Next.{Next}
 use Rattle.text_labels.specs.Labels.{labelsOf, leftIn, Within, Refilled, chosen, bothWords, nextWords, stepped}
 use Rattle.text_labels.proofs.JoinLaws.{labelWords, unused, wider, symbol-there, start-there, turn-done, turn-on, turn-less, within-step}
 
--- a label has four words besides its name
-pub next-symbol-length : (t : List ℕ) (x : Next) (p q start end : ℕ) → x .symbol ≡ true → Spans t start end (nameAt 1 t p) → length (nextWords x t p q) ≡ 4 + (end - start + 2) / 3
-unfolding nextWords bothWords
-next-symbol-length t x p q start end e s =
+-- a label of both tables has as many words as that of its row of .SYMBOL
+pub next-symbol-length : (t : List ℕ) (x : Next) (p q : ℕ) → x .symbol ≡ true → length (wordsAt 1 t p) ≡ length (nextWords x t p q)
+unfolding nextWords bothWords symbolWords wordsAt rowAt rowIn symbolRow cellAt lineAt
+next-symbol-length t x p q e =
     by-test (x .start)
-    (λ u. rw (e, u) (label-length _ ∙ ap (λ (n : ℕ). 4 + (n + 2) / 3) (ap length (sym (s .same)) ∙ length-part start end t (s .ordered) (s .inside))))
-    (λ u. rw (e, u) (label-words 1 t p start end s (λ h. let z : ⊥ = omega arith in z) (λ h. let z : ⊥ = omega arith in z)))
+    (λ u. rw (e, u) (label-length _ ∙ sym (label-length _)))
+    (λ u. rw (e, u) refl)
 
-pub next-start-length : (t : List ℕ) (x : Next) (p q start end : ℕ) → x .symbol ≡ false → Spans t start end (nameAt 3 t q) → length (nextWords x t p q) ≡ 4 + (end - start + 2) / 3
+pub next-start-length : (t : List ℕ) (x : Next) (p q : ℕ) → x .symbol ≡ false → length (wordsAt 3 t q) ≡ length (nextWords x t p q)
 unfolding nextWords
-next-start-length t x p q start end e s = rw e (label-words 3 t q start end s (λ h. let z : ⊥ = omega arith in z) (λ h. let z : ⊥ = omega arith in z))
+next-start-length t x p q e = rw e refl
 
 -- THE WALK over both tables
 pub record Measuring (t : List ℕ) (all : List (List ℕ)) (room left : ℕ) (sw₀ sw dw₀ dw : List ℕ) (s d : Stream) : Type 0 where
@@ -75,7 +74,7 @@ module _ (t : List ℕ) (all : List (List ℕ)) (room m : ℕ) (sw₀ sw sw′ d
       }
 
   module _ (p q : ℕ) (ep : s′ .i < s′ .n → p ≡ getD sw′ (s′ .i) 0) (eq : d′ .i < d′ .n → q ≡ getD dw′ (d′ .i) 0) (x : Next)
-      (e : x ≡ chosen (ltb (s′ .i) (s′ .n)) (ltb (d′ .i) (d′ .n)) (order (nameAt 1 t p) (nameAt 3 t q))) where
+      (e : x ≡ chosen (ltb (s′ .i) (s′ .n)) (ltb (d′ .i) (d′ .n)) (order (cellAt 2 t p 2) (cellAt 1 t q 0))) where
     pub measure-end : (not (x .symbol) && not (x .start)) ≡ true → some m ≡ roomAfter all room
     measure-end h =
         rooms-none (labelWords (leftIn 1 t sw′ s′) (leftIn 3 t dw′ d′)) m (turn-done t sw′ dw′ s′ d′ p q (fs .there) (fd .there) ep eq (fs .ended) (fd .ended) x e h) ∙ measured .same

@@ -2,27 +2,22 @@
 use mathlib.Core.Path.{_≡_, refl, sym, ap, _∙_}
 use mathlib.Core.Bool.{Bool, true, false, not}
 use mathlib.Core.List.{List, [], _++_, map}
-use Prim.Native.Nat.{ℕ, _+_, _-_, _≤_, _<_, Ordering, Ordering·eq}
+use Prim.Native.Nat.{ℕ, _+_, _-_, _≤_, _<_, Ordering, Ordering·lt, Ordering·eq, Ordering·gt}
 use native.Mathlib.Omega.{arith}
 use lib.ListN.{length, take, drop, length-take, length-append, length-map, take-append-drop, drop-of-length-le}
 use lib.Seq.{take-all, length-take-le}
-use lib.Dec.{leb}
+use lib.Dec.{leb, eqb}
 use borrow.Author.Tests.{leb-true, leb-false}
-use Rattle.format.specs.Sorted.{order, isLess}
 use Rattle.format.specs.Records.{Record}
 use Rattle.format.proofs.ListLaws.{by-test}
 use Rattle.gather.proofs.OrderLaws.{held-front}
-use Rattle.gather.proofs.WindowLaws.{order-back, less-lt, less-same}
-use Rattle.format.proofs.SortedLaws.{order-self}
+use Rattle.gather.specs.Tags.{rank}
 use Rattle.text_rows.specs.Rows.{rowAt}
 use Rattle.text_gather.specs.Order.{left, HandsOut}
 use Rattle.text_gather.specs.declared.Sorting.{Sorting}
 use Rattle.text_labels.specs.declared.Stream.{Stream}
 use Rattle.text_labels.specs.declared.Next.{Next}
-use Rattle.format.specs.Records.{label}
-use Rattle.format.specs.Words.{recordWords}
-use Rattle.text_gather.specs.Keys.{addressAt, nameAt}
-use Rattle.text_words.specs.Written.{externalAt, indexAt, wordsAt}
+use Rattle.text_words.specs.Written.{wordsAt}
 use Rattle.text_labels.specs.Labels.{leftIn, Within, Refilled, chosen, bothWords, nextWords}
 
 -- a window that is not used up stays
@@ -76,20 +71,14 @@ pub chosen-symbol : (o : Ordering) (s d : Bool) → s ≡ true → d ≡ false �
 unfolding chosen
 chosen-symbol o s d e f = rw (e, f) refl
 
-module _ (j k : List ℕ) (s d : Bool) (e : s ≡ true) (f : d ≡ true) where
-  pub chosen-below : isLess (order j k) ≡ true → record { symbol = true; start = false } ≡ chosen s d (order j k)
-  unfolding chosen
-  chosen-below h = rw (e, f, less-lt j k h) refl
-
-  pub chosen-above : isLess (order k j) ≡ true → record { symbol = false; start = true } ≡ chosen s d (order j k)
-  unfolding chosen
-  chosen-above h = rw (e, f, order-back k j (less-lt k j h)) refl
-
-  pub chosen-both : isLess (order j k) ≡ false → isLess (order k j) ≡ false → record { symbol = true; start = true } ≡ chosen s d (order j k)
-  unfolding chosen
-  chosen-both g h =
-      let q : order j k ≡ Ordering·eq = ap (order j) (sym (less-same j k g h)) ∙ order-self j in
-      rw (e, f, q) refl
+pub chosen-rank : (o : Ordering) (s d : Bool) (c : ℕ) → s ≡ true → d ≡ true → c ≡ rank o → record { symbol = not (eqb c 2); start = not (eqb c 0) } ≡ chosen s d o
+unfolding chosen
+chosen-rank o s d c e f q = rw (e, f, q) (go o)
+  where
+    go : (o : Ordering) → record { symbol = not (eqb (rank o) 2); start = not (eqb (rank o) 0) } ≡ chosen true true o
+    go Ordering·lt = refl
+    go Ordering·eq = refl
+    go Ordering·gt = refl
 
 -- THE WORDS of the next label
 pub next-both : (x : Next) (t : List ℕ) (p q : ℕ) → x .symbol ≡ true → x .start ≡ true → bothWords t p q ≡ nextWords x t p q
@@ -103,8 +92,3 @@ next-symbol x t p q e f = rw (e, f) refl
 pub next-start : (x : Next) (t : List ℕ) (p q : ℕ) → x .symbol ≡ false → wordsAt 3 t q ≡ nextWords x t p q
 unfolding nextWords
 next-start x t p q e = rw e refl
-
-pub both-words : (t : List ℕ) (p q a i : ℕ) (x : Bool) (bs : List ℕ) → a ≡ addressAt 1 t p → x ≡ externalAt t p → i ≡ indexAt t q → bs ≡ nameAt 1 t p
-    → recordWords (label (record { name = bs; address = a; external = x; start = i })) ≡ bothWords t p q
-unfolding bothWords
-both-words t p q a i x bs e f g h = rw (e, f, g, h) refl

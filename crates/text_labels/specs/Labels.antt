@@ -7,12 +7,10 @@ use lib.ListN.{length, take, drop}
 use Rattle.format.specs.Basics.{if_then_else_}
 use Rattle.format.specs.Sorted.{byOrdering, sorted}
 use Rattle.format.specs.ObjectFile.{Label}
-use Rattle.format.specs.Records.{Record, label}
-use Rattle.format.specs.Words.{recordWords}
+use Rattle.format.specs.Records.{Record}
 use Rattle.text_rows.specs.Rows.{rowKey, rowsOf, rowAt, labelsIn, joinLabels}
-use Rattle.text_gather.specs.Keys.{addressAt, nameAt}
 use Rattle.text_gather.specs.Order.{left}
-use Rattle.text_words.specs.Written.{externalAt, indexAt, wordsAt}
+use Rattle.text_words.specs.Written.{indexAt, symbolWords, wordsAt}
 use Rattle.text_labels.specs.declared.Stream.{Stream}
 use Rattle.text_labels.specs.declared.Next.{Next}
 
@@ -45,8 +43,7 @@ chosen true true o =
 
 -- the words of a label of both tables: "Later rows set their own fields"
 unfoldable pub bothWords : List ℕ → ℕ → ℕ → List ℕ
-bothWords t p q =
-    recordWords (label (record { name = nameAt 1 t p; address = addressAt 1 t p; external = externalAt t p; start = indexAt t q }))
+bothWords t p q = symbolWords t p (indexAt t q)
 
 -- the words of the next label, of the row of .SYMBOL at p, the row of the label table at q, or both
 unfoldable pub nextWords : Next → List ℕ → ℕ → ℕ → List ℕ

@@ -1,13 +1,12 @@
 // The words of a text file's labels, of the rows of their two tables.
+use gather::compare_bytes;
 use text_gather::Sorting;
-use text_gather::address_at;
-use text_gather::name_at;
-use text_gather::name_less;
+use text_gather::cell_at;
 use text_words::Room;
-use text_words::external_at;
-use text_words::index_at;
-use text_words::put_label;
+use text_words::number_at;
 use text_words::put_row;
+use text_words::put_symbol;
+use text_words::row_words;
 use text_words::take_room;
 ghost use mathlib.Core.Path.{_≡_};
 ghost use mathlib.Core.Bool.{not, _&&_};
@@ -18,10 +17,10 @@ ghost use Rattle.format.specs.Sorted.{order};
 ghost use Rattle.format.specs.Records.{label};
 ghost use Rattle.format.specs.Words.{recordWords};
 ghost use Rattle.writing.specs.Written.{Put};
-ghost use Rattle.text_gather.specs.Keys.{nameAt};
+ghost use Rattle.text_gather.specs.Keys.{cellAt};
 ghost use Rattle.text_words.specs.Room.{roomOf, roomFor, roomAfter};
 ghost use Rattle.text_words.specs.Written.{PutEach};
-ghost use Rattle.text_labels.specs.Labels.{labelsOf, leftIn, Within, Refilled, chosen, bothWords, nextWords, stepped};
+ghost use Rattle.text_labels.specs.Labels.{labelsOf, leftIn, Within, Refilled, chosen, nextWords, stepped};
 ghost use mathlib.Core.Bool.{true};
 ghost use mathlib.Core.List.{[]};
 ghost use Rattle.format.specs.Sorted.{sorted};
@@ -49,13 +48,11 @@ fn refill(s: Stream, t: &[u8], win: &mut [usize]) -> Stream
         return s;
     }
     let sorting = s.sorting;
-    let w = sorting.next_window(t, win);
-    let after = w.sorting;
-    let n = w.count;
+    let after = sorting.next_window(t, win);
     Stream {
         sorting: after,
         i: 0,
-        n: n,
+        n: after.count,
     }
 }
 
@@ -73,7 +70,7 @@ fn place_at(win: &[usize], s: Stream) -> usize
 
 // Which tables the next label is from, where there are rows left of .SYMBOL, next at p, and of the label table, next at q.
 fn choose(t: &[u8], symbols: bool, p: usize, starts: bool, q: usize) -> Next
-    ensures { λ r. ⌜ r ≡ chosen symbols starts (order (nameAt 1 (now (t .entry)) p) (nameAt 3 (now (t .entry)) q)) ⌝ }
+    ensures { λ r. ⌜ r ≡ chosen symbols starts (order (cellAt 2 (now (t .entry)) p 2) (cellAt 1 (now (t .entry)) q 0)) ⌝ }
 {
     if !symbols {
         return Next {
@@ -87,21 +84,10 @@ fn choose(t: &[u8], symbols: bool, p: usize, starts: bool, q: usize) -> Next
             start: false,
         };
     }
-    if name_less(t, 1, p, 3, q) {
-        return Next {
-            symbol: true,
-            start: false,
-        };
-    }
-    if name_less(t, 3, q, 1, p) {
-        return Next {
-            symbol: false,
-            start: true,
-        };
-    }
+    let c = compare_bytes(cell_at(t, 2, p, 2), cell_at(t, 1, q, 0));
     Next {
-        symbol: true,
-        start: true,
+        symbol: c != 2,
+        start: c != 0,
     }
 }
 
@@ -115,29 +101,14 @@ fn is_done(x: Next) -> bool
     !x.start
 }
 
-// A label of both tables.
-fn put_both(out: &mut [u32], t: &[u8], p: usize, q: usize) -> usize
-    ensures { λ r. ⌜ Put (bothWords (now (t .entry)) p q) (now (out .entry)) r (now (out .exit)) ⌝ }
-{
-    let c = name_at(t, 1, p);
-    let start = c.start;
-    let end = c.end;
-    put_label(
-        out,
-        address_at(t, 1, p),
-        external_at(t, p),
-        index_at(t, q),
-        &t[start..end],
-    )
-}
-
 // The next label.
 fn put_next(out: &mut [u32], t: &[u8], x: Next, p: usize, q: usize) -> usize
     ensures { λ r. ⌜ Put (nextWords x (now (t .entry)) p q) (now (out .entry)) r (now (out .exit)) ⌝ }
 {
     if x.symbol {
         if x.start {
-            return put_both(out, t, p, q);
+            let start = number_at(t, 1, q, 0xFFFF_FFFF_FFFF_FFFF);
+            return put_symbol(out, t, p, start);
         }
         return put_row(out, t, 1, p);
     }
@@ -209,17 +180,9 @@ fn next_room(t: &[u8], x: Next, p: usize, q: usize, room: usize) -> Room
     ensures { λ r. ⌜ roomOf r ≡ roomFor (length (nextWords x (now (t .entry)) p q)) room ⌝ }
 {
     if x.symbol {
-        let c = name_at(t, 1, p);
-        let start = c.start;
-        let end = c.end;
-        let n = (end - start + 2) / 3;
-        return take_room(room, 4 + n);
+        return take_room(room, row_words(t, 1, p));
     }
-    let c = name_at(t, 3, q);
-    let start = c.start;
-    let end = c.end;
-    let n = (end - start + 2) / 3;
-    take_room(room, 4 + n)
+    take_room(room, row_words(t, 3, q))
 }
 
 // The room after the labels of both tables.

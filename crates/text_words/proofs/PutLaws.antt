@@ -1,6 +1,5 @@
 -- Parts written one after the other, and rows handed out a window at a time. Assumes nothing.
 use mathlib.Core.Path.{_≡_, refl, sym, ap, ap₂, _∙_, subst}
-use mathlib.Core.Bool.{true}
 use mathlib.Core.List.{List, [], _∷_, _++_, map, flatMap, append-assoc, append-nil}
 use Prim.Native.Nat.{ℕ, suc, _+_, _-_, _≤_, _<_}
 use native.Mathlib.Omega.{arith}
@@ -8,7 +7,7 @@ use native.Mathlib.Numerals.{add-one}
 use lib.ListN.{length, take, drop, getD, length-append, length-drop, length-take, length-map, take-append-drop, drop-of-length-le}
 use lib.Seq.{getD-take, drop-cons, drop-append-add, take-all, length-take-le}
 use lib.Dec.{leb}
-use borrow.Author.Tests.{leb-true, leb-false}
+use borrow.Author.Tests.{leb-true, leb-false, eq-eqb}
 use borrow.Rule.Slice.PartAt.{part-to-end}
 use borrow.Rule.Slice.PartMut.{midOf, postOf, putMid}
 use Rattle.format.specs.Sorted.{upsert, upsertAll, sorted}
@@ -187,9 +186,9 @@ module _ (kind : ℕ) (t : List ℕ) (from : ℕ) (b : BeginsAt t from) where
       ap (λ (rs : List Record). map recordWords (sorted rowKey rs)) (sym (b kind) ∙ f .same ∙ ap (λ (rs : List Record). rowAt kind t p ∷ rs) e)
 
 -- where the keys rise, they are the rows in order
-pub straight-rows : (t : List ℕ) (o : Sorting) → o .rising ≡ true → rowsFrom (o .kind) t (o .at) ≡ left t o
+pub straight-rows : (t : List ℕ) (o : Sorting) → o .mode ≡ 0 → rowsFrom (o .kind) t (o .at) ≡ left t o
 unfolding left
-straight-rows t o e = simp e
+straight-rows t o e = rw (eq-eqb (o .mode) 0 e) refl
 
 -- WINDOWS: what was handed out, and what is left
 module _ (kind : ℕ) (t : List ℕ) (rows : List Record) (found now : List ℕ) (n : ℕ) (others : List Record) (h : HandsOut kind t rows found now n others) where

@@ -2,25 +2,18 @@
 use mathlib.Core.Path.{_≡_, refl, sym, ap, _∙_, subst}
 use mathlib.Core.List.{List, [], _∷_, _++_, map, flatMap}
 use mathlib.Core.Option.{Option, none, some}
-use Prim.Native.Nat.{ℕ, suc, _+_, _-_, _/_, _≤_, _<_}
+use Prim.Native.Nat.{ℕ, _+_, _-_, _≤_, _<_}
 use native.Mathlib.Omega.{arith}
 use lib.ListN.{length, take, length-append}
 use lib.Dec.{leb}
-use borrow.Author.Tests.{le-leb, lt-leb, leb-true, leb-false, eq-eqb, ne-eqb}
-use lib.Dec.{eqb}
+use borrow.Author.Tests.{le-leb, lt-leb, leb-true, leb-false}
 use Rattle.format.specs.Basics.{andThen}
 use Rattle.format.specs.Records.{Record}
 use Rattle.format.specs.Words.{recordWords}
 use Rattle.format.proofs.ListLaws.{by-test}
-use Rattle.trim.specs.Span.{Spans}
-use Rattle.text_lines.proofs.LineLaws.{length-part}
-use Rattle.text_rows.specs.Rows.{rowIn, rowAt, symbolRow, linkerRow, labelRow}
-use Rattle.text_gather.specs.Keys.{lineAt, nameAt, addressAt}
 use Rattle.text_gather.specs.Order.{HandsOut}
-use Rattle.text_words.specs.Written.{wordsAt, EntriesOf}
-use Rattle.text_words.specs.declared.Entries.{Entries}
+use Rattle.text_words.specs.Written.{wordsAt}
 use Rattle.text_words.specs.Room.{roomFor, roomAfter}
-use Rattle.text_words.proofs.WordLaws.{relocation-length, label-length, entries-length, block-words}
 use Rattle.text_words.proofs.PutLaws.{window-fits, window-words, window-last, window-less}
 
 pub room-short : (n room : ℕ) → room < n → none ≡ roomFor n room
@@ -61,6 +54,13 @@ room-one p room o e = e ∙ go (roomFor (length p) room)
     go none = refl
     go (some left) = refl
 
+module _ (p : List ℕ) (room n : ℕ) (e : n ≡ length p) where
+  pub one-short : room < n → none ≡ roomAfter (p ∷ []) room
+  one-short h = room-one p room none (room-short (length p) room (omega (arith, e)))
+
+  pub one-left : n ≤ room → some (room - n) ≡ roomAfter (p ∷ []) room
+  one-left h = room-one p room (some (room - n)) (room-left (length p) room (room - n) (omega (arith, e)) (omega (arith, e)))
+
 -- THE LAW for who asks: what is left, and what there is to write, make up the room
 abbrev joined : List (List ℕ) → List ℕ
 joined ps = flatMap (λ p. p) ps
@@ -82,29 +82,6 @@ room-lacks (p ∷ ps) room e =
     (λ u. let k : none ≡ roomAfter ps (room - length p) = rw u at e in
     omega (arith, length-append p (joined ps), room-lacks ps (room - length p) k, leb-true (length p) room u))
     (λ u. omega (arith, length-append p (joined ps), leb-false (length p) room u))
-
--- ROWS by kind
-module _ (kind : ℕ) (t : List ℕ) (p start end : ℕ) (s : Spans t start end (nameAt kind t p)) where
-  name-length : length (nameAt kind t p) ≡ end - start
-  name-length = ap length (sym (s .same)) ∙ length-part start end t (s .ordered) (s .inside)
-
-  pub linker-words : kind ≡ 2 → length (wordsAt kind t p) ≡ 1 + (end - start + 2) / 3
-  unfolding wordsAt rowAt rowIn nameAt lineAt linkerRow
-  linker-words e =
-      let z : kind ≡ 0 → ⊥ = λ h. omega arith in
-      let o : kind ≡ 1 → ⊥ = λ h. omega arith in
-      rw (ne-eqb kind 0 z, ne-eqb kind 1 o, eq-eqb kind 2 e) (relocation-length _ ∙ ap (λ (n : ℕ). 1 + (n + 2) / 3) (rw (ne-eqb kind 1 o, eq-eqb kind 2 e) at name-length))
-
-  pub label-words : (kind ≡ 0 → ⊥) → (kind ≡ 2 → ⊥) → length (wordsAt kind t p) ≡ 4 + (end - start + 2) / 3
-  unfolding wordsAt rowAt rowIn nameAt lineAt symbolRow labelRow
-  label-words z w =
-      by-test (eqb kind 1)
-      (λ u. rw (ne-eqb kind 0 z, u) (label-length _ ∙ ap (λ (n : ℕ). 4 + (n + 2) / 3) (rw u at name-length)))
-      (λ u. rw (ne-eqb kind 0 z, u, ne-eqb kind 2 w) (label-length _ ∙ ap (λ (n : ℕ). 4 + (n + 2) / 3) (rw (u, ne-eqb kind 2 w) at name-length)))
-
-pub block-count : (kind : ℕ) (t : List ℕ) (p : ℕ) (e : Entries) → EntriesOf t p e → kind ≡ 0 → length (wordsAt kind t p) ≡ suc (e .count)
-block-count kind t p e w k =
-    ap (λ (j : ℕ). length (wordsAt j t p)) k ∙ ap length (block-words t p (addressAt 0 t p) _ refl (w .same)) ∙ ap suc (entries-length t (e .from) (e .count) (w .all))
 
 -- THE WALK over the windows
 pub record Rooms (kind : ℕ) (t : List ℕ) (rows all : List Record) (room left : ℕ) (win₀ win : List ℕ) (k : ℕ) : Type 0 where

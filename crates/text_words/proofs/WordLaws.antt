@@ -1,6 +1,6 @@
 -- The words of a row, part by part. Assumes nothing.
 use mathlib.Core.Path.{_≡_, refl, sym, ap, _∙_, subst}
-use mathlib.Core.Bool.{Bool, true, false, not, true≢false}
+use mathlib.Core.Bool.{true, false, not, true≢false}
 use mathlib.Core.List.{List, [], _∷_, map}
 use mathlib.Core.Option.{Option, none, some}
 use Prim.Native.Nat.{ℕ, zero, suc, _+_, _-_, _/_, _≤_, _<_}
@@ -8,6 +8,7 @@ use native.Mathlib.Omega.{arith}
 use lib.ListN.{length, set, length-append, length-drop, length-map}
 use lib.Dec.{eqb}
 use borrow.Author.Tests.{eq-eqb, ne-eqb}
+use Rattle.format.proofs.ListLaws.{by-test}
 use Rattle.format.specs.Basics.{andThen, isSome}
 use Rattle.format.specs.TextReader.{parseDecimal, maybeHex2u16}
 use Rattle.format.specs.Digits.{digitsOf}
@@ -20,10 +21,12 @@ use borrow.Rule.Slice.PartAt.{part-to-end}
 use Rattle.writing.proofs.Parts.{State, Emits, rest, begin, emit-one, room-one, has-room}
 use Rattle.text_lines.specs.Groups.{partsFrom, RowAt}
 use Rattle.text_lines.proofs.RowLaws.{rows-on}
+use Rattle.text_cells.proofs.NumberLaws.{number-small}
 use Rattle.text_blocks.specs.Blocks.{wordsIn}
-use Rattle.text_rows.specs.Rows.{orZero, orNone, firstLine, cellOf, countIn, blockRow, symbolRow, linkerRow, labelRow, rowIn, rowAt}
-use Rattle.text_gather.specs.Keys.{lineAt, addressAt, nameAt}
-use Rattle.text_words.specs.Written.{externalAt, indexAt, entryWord, entriesFrom, EntriesOf, wordsAt}
+use Rattle.text_rows.specs.Rows.{orZero, orNone, firstLine, countIn, blockRow, symbolRow, linkerRow, labelRow, rowIn, rowAt}
+use Rattle.text_gather.specs.Keys.{lineAt, cellAt, addressAt, keyCell}
+use Rattle.text_words.specs.declared.Entries.{Entries}
+use Rattle.text_words.specs.Written.{externalAt, indexAt, symbolWords, entryWord, entriesFrom, EntriesOf, wordsAt}
 
 -- LENGTHS
 pub relocation-length : (q : Relocation) → length (recordWords (relocation q)) ≡ 1 + (length (q .name) + 2) / 3
@@ -41,15 +44,6 @@ label-length l = omega (arith, number-length (l .start), length-append (numberWo
 -- what is left fits in the rest that is lent
 pub rest-room : (whole room left : List ℕ) (s : State ℕ) → Emits whole room left s → length left ≤ length (rest s)
 rest-room whole room left s f = omega (arith, has-room f, ap length (part-to-end (s .out) (s .at)), length-drop (s .at) (s .out))
-
--- CELLS
-pub external-is : (t : List ℕ) (p : ℕ) (o : Option ℕ) (bs : List ℕ) → o ≡ parseDecimal 256 bs → bs ≡ cellOf 2 1 (lineAt t p) → not (eqb (orZero o) 0) ≡ externalAt t p
-unfolding externalAt
-external-is t p o bs e f = ap (λ (x : Option ℕ). not (eqb (orZero x) 0)) (e ∙ ap (parseDecimal 256) f)
-
-pub index-is : (t : List ℕ) (p : ℕ) (o : Option ℕ) (bs : List ℕ) → o ≡ parseDecimal 18446744073709551616 bs → bs ≡ cellOf 1 1 (lineAt t p) → orZero o ≡ indexAt t p
-unfolding indexAt
-index-is t p o bs e f = ap orZero (e ∙ ap (parseDecimal 18446744073709551616) f)
 
 -- ENTRIES
 pub known-word : (v : ℕ) → 0x2001_0000 + v ≡ memoryWord (some v)
@@ -150,10 +144,17 @@ unfolding isSome
 not-some none h = refl
 not-some (some xs) h = absurd (true≢false h)
 
+few-read : (bs : List ℕ) → orZero (parseDecimal 65536 bs) < 65536
+few-read bs = go (parseDecimal 65536 bs) refl
+  where
+    go : (o : Option ℕ) → parseDecimal 65536 bs ≡ o → orZero o < 65536
+    go none e = omega arith
+    go (some v) e = number-small 10 65536 bs v e
+
 module _ (t : List ℕ) (p : ℕ) where
   pub entries-none : partsFrom t p .before ≡ [] → EntriesOf t p (record { from = p; count = 0 })
   unfolding wordsIn isSome blockRow
-  entries-none e = record { all = refl; same = sym (ap (λ (ls : List (List ℕ)). blockRow ls .words) e ∙ no-words (countIn [])) }
+  entries-none e = record { all = refl; few = omega arith; same = sym (ap (λ (ls : List (List ℕ)). blockRow ls .words) e ∙ no-words (countIn [])) }
 
   module _ (a e n : ℕ) (l : RowAt t p a e n) where
     pub entries-uncounted : partsFrom t n .before ≡ [] → EntriesOf t p (record { from = n; count = 0 })
@@ -161,6 +162,7 @@ module _ (t : List ℕ) (p : ℕ) where
     entries-uncounted z =
         record {
           all = refl;
+          few = omega arith;
           same = sym (ap (λ (ls : List (List ℕ)). blockRow ls .words) (rows-on t p a e n l ∙ ap (λ (ls : List (List ℕ)). part a e t ∷ ls) z) ∙ no-words (countIn []));
         }
 
@@ -172,40 +174,60 @@ module _ (t : List ℕ) (p : ℕ) where
           ∙ ap (λ (j : ℕ). entriesFrom t m j) (sym q)
 
       pub entries-all : isSome (wordsIn c (partsFrom t m .before)) ≡ true → EntriesOf t p (record { from = m; count = c })
-      entries-all h = record { all = h; same = sym words-are }
+      entries-all h = record { all = h; few = subst (λ (j : ℕ). j < 65536) (sym q) (few-read (part b f t)); same = sym words-are }
 
       pub entries-bad : isSome (wordsIn c (partsFrom t m .before)) ≡ false → EntriesOf t p (record { from = m; count = 0 })
       unfolding wordsIn isSome
-      entries-bad h = record { all = refl; same = sym (words-are ∙ not-some (wordsIn c (partsFrom t m .before)) h) }
+      entries-bad h = record { all = refl; few = omega arith; same = sym (words-are ∙ not-some (wordsIn c (partsFrom t m .before)) h) }
 
 -- ROWS by kind
 pub block-words : (t : List ℕ) (p a : ℕ) (ws : List (Option ℕ)) → a ≡ addressAt 0 t p → ws ≡ blockRow (partsFrom t p .before) .words
     → wordsAt 0 t p ≡ a ∷ map memoryWord ws
-unfolding wordsAt rowAt rowIn recordWords addressAt lineAt blockRow
+unfolding wordsAt rowAt rowIn recordWords addressAt cellAt lineAt blockRow
 block-words t p a ws e f =
     let w : word 0 (addressAt 0 t p) ≡ a = omega (arith, e) in
     ap (λ (x : ℕ). x ∷ map memoryWord (blockRow (partsFrom t p .before) .words)) w ∙ ap (λ (xs : List (Option ℕ)). a ∷ map memoryWord xs) (sym f)
+
+module _ (t : List ℕ) (p : ℕ) where
+  pub symbol-words : (a n start : ℕ) (bs : List ℕ) → a ≡ addressAt 2 t p → n ≡ orZero (parseDecimal 256 (cellAt 2 t p 1)) → bs ≡ cellAt 2 t p 2
+      → recordWords (label (record { name = bs; address = a; external = not (eqb n 0); start = start })) ≡ symbolWords t p start
+  unfolding symbolWords externalAt
+  symbol-words a n start bs e f g = rw (e, f, g) refl
 
 module _ (kind : ℕ) (t : List ℕ) (p : ℕ) where
   pub row-block : kind ≡ 0 → wordsAt 0 t p ≡ wordsAt kind t p
   row-block e = ap (λ (k : ℕ). wordsAt k t p) (sym e)
 
-  pub row-symbol : (a : ℕ) (x : Bool) (bs : List ℕ) → kind ≡ 1 → a ≡ addressAt kind t p → x ≡ externalAt t p → bs ≡ nameAt kind t p
-      → recordWords (label (record { name = bs; address = a; external = x; start = 0 })) ≡ wordsAt kind t p
-  unfolding wordsAt rowAt rowIn addressAt nameAt externalAt lineAt symbolRow
-  row-symbol a x bs k e f g =
-      let z : kind ≡ 0 → ⊥ = λ h. omega arith in
-      rw (e, f, g, ne-eqb kind 0 z, eq-eqb kind 1 k) refl
+  pub row-symbol : kind ≡ 1 → symbolWords t p 0 ≡ wordsAt kind t p
+  unfolding symbolWords wordsAt rowAt rowIn addressAt cellAt externalAt lineAt symbolRow
+  row-symbol k = let z : kind ≡ 0 → ⊥ = λ h. omega arith in rw (ne-eqb kind 0 z, eq-eqb kind 1 k) refl
 
-  pub row-linker : (a : ℕ) (bs : List ℕ) → kind ≡ 2 → a ≡ addressAt kind t p → bs ≡ nameAt kind t p
+  pub row-linker : (a : ℕ) (bs : List ℕ) → (kind ≡ 0 → ⊥) → (kind ≡ 1 → ⊥) → kind ≡ 2 → a ≡ addressAt 1 t p → bs ≡ cellAt 1 t p 1
       → recordWords (relocation (record { address = a; name = bs })) ≡ wordsAt kind t p
-  unfolding wordsAt rowAt rowIn addressAt nameAt lineAt linkerRow
-  row-linker a bs k e g =
+  unfolding wordsAt rowAt rowIn addressAt cellAt lineAt linkerRow
+  row-linker a bs z o k e g = rw (e, g, ne-eqb kind 0 z, ne-eqb kind 1 o, eq-eqb kind 2 k) refl
+
+  pub row-start : (i : ℕ) (bs : List ℕ) → (kind ≡ 0 → ⊥) → (kind ≡ 1 → ⊥) → (kind ≡ 2 → ⊥) → i ≡ indexAt t p → bs ≡ cellAt 1 t p 0
+      → recordWords (label (record { name = bs; address = 0; external = false; start = i })) ≡ wordsAt kind t p
+  unfolding wordsAt rowAt rowIn cellAt indexAt lineAt labelRow
+  row-start i bs z o w e g = rw (e, g, ne-eqb kind 0 z, ne-eqb kind 1 o, ne-eqb kind 2 w) refl
+
+  -- and their lengths
+  pub linker-words : (bs : List ℕ) → kind ≡ 2 → bs ≡ cellAt 1 t p 1 → 1 + (length bs + 2) / 3 ≡ length (wordsAt kind t p)
+  linker-words bs k g =
       let z : kind ≡ 0 → ⊥ = λ h. omega arith in
       let o : kind ≡ 1 → ⊥ = λ h. omega arith in
-      rw (e, g, ne-eqb kind 0 z, ne-eqb kind 1 o, eq-eqb kind 2 k) refl
+      sym (relocation-length (record { address = addressAt 1 t p; name = bs })) ∙ ap length (row-linker (addressAt 1 t p) bs z o k refl g)
 
-  pub row-start : (i : ℕ) (bs : List ℕ) → (kind ≡ 0 → ⊥) → (kind ≡ 1 → ⊥) → (kind ≡ 2 → ⊥) → i ≡ indexAt t p → bs ≡ nameAt kind t p
-      → recordWords (label (record { name = bs; address = 0; external = false; start = i })) ≡ wordsAt kind t p
-  unfolding wordsAt rowAt rowIn nameAt indexAt lineAt labelRow
-  row-start i bs z o w e g = rw (e, g, ne-eqb kind 0 z, ne-eqb kind 1 o, ne-eqb kind 2 w) refl
+  pub label-words : (bs : List ℕ) → (kind ≡ 0 → ⊥) → (kind ≡ 2 → ⊥) → bs ≡ keyCell kind t p → 4 + (length bs + 2) / 3 ≡ length (wordsAt kind t p)
+  unfolding keyCell wordsAt rowAt rowIn symbolRow labelRow lineAt cellAt
+  label-words bs z w g =
+      ap (λ (x : List ℕ). 4 + (length x + 2) / 3) g
+      ∙ by-test (eqb kind 1)
+      (λ u. rw (ne-eqb kind 0 z, u) (sym (label-length (symbolRow (lineAt t p)))))
+      (λ u. rw (ne-eqb kind 0 z, u, ne-eqb kind 2 w) (sym (label-length (labelRow (lineAt t p)))))
+
+pub block-count : (kind : ℕ) (t : List ℕ) (p : ℕ) (e : Entries) → EntriesOf t p e → kind ≡ 0 → 1 + e .count ≡ length (wordsAt kind t p)
+block-count kind t p e w k =
+    let l : length (wordsAt 0 t p) ≡ suc (e .count) = ap length (block-words t p (addressAt 0 t p) _ refl (w .same)) ∙ ap suc (entries-length t (e .from) (e .count) (w .all)) in
+    omega (arith, l, ap (λ (j : ℕ). length (wordsAt j t p)) k)

@@ -3,26 +3,31 @@ use mathlib.Core.Path.{_≡_}
 use mathlib.Core.Bool.{Bool, true, not}
 use mathlib.Core.List.{List, [], _∷_, _++_}
 use mathlib.Core.Option.{Option, none, some}
-use Prim.Native.Nat.{ℕ, _+_}
+use Prim.Native.Nat.{ℕ, _+_, _<_}
 use lib.ListN.{take, drop}
 use lib.Dec.{eqb}
 use Rattle.format.specs.Basics.{isSome}
 use Rattle.format.specs.TextReader.{parseDecimal}
+use Rattle.format.specs.Records.{label}
 use Rattle.format.specs.Words.{memoryWord, recordWords}
 use Rattle.writing.specs.Written.{filled, written}
 use Rattle.text_lines.specs.Groups.{partsFrom}
 use Rattle.text_blocks.specs.Blocks.{wordsIn}
-use Rattle.text_rows.specs.Rows.{orZero, orNone, cellOf, rowAt, blockRow}
-use Rattle.text_gather.specs.Keys.{lineAt}
+use Rattle.text_rows.specs.Rows.{orZero, orNone, rowAt, blockRow}
+use Rattle.text_gather.specs.Keys.{cellAt, addressAt}
 use Rattle.text_words.specs.declared.Entries.{Entries}
 
 -- the EXT cell of a row of .SYMBOL: "nonzero is external"
 unfoldable pub externalAt : List ℕ → ℕ → Bool
-externalAt t p = not (eqb (orZero (parseDecimal 256 (cellOf 2 1 (lineAt t p)))) 0)
+externalAt t p = not (eqb (orZero (parseDecimal 256 (cellAt 2 t p 1))) 0)
 
 -- the INDEX cell of a row of the label table
 unfoldable pub indexAt : List ℕ → ℕ → ℕ
-indexAt t p = orZero (parseDecimal 18446744073709551616 (cellOf 1 1 (lineAt t p)))
+indexAt t p = orZero (parseDecimal 18446744073709551616 (cellAt 1 t p 1))
+
+-- the words of the label of a row of .SYMBOL, with a source start
+unfoldable pub symbolWords : List ℕ → ℕ → ℕ → List ℕ
+symbolWords t p start = recordWords (label (record { name = cellAt 2 t p 2; address = addressAt 2 t p; external = externalAt t p; start = start }))
 
 abbrev pub entryWord : Option (Option ℕ) → ℕ  -- the word of an entry; one that doesn't read is not initialised
 entryWord none = memoryWord none
@@ -35,6 +40,7 @@ entriesFrom t at n = orNone (wordsIn n (partsFrom t at .before))
 -- where a block's entries stand, and how many
 pub record EntriesOf (t : List ℕ) (p : ℕ) (e : Entries) : Type 0 where
   pub all : isSome (wordsIn (e .count) (partsFrom t (e .from) .before)) ≡ true
+  pub few : e .count < 65536
   pub same : entriesFrom t (e .from) (e .count) ≡ blockRow (partsFrom t p .before) .words
 
 -- the words of the row at a place

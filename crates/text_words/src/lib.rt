@@ -9,7 +9,7 @@ use text_cells::maybe_hex2u16;
 use text_gather::Sorting;
 use text_gather::address_at;
 use text_gather::cell_at;
-use text_gather::name_at;
+use text_gather::key_at;
 use text_lines::Line;
 use text_lines::Passed;
 use text_lines::next_row;
@@ -26,16 +26,17 @@ ghost use mathlib.Core.List.{map};
 ghost use Prim.Native.Nat.{_+_, _*_, _^_, _≤_, _<_};
 ghost use lib.ListN.{length, take};
 ghost use Rattle.format.specs.Basics.{isSome};
-ghost use Rattle.format.specs.TextReader.{maybeHex2u16};
+ghost use Rattle.format.specs.TextReader.{parseDecimal, maybeHex2u16};
 ghost use Rattle.format.specs.Records.{label, relocation};
 ghost use Rattle.format.specs.Words.{word, flagBit, memoryWord, recordWords};
 ghost use Rattle.writing.specs.Written.{Put};
 ghost use Rattle.text_lines.specs.Groups.{partsFrom};
 ghost use Rattle.text_blocks.specs.Blocks.{wordsIn};
-ghost use Rattle.text_words.specs.Written.{externalAt, indexAt, entryWord, entriesFrom, EntriesOf, wordsAt, PutEach};
+ghost use Rattle.text_words.specs.Written.{symbolWords, entryWord, entriesFrom, EntriesOf, wordsAt, PutEach};
 ghost use Rattle.text_words.specs.Room.{roomOf, roomFor, roomAfter};
 ghost use Rattle.format.specs.Sorted.{sorted};
-ghost use Rattle.text_rows.specs.Rows.{rowKey, rowsFrom, rowsOf};
+ghost use Rattle.text_rows.specs.Rows.{orZero, rowKey, rowsFrom, rowsOf};
+ghost use Rattle.text_gather.specs.Keys.{cellAt};
 ghost use Rattle.text_gather.specs.Order.{left};
 
 // A relocation: its address and its name.
@@ -78,30 +79,27 @@ pub fn put_label(out: &mut [u32], address: u16, external: bool, start: u64, name
     at
 }
 
-// Whether the row of .SYMBOL at a place says that its label is external.
-pub fn external_at(t: &[u8], p: usize) -> bool
-    ensures { λ r. ⌜ r ≡ externalAt (now (t .entry)) p ⌝ }
+// The number in the second cell of the row at a place, which is cut at k dividers; 0 where it doesn't read.
+pub fn number_at(t: &[u8], k: usize, p: usize, most: u64) -> u64
+    ensures { λ r. ⌜ r ≡ orZero (parseDecimal (most + 1) (cellAt k (now (t .entry)) p 1)) ⌝ }
 {
-    let c = cell_at(t, p, 2, 1);
-    let start = c.start;
-    let end = c.end;
-    match decimal(&t[start..end], 255) {
-        Number::Value(n) => n != 0,
-        Number::Nothing => false,
-    }
-}
-
-// The source start that the row of the label table at a place says.
-pub fn index_at(t: &[u8], p: usize) -> u64
-    ensures { λ r. ⌜ r ≡ indexAt (now (t .entry)) p ⌝ }
-{
-    let c = cell_at(t, p, 1, 1);
-    let start = c.start;
-    let end = c.end;
-    match decimal(&t[start..end], 0xFFFF_FFFF_FFFF_FFFF) {
+    match decimal(cell_at(t, k, p, 1), most) {
         Number::Value(n) => n,
         Number::Nothing => 0,
     }
+}
+
+// The label of the row of .SYMBOL at a place, with a source start.
+pub fn put_symbol(out: &mut [u32], t: &[u8], p: usize, start: u64) -> usize
+    ensures { λ r. ⌜ Put (symbolWords (now (t .entry)) p start) (now (out .entry)) r (now (out .exit)) ⌝ }
+{
+    put_label(
+        out,
+        address_at(t, 2, p),
+        number_at(t, 2, p, 255) != 0,
+        start,
+        cell_at(t, 2, p, 2),
+    )
 }
 
 // The word of an entry.
@@ -207,22 +205,14 @@ pub fn put_row(out: &mut [u32], t: &[u8], kind: u8, p: usize) -> usize
     if kind == 0 {
         return put_block(out, t, p);
     }
-    let c = name_at(t, kind, p);
-    let start = c.start;
-    let end = c.end;
     if kind == 1 {
-        return put_label(
-            out,
-            address_at(t, kind, p),
-            external_at(t, p),
-            0,
-            &t[start..end],
-        );
+        return put_symbol(out, t, p, 0);
     }
     if kind == 2 {
-        return put_relocation(out, address_at(t, kind, p), &t[start..end]);
+        return put_relocation(out, address_at(t, 1, p), cell_at(t, 1, p, 1));
     }
-    put_label(out, 0, false, index_at(t, p), &t[start..end])
+    let start = number_at(t, 1, p, 0xFFFF_FFFF_FFFF_FFFF);
+    put_label(out, 0, false, start, cell_at(t, 1, p, 0))
 }
 
 // The rows at the first n places of a window.
@@ -264,13 +254,11 @@ fn put_windows(out: &mut [u32], t: &[u8], first: Sorting, win: &mut [usize]) -> 
     let mut at = 0;
     let mut sorting = first;
     loop {
-        let w = sorting.next_window(t, win);
-        let n = w.count;
-        at += put_window(&mut out[at..], t, kind, win, n);
-        if n < win.len() {
+        sorting = sorting.next_window(t, win);
+        at += put_window(&mut out[at..], t, kind, win, sorting.count);
+        if sorting.count < win.len() {
             return at;
         }
-        sorting = w.sorting;
     }
 }
 
@@ -287,7 +275,7 @@ fn put_ordered(out: &mut [u32], t: &[u8], kind: u8) -> usize
     ensures { λ r. ⌜ PutEach (map recordWords (sorted rowKey (rowsOf kind (now (t .entry))))) (now (out .entry)) r (now (out .exit)) ⌝ }
 {
     let sorting = Sorting::new(t, kind);
-    if sorting.rising {
+    if sorting.mode == 0 {
         return put_straight(out, t, sorting.kind, sorting.at);
     }
     put_sorted(out, t, sorting)
@@ -322,26 +310,20 @@ pub fn take_room(room: usize, n: usize) -> Room
     Room::Left(room - n)
 }
 
-// The room after the words of the row of a kind at a place.
-fn row_room(t: &[u8], kind: u8, p: usize, room: usize) -> Room
-    ensures { λ r. ⌜ roomOf r ≡ roomFor (length (wordsAt kind (now (t .entry)) p)) room ⌝ }
+// How many words the row of a kind at a place has.
+pub fn row_words(t: &[u8], kind: u8, p: usize) -> usize
+    ensures { λ r. ⌜ r ≡ length (wordsAt kind (now (t .entry)) p) ⌝ }
 {
     if kind == 0 {
         let e = entries_at(t, p);
-        let n = e.count;
-        if room <= n {
-            return Room::Short;
-        }
-        return Room::Left(room - n - 1);
+        return 1 + e.count;
     }
-    let c = name_at(t, kind, p);
-    let start = c.start;
-    let end = c.end;
-    let n = (end - start + 2) / 3;
     if kind == 2 {
-        return take_room(room, 1 + n);
+        let name = cell_at(t, 1, p, 1);
+        return 1 + (name.len() + 2) / 3;
     }
-    take_room(room, 4 + n)
+    let name = key_at(t, kind, p);
+    4 + (name.len() + 2) / 3
 }
 
 // The room after the rows at the first n places of a window.
@@ -352,11 +334,11 @@ fn window_room(t: &[u8], kind: u8, win: &[usize], n: usize, room: usize) -> Room
     let mut left = room;
     let mut i = 0;
     while i < n {
-        let p = win[i];
-        let Room::Left(m) = row_room(t, kind, p, left) else {
+        let words = row_words(t, kind, win[i]);
+        if left < words {
             return Room::Short;
-        };
-        left = m;
+        }
+        left -= words;
         i += 1;
     }
     Room::Left(left)
@@ -372,10 +354,11 @@ fn straight_room(t: &[u8], kind: u8, from: usize, room: usize) -> Room
         let Found::At(p, _, _, next) = next_place(t, kind, row) else {
             return Room::Left(left);
         };
-        let Room::Left(m) = row_room(t, kind, p, left) else {
+        let words = row_words(t, kind, p);
+        if left < words {
             return Room::Short;
-        };
-        left = m;
+        }
+        left -= words;
         row = next;
     }
 }
@@ -389,16 +372,14 @@ fn windows_room(t: &[u8], first: Sorting, win: &mut [usize], room: usize) -> Roo
     let mut left = room;
     let mut sorting = first;
     loop {
-        let w = sorting.next_window(t, win);
-        let n = w.count;
-        let Room::Left(m) = window_room(t, kind, win, n, left) else {
+        sorting = sorting.next_window(t, win);
+        let Room::Left(m) = window_room(t, kind, win, sorting.count, left) else {
             return Room::Short;
         };
-        if n < win.len() {
+        if sorting.count < win.len() {
             return Room::Left(m);
         }
         left = m;
-        sorting = w.sorting;
     }
 }
 
@@ -410,23 +391,13 @@ fn sorted_room(t: &[u8], sorting: Sorting, room: usize) -> Room
     windows_room(t, sorting, &mut win, room)
 }
 
-// The room after the rows of a kind in the order of their keys.
-fn ordered_room(t: &[u8], kind: u8, room: usize) -> Room
-    ensures { λ r. ⌜ roomOf r ≡ roomAfter (map recordWords (sorted rowKey (rowsOf kind (now (t .entry))))) room ⌝ }
-{
-    let sorting = Sorting::new(t, kind);
-    if sorting.rising {
-        return straight_room(t, sorting.kind, sorting.at, room);
-    }
-    sorted_room(t, sorting, room)
-}
-
-// The room after the rows of a kind, a later row with the same key replacing. Many files have none of a kind.
+// The room after the rows of a kind, a later row with the same key replacing.
 pub fn rows_room(t: &[u8], kind: u8, room: usize) -> Room
     ensures { λ r. ⌜ roomOf r ≡ roomAfter (map recordWords (sorted rowKey (rowsOf kind (now (t .entry))))) room ⌝ }
 {
-    match next_place(t, kind, first_place(t)) {
-        Found::At(_, _, _, _) => ordered_room(t, kind, room),
-        Found::Nothing => Room::Left(room),
+    let sorting = Sorting::new(t, kind);
+    if sorting.mode == 0 {
+        return straight_room(t, sorting.kind, sorting.at, room);
     }
+    sorted_room(t, sorting, room)
 }

@@ -8,7 +8,7 @@ returns c = refill-stays _ _ _ _ (c .before .before .before .before .pre .1) (c 
 
 returns-2 : tie.Need-returns-2
 returns-2 c =
-    let w = c .before .before .before in
+    let w = c .before .before in
     let e = w .before .before .before in
     let s = e .before .before .before .before in
     refill-next _ _ _ _ (s .args .s) _ _ (s .pre .1) (e .if1 .left) (s .pre .0) (w .next-window .ensures .1) (w .next-window .ensures .0)

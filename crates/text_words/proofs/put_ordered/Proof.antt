@@ -14,7 +14,7 @@ returns : tie.Need-returns
 returns c =
     let p = c .before .before in
     let i = p .before .before in
-    let n = i .before in
+    let n = i .before .before in
     let a = n .before .before .before .args in
     p .put-straight .ensures
     ∙ ap (λ (rs : List Record). putEach (map recordWords rs) 0 (now (a .out))) (straight-rows (now (a .t)) (n .new .result) (i .if1 .taken) ∙ n .new .ensures .0)
@@ -22,7 +22,7 @@ returns c =
 returns-2 : tie.Need-returns-2
 returns-2 c =
     let p = c .before .before in
-    let n = p .before .before .before in
+    let n = p .before .before .before .before in
     let a = n .before .before .before .args in
     p .put-sorted .ensures ∙ ap (λ (rs : List Record). putEach (map recordWords rs) 0 (now (a .out))) (n .new .ensures .0)
 

@@ -40,7 +40,7 @@ puts : (c : tie.After-put-window Inv-loop μ-loop) →
     let w = c .before .before .before .before .before in
     let l = w .before .before .loop in
     let a = w .before .before .before .before .before .before .args in
-    Puts (map recordWords (left (now (a .t)) (w .next-window .result .sorting))) (map recordWords (left (now (a .t)) (a .first))) (now (a .out))
+    Puts (map recordWords (left (now (a .t)) (w .next-window .result))) (map recordWords (left (now (a .t)) (a .first))) (now (a .out))
     (putMid (l .at) (length (l .out) - l .at) (l .out) (c .put-window .last .0)) (l .at + c .put-window .result)
 puts c =
     let w = c .before .before .before .before .before in
@@ -51,16 +51,16 @@ add-at : tie.Need-add-at Inv-loop μ-loop
 add-at c = let q = puts (c .before .before) in record { fits = omega (arith, q .inside, q .long) }
 
 same-length : tie.Need-same-length Inv-loop μ-loop
-same-length c = puts (c .before .before .before) .long
+same-length c = puts (c .before .before .before .before) .long
 
 same-length-2 : tie.Need-same-length-2 Inv-loop μ-loop
 same-length-2 c =
-    let w = c .before .before .before .before .before .before .before .before in
+    let w = c .before .before .before .before .before .before .before .before .before in
     w .next-window .kept .1 .1 .0 ∙ w .before .before .loop .inv .window
 
 returns : tie.Need-returns Inv-loop μ-loop
 returns c =
-    let d = c .before .before .before in
+    let d = c .before .before .before .before in
     let w = d .before .before .before .before .before in
     let l = w .before .before .loop in
     walk-end _ _ _ _ _ _ _ _ _ _ _ _ _ _ _ (l .inv) (w .next-window .ensures .0) (w .next-window .kept .1 .1 .0) (d .put-window .ensures) (c .if1 .taken)
@@ -71,7 +71,7 @@ loop-less c =
     let w = d .before .before .before .before .before in
     let l = w .before .before .loop in
     let s = w .before .before .before .before .before .before in
-    walk-less _ _ _ _ _ _ (l .out) _ _ _ (l .out) (l .at) _ _ 0 (l .inv) (w .next-window .ensures .0) (w .next-window .kept .1 .1 .0) (c .before .if1 .left) (s .pre)
+    walk-less _ _ _ _ _ _ (l .out) _ _ _ (l .out) (l .at) _ _ 0 (l .inv) (w .next-window .ensures .0) (w .next-window .kept .1 .1 .0) (c .if1 .left) (s .pre)
 
 loop-again : tie.Need-loop-again Inv-loop μ-loop
 loop-again c =

@@ -36,12 +36,12 @@ returns c =
 
 same-length-2 : tie.Need-same-length-2 Inv-loop μ-loop
 same-length-2 c =
-    let w = c .before .before .before .before .before .before .before .before in
+    let w = c .before .before .before .before .before .before .before .before .before in
     w .next-window .kept .1 .1 .0 ∙ w .before .before .loop .inv .window
 
 returns-2 : tie.Need-returns-2 Inv-loop μ-loop
 returns-2 c =
-    let d = c .before .before in
+    let d = c .before .before .before in
     let r = d .before .before in
     let w = r .before .before .before .before in
     let l = w .before .before .loop in
@@ -53,7 +53,7 @@ loop-less c =
     let w = r .before .before .before .before in
     let l = w .before .before .loop in
     let s = w .before .before .before .before .before in
-    rooms-less _ _ _ _ _ _ _ _ _ _ _ _ (l .inv) (w .next-window .ensures .0) (w .next-window .kept .1 .1 .0) (c .before .if1 .left) (s .pre)
+    rooms-less _ _ _ _ _ _ _ _ _ _ _ _ (l .inv) (w .next-window .ensures .0) (w .next-window .kept .1 .1 .0) (c .if1 .left) (s .pre)
 
 loop-again : tie.Need-loop-again Inv-loop μ-loop
 loop-again c =
