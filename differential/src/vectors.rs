@@ -119,6 +119,29 @@ fn accents() -> Parts {
     p
 }
 
+/// Groups of texts, each of a sentence of document 01 that cases at random seldom show: `.TEXT` lines aren't trimmed, and a count is below
+/// 2^16; EXT is below 2^8, INDEX and LINE below 2^64; a table without lines is empty; relocations alone are dropped.
+const SENTENCES: [&str; 18] = [
+    ".TEXT\n3000\n0\n",
+    ".TEXT\n 3000\n0\n",
+    ".TEXT\n3000 \n0\n",
+    ".TEXT\n3000\n0 \n.SYMBOL\n",
+    ".TEXT\n3000\n1\n 1234\n",
+    ".TEXT\n3000\n65536\n",
+    ".SYMBOL\nADDR | EXT | LABEL\n3000 | 255 | A\n",
+    ".SYMBOL\nADDR | EXT | LABEL\n3000 | 256 | A\n",
+    ".DEBUG\nLABEL | INDEX\nA | 18446744073709551615\n=\n=\n",
+    ".DEBUG\nLABEL | INDEX\nA | 18446744073709551616\n=\n=\n",
+    ".DEBUG\n=\nLINE | ADDR | SOURCE\n00000000000000000000000000000000 | ????\n=\n",
+    ".DEBUG\n=\nLINE | ADDR | SOURCE\n18446744073709551616 | ????\n=\n",
+    ".SYMBOL\n.LINKER_INFO\n.DEBUG\n=\n=\n",
+    ".DEBUG\n",
+    ".LINKER_INFO\nADDR | LABEL\n3000 | A\n",
+    ".LINKER_INFO\nADDR | LABEL\n3000 | A\n.DEBUG\n=\n=\n",
+    ".LINKER_INFO\nADDR | LABEL\n3000 | A\n.SYMBOL\nADDR | EXT | LABEL\n3000 | 0 | A\n",
+    ".LINKER_INFO\nADDR | LABEL\n3000 | A\n.DEBUG\n=\nLINE | ADDR | SOURCE\n0 | ????\n=\n",
+];
+
 /// The list of files of one form; the same for every run.
 fn files(read: (char, fn(&mut Prng) -> Vec<u8>, fn(&[u8]) -> Answer<Vec<u32>>), write: (char, fn(&Object) -> Answer<Vec<u8>>)) {
     let mut r = Prng::new(7);
@@ -146,4 +169,11 @@ pub fn binary() {
 
 pub fn text() {
     files(('T', gen::text::case, reference::read_text), ('t', Object::write_text));
+    let mut r = Prng::new(8);
+    let mut sentences = Kept::default();
+    for groups in SENTENCES {
+        let file = format!("LC-3 OBJ FILE\n{groups}").into_bytes();
+        sentences.fills(&mut r, 'T', (&file, bytes), &reference::read_text(&file), words);
+    }
+    sentences.print();
 }

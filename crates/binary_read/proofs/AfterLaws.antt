@@ -1,102 +1,28 @@
 -- What a binary file gives after its header, by the answers to the questions. Assumes nothing.
-use mathlib.Core.Path.{_≡_, refl, sym, ap, subst, _∙_}
+use mathlib.Core.Path.{_≡_, refl, sym, ap, _∙_}
 use mathlib.Core.Bool.{Bool, true, false, not, _||_}
 use mathlib.Core.List.{List, [], _∷_, _++_, map, flatMap, append-assoc}
-use Prim.Native.Nat.{ℕ, zero, suc, _+_, _*_, _<_}
-use native.Mathlib.Omega.{arith}
+use Prim.Native.Nat.{ℕ}
 use lib.ListN.{drop}
 use borrow.Author.Tests.{ne-eqb}
-use Rattle.format.specs.Basics.{Outcome, refused, given, _>>=_, ask, if_then_else_, isEmpty, isSome}
+use Rattle.format.specs.Basics.{refused, given, if_then_else_, isEmpty, isSome}
 use Rattle.format.specs.Tokens.{tokens}
-use Rattle.format.specs.Utf8.{isUtf8}
 use Rattle.format.specs.Sorted.{upsert, upsertAll, sorted}
-use Rattle.format.specs.ObjectFile.{ObjectFile, apart, strictlyRise}
+use Rattle.format.specs.ObjectFile.{ObjectFile, apart}
 use Rattle.format.specs.Records.{Record, block, label, lineBlock, source, relocation, recordsOf}
 use Rattle.format.specs.Records.{sourceRecords}
 use Rattle.format.specs.Records.{askAll, concluded, dropStrayRelocations, withRelocations}
 use Rattle.format.specs.Words.{recordWords, wordsOf}
-use Rattle.format.specs.Binary.{bytesAt, numberAt, hasBytes, addressesFrom, recordAt}
-use Rattle.format.specs.Binary.{blockFrom, labelFrom, linesFrom, sourceFrom, relocationFrom}
+use Rattle.format.specs.Binary.{recordAt}
 use Rattle.format.specs.Calls.{refusalOf}
 use Rattle.format.proofs.ListLaws.{by-test, flatMap-append, flatMap-map}
+use Rattle.format.proofs.Numbered.{given-by, refused-by, records-numbered}
 use Rattle.gather.specs.Places.{placesOf, keyAt}
 use Rattle.gather.proofs.WindowLaws.{by-order, upsert-below, upsert-same, upsert-above}
-use Rattle.binary_scan.proofs.ScanLaws.{unknown-record}
 use Rattle.binary_words.specs.RecordAt.{blockAt, labelAt, lineBlockAt, relocationAt, inOrder, sourceOf, objectAt, wordsAt, partWords}
 use Rattle.binary_words.proofs.PlacesRead.{gathered-object}
 use Rattle.binary_read.specs.AfterHeader.{afterHeader, answerOf}
 use Rattle.binary_sizes.specs.ObjectWords.{sourceWords, keepsRelocations, objectWords}
-
--- A REFUSAL HAS A NUMBER
-abbrev pub Numbered : {A : Type 0} → Outcome A → Type 0
-Numbered (refused n) = 0 < n
-Numbered (given a) = Unit {0}
-
-numbered-bind : {A B : Type 0} (o : Outcome A) (f : A → Outcome B) → Numbered o → ((a : A) → Numbered (f a)) → Numbered (o >>= f)
-numbered-bind (refused n) f h k = h
-numbered-bind (given a) f h k = k a
-
-numbered-ask : {B : Type 0} (n : ℕ) (t : Bool) (o : Outcome B) → 0 < n → Numbered o → Numbered (ask n t >>= λ _. o)
-numbered-ask n true o h k = k
-numbered-ask n false o h k = h
-
-module _ (bs : List ℕ) where
-  numbered-0 : Numbered (blockFrom bs)
-  unfolding blockFrom
-  numbered-0 = numbered-ask 12 (hasBytes 4 bs) _ (omega arith) (numbered-ask 12 (hasBytes (4 + 3 * numberAt 2 2 bs) bs) _ (omega arith) tt)
-
-  numbered-1 : Numbered (labelFrom bs)
-  unfolding labelFrom
-  numbered-1 =
-      numbered-ask 12 (hasBytes 19 bs) _ (omega arith) (numbered-ask 12 (hasBytes (19 + numberAt 11 8 bs) bs) _ (omega arith)
-      (numbered-ask 13 (isUtf8 (bytesAt 19 (numberAt 11 8 bs) bs)) _ (omega arith) tt))
-
-  numbered-2 : Numbered (linesFrom bs)
-  unfolding linesFrom
-  numbered-2 =
-      numbered-ask 12 (hasBytes 10 bs) _ (omega arith) (numbered-ask 12 (hasBytes (10 + 2 * numberAt 8 2 bs) bs) _ (omega arith)
-      (numbered-ask 14 (strictlyRise (addressesFrom (bytesAt 10 (2 * numberAt 8 2 bs) bs))) _ (omega arith) tt))
-
-  numbered-3 : Numbered (sourceFrom bs)
-  unfolding sourceFrom
-  numbered-3 =
-      numbered-ask 12 (hasBytes 8 bs) _ (omega arith) (numbered-ask 12 (hasBytes (8 + numberAt 0 8 bs) bs) _ (omega arith)
-      (numbered-ask 13 (isUtf8 (bytesAt 8 (numberAt 0 8 bs) bs)) _ (omega arith) tt))
-
-  numbered-4 : Numbered (relocationFrom bs)
-  unfolding relocationFrom
-  numbered-4 =
-      numbered-ask 12 (hasBytes 10 bs) _ (omega arith) (numbered-ask 12 (hasBytes (10 + numberAt 2 8 bs) bs) _ (omega arith)
-      (numbered-ask 13 (isUtf8 (bytesAt 10 (numberAt 2 8 bs) bs)) _ (omega arith) tt))
-
-  numbered-record : (k : ℕ) → Numbered (recordAt (k ∷ bs))
-  unfolding recordAt
-  numbered-record zero = numbered-0
-  numbered-record (suc zero) = numbered-1
-  numbered-record (suc (suc zero)) = numbered-2
-  numbered-record (suc (suc (suc zero))) = numbered-3
-  numbered-record (suc (suc (suc (suc zero)))) = numbered-4
-  numbered-record (suc (suc (suc (suc (suc k))))) =
-      let j = suc (suc (suc (suc (suc k)))) in
-      let h : 0 < 11 = omega arith in
-      subst (λ (o : Outcome (Record × ℕ)). Numbered o) (sym (unknown-record bs j (omega arith))) h
-
-pub numbered-tokens : (k : ℕ) (xs : List ℕ) → Numbered (tokens recordAt k xs)
-unfolding tokens
-numbered-tokens k [] = tt
-numbered-tokens (suc k) (a ∷ xs) = numbered-tokens k xs
-numbered-tokens zero (a ∷ xs) =
-    numbered-bind (recordAt (a ∷ xs)) _ (numbered-record xs a) λ t.
-    numbered-bind (tokens recordAt (t .1) xs) _ (numbered-tokens (t .1) xs) λ ts. tt
-
--- refused where the number is not 0, else given
-refused-as : {A : Type 0} (o : Outcome A) (n : ℕ) → n ≡ refusalOf o → (n ≡ 0 → ⊥) → o ≡ refused n
-refused-as (refused m) n e h = ap refused (sym e)
-refused-as (given a) n e h = absurd (h e)
-
-given-as : {A : Type 0} (o : Outcome A) → 0 ≡ refusalOf o → Numbered o → (a : A) × (o ≡ given a)
-given-as (refused m) e h = absurd (let z : ⊥ = omega arith in z)
-given-as (given a) e h = (a, refl)
 
 -- THE WORDS, part by part
 parts-words : (f : Record → List ℕ) (a b c d e : List Record) → flatMap f (a ++ b ++ c ++ d ++ e) ≡ flatMap f a
@@ -200,18 +126,18 @@ module _ (s : List ℕ) where
 module _ (s : List ℕ) (n : ℕ) (e : n ≡ refusalOf (tokens recordAt 0 (drop 7 s))) where
   pub after-refused : (n ≡ 0 → ⊥) → afterHeader s ≡ refused n
   unfolding afterHeader
-  after-refused h = rw (refused-as (tokens recordAt 0 (drop 7 s)) n e h) refl
+  after-refused h = rw (refused-by (tokens recordAt 0 (drop 7 s)) n (sym e) h) refl
 
   pub after-apart : n ≡ 0 → apart (objectAt s .lineBlocks) ≡ false → afterHeader s ≡ refused 15
   unfolding afterHeader concluded askAll
   after-apart z t =
-      let g = given-as (tokens recordAt 0 (drop 7 s)) (sym z ∙ e) (numbered-tokens 0 (drop 7 s)) in
+      let g = given-by (tokens recordAt 0 (drop 7 s)) (records-numbered 0 (drop 7 s)) (sym e ∙ z) in
       rw (g .1, gathered-object s (g .0) (g .1), t) refl
 
   pub after-given : n ≡ 0 → apart (objectAt s .lineBlocks) ≡ true → afterHeader s ≡ given (objectWords s)
   unfolding afterHeader concluded askAll
   after-given z t =
-      let g = given-as (tokens recordAt 0 (drop 7 s)) (sym z ∙ e) (numbered-tokens 0 (drop 7 s)) in
+      let g = given-by (tokens recordAt 0 (drop 7 s)) (records-numbered 0 (drop 7 s)) (sym e ∙ z) in
       rw (g .1, gathered-object s (g .0) (g .1), t) (ap given (kept-words s))
 
 -- what the number of a refusal says

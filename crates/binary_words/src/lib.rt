@@ -88,16 +88,31 @@ fn windows_length(s: &[u8], kind: u8, win: &mut [usize]) -> usize
     }
 }
 
-// How many words the records of a kind have. Labels, of which a file has many in any order, go by larger windows.
+// How many words the records of a kind have, by windows of 4,096 places.
+fn wide_length(s: &[u8], kind: u8) -> usize
+    ensures { λ r. ⌜ r ≡ length (partWords kind (now (s .entry))) ⌝ }
+{
+    let mut win = [0usize; 4096];
+    windows_length(s, kind, &mut win)
+}
+
+// The same, by windows of 1,024.
+fn narrow_length(s: &[u8], kind: u8) -> usize
+    ensures { λ r. ⌜ r ≡ length (partWords kind (now (s .entry))) ⌝ }
+{
+    let mut win = [0usize; 1024];
+    windows_length(s, kind, &mut win)
+}
+
+// How many words the records of a kind have. Labels, of which a file has many in any order, go by larger windows. The two arrays are of two
+// functions: those of one would both be on the stack.
 pub fn part_length(s: &[u8], kind: u8) -> usize
     ensures { λ r. ⌜ r ≡ length (partWords kind (now (s .entry))) ⌝ }
 {
     if kind == 1 {
-        let mut names = [0usize; 4096];
-        return windows_length(s, kind, &mut names);
+        return wide_length(s, kind);
     }
-    let mut win = [0usize; 1024];
-    windows_length(s, kind, &mut win)
+    narrow_length(s, kind)
 }
 
 // How many words the records of a kind have as they come, those that later ones replace too.

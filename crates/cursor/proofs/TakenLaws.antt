@@ -1,29 +1,18 @@
 -- The two cases of taking n bytes at a place, and what a caller learns of each. Assumes nothing.
-use mathlib.Core.Path.{_≡_, refl, sym, ap, _∙_}
+use mathlib.Core.Path.{_≡_, refl, ap, _∙_}
 use mathlib.Core.Bool.{Bool, true, false}
 use mathlib.Core.List.{List}
 use Prim.Native.Nat.{ℕ, _+_, _-_, _≤_, _<_}
 use native.Mathlib.Nat.{add-sub-cancel-left}
 use native.Mathlib.Omega.{arith}
-use lib.ListN.{length, take, drop, getD, length-drop}
-use lib.Seq.{drop-cons, drop-drop}
+use lib.ListN.{length, take, drop, getD}
+use lib.Seq.{drop-cons}
 use borrow.Author.Tests.{le-leb, lt-leb, leb-true, leb-false}
 use Rattle.format.specs.Basics.{if_then_else_}
 use Rattle.format.specs.Digits.{valueOf}
-use Rattle.format.specs.Binary.{numberAt, bytesAt, hasBytes}
+use Rattle.format.specs.Binary.{numberAt}
 use Rattle.format.proofs.ListLaws.{by-test}
-use Rattle.cursor.specs.Taken.{TakenNumber, TakenBytes, aNumber, noNumber, someBytes, noBytes, takeNumber, takeBytes}
-
--- at a place of the input, the bytes there are those of the rest
-pub has-rest : (n : ℕ) (s : List ℕ) (at : ℕ) → at ≤ length s → hasBytes (at + n) s ≡ hasBytes n (drop at s)
-has-rest n s at h =
-    by-test (hasBytes (at + n) s)
-    (λ t. let q = leb-true (at + n) (length s) t in t ∙ sym (le-leb n (length (drop at s)) (rw length-drop (omega arith))))
-    (λ t. let q = leb-false (at + n) (length s) t in t ∙ sym (lt-leb n (length (drop at s)) (rw length-drop (omega arith))))
-
--- and the bytes further on, so that what is taken there is what format's definitions read of the rest; a number is the value of its bytes
-pub bytes-rest : (n k : ℕ) (s : List ℕ) (at : ℕ) → bytesAt (at + k) n s ≡ bytesAt k n (drop at s)
-bytes-rest n k s at = ap (take n) (sym (drop-drop k at s))
+use Rattle.cursor.specs.Taken.{TakenBytes, aNumber, noNumber, someBytes, noBytes, takeNumber, takeBytes}
 
 -- of an answer that is one of two, which have different numbers, by its number
 module _ {A : Type 0} (numberOf : A → ℕ) (test : Bool) (yes no : A) (r : A) (e : r ≡ (if test then yes else no)) where
@@ -53,12 +42,6 @@ module _ (n : ℕ) (s : List ℕ) (at : ℕ) where
   bytes-missing h = rw (lt-leb _ _ h)
 
   -- what was taken is there, and is this
-  pub number-taken : (v next : ℕ) → aNumber v next ≡ takeNumber n s at → (at + n ≤ length s) × (v ≡ numberAt at n s) × (next ≡ at + n)
-  unfolding takeNumber
-  number-taken v next e =
-      let q = answer-yes (λ (x : TakenNumber). x .number) _ _ _ _ e refl refl in
-      (leb-true _ _ (q .0), ap (λ (x : TakenNumber). x .value) (q .1), ap (λ (x : TakenNumber). x .next) (q .1))
-
   pub bytes-taken :
       (a b next : ℕ) → someBytes a b next ≡ takeBytes n s at → (at + n ≤ length s) × (a ≡ at) × (b ≡ at + n) × (next ≡ at + n)
   unfolding takeBytes
@@ -71,10 +54,6 @@ module _ (n : ℕ) (s : List ℕ) (at : ℕ) where
       )
 
   -- what was not taken is not there
-  pub number-not-there : noNumber ≡ takeNumber n s at → length s < at + n
-  unfolding takeNumber
-  number-not-there e = leb-false _ _ (answer-no (λ (x : TakenNumber). x .number) _ _ _ _ e refl refl)
-
   pub bytes-not-there : noBytes ≡ takeBytes n s at → length s < at + n
   unfolding takeBytes
   bytes-not-there e = leb-false _ _ (answer-no (λ (x : TakenBytes). x .number) _ _ _ _ e refl refl)

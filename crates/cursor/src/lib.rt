@@ -3,7 +3,6 @@
 ghost use mathlib.Core.Path.{_≡_};
 ghost use Prim.Native.Nat.{_≤_};
 ghost use lib.ListN.{length};
-ghost use lib.Dec.{leb};
 ghost use Rattle.format.specs.Digits.{valueOf};
 ghost use Rattle.cursor.specs.Taken.{taken8, taken16, taken64, takenBytes, takeNumber, takeBytes};
 
@@ -51,20 +50,6 @@ fn value_le(s: &[u8]) -> u64
 }
 
 impl Cursor {
-    // The first place.
-    pub fn new() -> Self
-        ensures { λ r. ⌜ r .at ≡ 0 ⌝ }
-    {
-        Cursor { at: 0 }
-    }
-
-    // Whether no byte is left.
-    pub fn is_at_end(self, s: &[u8]) -> bool
-        ensures { λ r. ⌜ r ≡ leb (length (now (s .entry))) (self .at) ⌝ }
-    {
-        s.len() <= self.at
-    }
-
     // The next byte.
     pub fn take_u8(self, s: &[u8]) -> TookU8
         ensures { λ r. ⌜ taken8 r ≡ takeNumber 1 (now (s .entry)) (self .at) ⌝ }

@@ -40,6 +40,7 @@ pub mod TripLaws
 pub mod Demand3
 pub mod Marked
 pub mod Outcomes
+pub mod Numbered
 pub mod TextPieces
 pub mod Invariants
 pub mod BinaryFormed

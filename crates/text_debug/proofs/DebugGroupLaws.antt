@@ -3,9 +3,9 @@ use mathlib.Core.Path.{_≡_, refl, sym, ap, _∙_, subst}
 use mathlib.Core.Bool.{Bool, true, false, true≢false, not}
 use mathlib.Core.List.{List, [], _∷_, map, flatMap}
 use mathlib.Core.Option.{Option, none, some}
-use Prim.Native.Nat.{ℕ, suc, _-_, _<_}
+use Prim.Native.Nat.{ℕ, suc, _<_}
 use native.Mathlib.Omega.{arith}
-use lib.ListN.{length, drop}
+use lib.ListN.{drop}
 use lib.Dec.{eqb}
 use Rattle.format.specs.Basics.{Outcome, refused, given, _>>=_, ask, need, andThen, allSome, givenOr, isSome, isEmpty, if_then_else_}
 use Rattle.format.specs.Tokens.{foldOutcome}
@@ -32,7 +32,7 @@ use Rattle.text_debug.specs.DebugGroup.{LastBar, FirstRow, lineBlocksIn}
 use Rattle.text_debug.specs.LineRuns.{addressIn}
 use Rattle.text_debug.specs.DebugGroup.{LinesSet, withoutRows, Barred, DebugSettles, DebugChecked}
 use Rattle.text_lines.specs.declared.Passed.the-variants as pa
-use Rattle.text_debug.proofs.RefusalLaws.{Numbered, numbered-ask, refused-by, numbered-unescape}
+use Rattle.format.proofs.Numbered.{Numbered, refused-by, rows-numbered, numbered-unescape}
 use Rattle.text_debug.proofs.LineTableLaws.{Parsed, row, end, rows-28, source-of, rest, opened}
 
 -- THE LINES UP TO THE LAST
@@ -102,19 +102,13 @@ module _ {R : Type 0} (one : ObjectFile → List ℕ → Outcome ObjectFile) (pa
       subst (λ (o : Outcome ObjectFile). Keeps h (refusalOf o) o) (sym (through-parse one parse set k splits h rows))
       (kept-rows h (allSome parse rows))
 
-  numbered-rows : (ls : List (List ℕ)) → Numbered (rowsUnder k columns ls)
-  unfolding rowsUnder
-  numbered-rows [] = tt
-  numbered-rows (l ∷ ls) =
-      numbered-ask {B = List (List ℕ)} k (sameCells (map trim (splitn (length columns - 1) l)) columns) (λ _. given ls) few tt
-
   -- a table's number is of its lines alone, and an object is kept but for what its rows set
   pub table-keeps : (h : ObjectFile) (ls : List (List ℕ)) (number : ℕ)
       → number ≡ refusalOf (rowsUnder k columns ls >>= λ rows. foldOutcome one emptyObject rows)
       → Keeps h number (rowsUnder k columns ls >>= λ rows. foldOutcome one h rows)
   table-keeps h ls number e =
       subst (λ (n : ℕ). Keeps h n (rowsUnder k columns ls >>= λ rows. foldOutcome one h rows))
-      (sym (e ∙ table-any one parse set k splits columns emptyObject h ls)) (kept-under h (rowsUnder k columns ls) (numbered-rows ls))
+      (sym (e ∙ table-any one parse set k splits columns emptyObject h ls)) (kept-under h (rowsUnder k columns ls) (rows-numbered k columns ls few))
 
 pub label-keeps : (h : ObjectFile) (ls : List (List ℕ)) (number : ℕ) → number ≡ refusalOf (parseLabelTable emptyObject ls)
     → Keeps h number (parseLabelTable h ls)

@@ -1,4 +1,3 @@
 pub mod RunLaws
-pub mod RefusalLaws
 pub mod LineTableLaws
 pub mod DebugGroupLaws

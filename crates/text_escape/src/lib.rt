@@ -271,16 +271,6 @@ fn escaped_fits(room: usize, ws: &[u32], at: usize, start: usize, end: usize) ->
     }
 }
 
-// They, escaped.
-pub fn put_escaped(out: &mut [u8], ws: &[u32], at: usize, start: usize, end: usize) -> usize
-    ensures { λ r. ⌜ Put (escapedIn (now (ws .entry)) at start end) (now (out .entry)) r (now (out .exit)) ⌝ }
-{
-    if !escaped_fits(out.len(), ws, at, start, end) {
-        return 0;
-    }
-    put_chars(out, ws, at, start, end)
-}
-
 // How wide a number is in a column.
 fn column(width: usize, number: u64) -> usize
     ensures { λ r. ⌜ r ≡ length (toRight width (decimal number)) ⌝ }

@@ -18,7 +18,6 @@ use Rattle.format.proofs.ListLaws.{by-test}
 use Rattle.object.specs.Bodies.{bodyAt}
 use Rattle.object.specs.Access.{kindAt, lineBlockAt}
 use Rattle.object.proofs.Formed.{formed}
-use Rattle.object.proofs.BodyLaws.{body-fits}
 use Rattle.source_info.proofs.RecordLaws.{Left, start, finish, here, lines-here, lines-other}
 use Rattle.writing.specs.Written.{filled, written, Put}
 use Rattle.text_lines_out.specs.Merge.{smaller, straight, walkFrom}
@@ -295,9 +294,6 @@ module _ (ws s : List ℕ) (lines wraps : ℕ) where
         done-is = q ∙ step .done-is;
         here = subst (λ (x : ℕ). At s x m) (sym q) a;
       }
-
-      pub walking-less : (n : ℕ) → n ≡ at + 1 + length (bodyAt ws (at + 1)) → (at < n) × (n ≤ length ws)
-      walking-less n e = (omega arith, omega (arith, body-fits ws (at + 1) (omega arith)))
 
 pub walk-rows : (ws : List ℕ) (lines wraps done : ℕ) → done ≡ smaller wraps lines
     → walkFrom lines wraps done (lineBlocksIn ws) ≡ walkRows ws lines wraps

@@ -1,23 +1,17 @@
 -- The lengths of rows, and their parts. Assumes nothing.
-use mathlib.Core.Path.{_≡_, refl, sym, ap, _∙_}
+use mathlib.Core.Path.{_≡_, refl, ap, _∙_}
 use mathlib.Core.Bool.{Bool, not}
 use mathlib.Core.List.{List, [], _∷_, _++_, append-assoc}
-use Prim.Native.Nat.{ℕ, _+_, _-_, _%_, _^_, _≤_, _<_}
+use Prim.Native.Nat.{ℕ, _+_, _%_, _^_}
 use native.Mathlib.Omega.{arith}
 use lib.ListN.{length, length-append}
 use lib.Dec.{eqb}
 use Rattle.format.specs.Basics.{ascii}
 use Rattle.format.specs.Digits.{digitsOf}
-use Rattle.format.specs.Utf8.{characters}
-use Rattle.format.specs.TextWriter.{hex4, memoryText, textLine, tableDiv, spaces, toLeft}
+use Rattle.format.specs.TextWriter.{hex4, memoryText, textLine, tableDiv}
 use Rattle.format.proofs.ListLaws.{by-test}
 use Rattle.text_numerals.specs.Memory.{knownWord}
-use Rattle.text_numerals.proofs.DigitLaws.{spaces-length}
-use Rattle.object.specs.Texts.{textByte, bytesFrom}
 use Rattle.object.specs.Access.{memoryIn}
-use Rattle.object.proofs.ByteLaws.{bytes-here, bytes-end}
-use Rattle.utf8.specs.Chars.{begins}
-use Rattle.utf8.proofs.CharLaws.{count-on}
 use Rattle.text_rows_out.specs.Rows.{linkerLine}
 
 pub hex4-length : (v : ℕ) → length (hex4 v) ≡ 4
@@ -48,19 +42,3 @@ unfolding ascii
 linker-length address name =
     line-length (hex4 address ++ tableDiv ++ name)
     ∙ omega (arith, length-append (hex4 address ++ tableDiv) name, hex4-length address, length-append (hex4 address) tableDiv)
-
--- CHARACTERS of what is left
-module _ (ws : List ℕ) (at i n : ℕ) where
-  pub count-here : i < n
-      → begins (textByte ws at i) + characters (bytesFrom ws at (i + 1) (n - (i + 1))) ≡ characters (bytesFrom ws at i (n - i))
-  count-here h =
-      let t = bytesFrom ws at (i + 1) (n - (i + 1)) in
-      count-on (textByte ws at i ∷ t) 0 (omega arith) ∙ ap characters (sym (bytes-here ws at i n h))
-
-  pub count-done : n ≤ i → characters (bytesFrom ws at i (n - i)) ≡ 0
-  unfolding characters
-  count-done h = ap characters (bytes-end ws at i n h)
-
-pub left-length : (width : ℕ) (t : List ℕ) → length (toLeft width t) ≡ length t + (width - characters t)
-left-length width t =
-    length-append t (spaces (width - characters t)) ∙ ap (λ (n : ℕ). length t + n) (spaces-length (width - characters t))

@@ -1,22 +1,18 @@
-// Rows of the text form, with their newlines: the lines of a block, a row of the linker table, and names filled to a column. Part
-// writers: each takes the unused rest of the output.
+// Rows of the text form, with their newlines: the lines of a block, and a row of the linker table. Part writers: each takes the unused
+// rest of the output.
 use measuring::Room;
 use object::put_text;
-use object::text_byte;
 use text_numerals::count_digits;
 use text_numerals::put_decimal;
 use text_numerals::put_hex4;
 use text_numerals::put_memory;
-use text_numerals::put_spaces;
 use writing::put_bytes;
 use writing::put_u8;
 ghost use mathlib.Core.Path.{_≡_};
 ghost use mathlib.Core.List.{_++_};
-ghost use Prim.Native.Nat.{_-_, _≤_};
+ghost use Prim.Native.Nat.{_≤_};
 ghost use lib.ListN.{length};
-ghost use Rattle.format.specs.Utf8.{characters};
-ghost use Rattle.utf8.specs.Chars.{begins};
-ghost use Rattle.format.specs.TextWriter.{hex4, decimal, memoryText, textLine, tableDiv, toLeft};
+ghost use Rattle.format.specs.TextWriter.{hex4, decimal, memoryText, textLine, tableDiv};
 ghost use Rattle.writing.specs.Written.{Put};
 ghost use Rattle.object.specs.Texts.{textBytes};
 ghost use Rattle.object.specs.Access.{memoryIn};
@@ -108,58 +104,4 @@ pub fn put_linker_row(out: &mut [u8], address: u16, ws: &[u32], at: usize, n: us
     }
     let k = put_link_address(out, address);
     k + put_name_line(&mut out[k..], ws, at, n)
-}
-
-// 1 for a byte that begins a character.
-fn begins(b: u8) -> usize
-    ensures { λ r. ⌜ (r ≡ begins b) × (r ≤ 1) ⌝ }
-{
-    if b < 0x80 {
-        return 1;
-    }
-    if 0xBF < b {
-        return 1;
-    }
-    0
-}
-
-// How many characters the first `n` bytes of a text have.
-fn count_characters(ws: &[u32], at: usize, n: usize) -> usize
-    ensures { λ r. ⌜ r ≡ characters (textBytes (now (ws .entry)) at n) ⌝ }
-{
-    let mut count = 0;
-    let mut i = 0;
-    while i < n {
-        count += begins(text_byte(ws, at, i));
-        i += 1;
-    }
-    count
-}
-
-// How many spaces fill a column.
-fn missing(width: usize, count: usize) -> usize
-    ensures { λ r. ⌜ r ≡ width - count ⌝ }
-{
-    if width < count {
-        return 0;
-    }
-    width - count
-}
-
-// The first `n` bytes of a text, filled to a column by characters.
-pub fn put_left(out: &mut [u8], ws: &[u32], at: usize, n: usize, width: usize) -> usize
-    ensures { λ r. ⌜ Put (toLeft width (textBytes (now (ws .entry)) at n)) (now (out .entry)) r (now (out .exit)) ⌝ }
-{
-    if out.len() < n {
-        return 0;
-    }
-    let count = count_characters(ws, at, n);
-    let fill = missing(width, count);
-    if out.len() - n < fill {
-        return 0;
-    }
-    let mut k = 0;
-    k += put_text(&mut out[k..], ws, at, n);
-    k += put_spaces(&mut out[k..], fill);
-    k
 }

@@ -31,7 +31,7 @@ use Rattle.text_debug.specs.declared.DebugGroup.{DebugGroup}
 use Rattle.text_debug.specs.declared.Lines.{Lines}
 use Rattle.text_debug.specs.LineTable.{noLines}
 use Rattle.text_debug.specs.DebugGroup.{DebugSettles, DebugChecked}
-use Rattle.text_debug.proofs.RefusalLaws.{Numbered, numbered-need, numbered-ask, numbered-scan}
+use Rattle.format.proofs.Numbered.{Numbered, text-numbered}
 use Rattle.text_debug.proofs.DebugGroupLaws.{Kept, Keeps, table-keeps}
 use Rattle.text_scan.specs.declared.Walked.{Walked}
 use Rattle.text_scan.specs.Walk.{lineBlocksOf, sourceOf, Lined, Agrees, Comes, LinesChecked, GroupChecked, DebugWalked}
@@ -77,21 +77,6 @@ module _ (h₀ : ObjectFile) where
   text-keeps : (ls : List (List ℕ)) → Gives Same (parseTextGroup h₀ ls)
   unfolding parseTextGroup
   text-keeps ls = scan-keeps h₀ 0 ls (refl, refl)
-
-block-numbered : (h : ObjectFile) (ls : List (List ℕ)) → Numbered (blockAt h ls)
-unfolding blockAt
-block-numbered h [] = omega arith
-block-numbered h (l ∷ []) = omega arith
-block-numbered h (l ∷ c ∷ ls) =
-    numbered-need 24 (hex2u16 l) _ (omega arith) λ a.
-    numbered-need 24 (parseDecimal (2 ^ 16) c) _ (omega arith) λ n.
-    numbered-ask 24 (leb n (length ls)) _ (omega arith)
-    (numbered-need 24 (allSome maybeHex2u16 (take n ls)) _ (omega arith) λ ws.
-    numbered-ask 25 (not (isSome (atKey blockKey (a ∷ []) (h .blocks)))) _ (omega arith) tt)
-
-pub text-numbered : (h : ObjectFile) (ls : List (List ℕ)) → Numbered (parseTextGroup h ls)
-unfolding parseTextGroup
-text-numbered h ls = numbered-scan blockAt block-numbered h 0 ls
 
 text-comes : (h : ObjectFile) (seen′ : List ℕ) (words′ n : ℕ) (o : Outcome ObjectFile) → Settles o n seen′ words′ → Gives (Same h) o → Numbered o
     → Comes (Stands seen′ words′ h) n o

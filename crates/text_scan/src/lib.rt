@@ -17,7 +17,6 @@ ghost use mathlib.Core.Path.{_≡_};
 ghost use mathlib.Core.Bool.{_||_, not};
 ghost use Prim.Native.Nat.{_≤_};
 ghost use lib.ListN.{length, take};
-ghost use Rattle.format.specs.Calls.{refusalOf};
 ghost use Rattle.format.specs.Records.{emptyObject};
 ghost use Rattle.format.specs.TextReader.{textObject};
 ghost use Rattle.text_blocks.specs.Blocks.{Seen};
@@ -258,12 +257,4 @@ pub fn scan_text(s: &[u8]) -> Scanned
     let start = c.start;
     let end = c.end;
     scan_trimmed(&s[..end], start)
-}
-
-// A text file's number: 20 to 31, or 0 where it reads.
-pub fn scan(s: &[u8]) -> u8
-    ensures { λ r. ⌜ r ≡ refusalOf (textObject (now (s .entry))) ⌝ }
-{
-    let r = scan_text(s);
-    r.number
 }

@@ -6,7 +6,7 @@ use mathlib.Core.List.{List, [], _∷_, map}
 use mathlib.Core.Option.{Option, none, some}
 use Prim.Native.Nat.{ℕ, _-_}
 use lib.ListN.{length}
-use Rattle.format.specs.Basics.{Outcome, given, _>>=_, need, andThen, allSome, isSome}
+use Rattle.format.specs.Basics.{Outcome, given, _>>=_, need, andThen, allSome}
 use Rattle.format.specs.Tokens.{foldOutcome}
 use Rattle.format.specs.Utf8.{trim}
 use Rattle.format.specs.TextReader.{splitn, sameCells, rowsUnder}
@@ -69,11 +69,6 @@ module _ {S R : Type 0} (one : S → List ℕ → Outcome S) (parse : List ℕ �
 more-code : {R : Type 0} (n : ℕ) (r : R) (o : Option (List R)) → refusalOf (need n (andThen o λ rs. some (r ∷ rs))) ≡ refusalOf (need n o)
 more-code n r none = refl
 more-code n r (some rs) = refl
-
-more-some : {R : Type 0} (r : R) (o : Option (List R)) → isSome (andThen o λ rs. some (r ∷ rs)) ≡ true → isSome o ≡ true
-unfolding isSome
-more-some r none e = e
-more-some r (some rs) e = refl
 
 module _ {C R : Type 0} (parse : List ℕ → Option R) (v : View C) (t : List ℕ) where
   -- a line of the view that reads, and one that does not

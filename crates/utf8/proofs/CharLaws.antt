@@ -2,7 +2,7 @@
 use mathlib.Core.Path.{_≡_, sym, _∙_, ap}
 use mathlib.Core.Bool.{true, false}
 use mathlib.Core.Logic.{_⊎_, inl, inr}
-use mathlib.Core.List.{List, [], _∷_}
+use mathlib.Core.List.{List, _∷_}
 use mathlib.Core.Option.{Option, none, some}
 use Prim.Native.Nat.{ℕ, zero, suc, _+_, _-_, _*_, _^_, _≤_, _<_}
 use native.Mathlib.Omega.{arith}
@@ -11,10 +11,9 @@ use lib.ListN.{length, drop, getD, drop-of-length-le, length-drop}
 use lib.Seq.{drop-cons}
 use lib.Dec.{leb, ltb}
 use borrow.Author.Tests.{lt-ltb, le-ltb, le-leb, lt-leb, leb-true, leb-false, ltb-true, ltb-false}
-use Rattle.format.specs.Utf8.{isBetween, charAt, follow, shortestForm, isScalar, characters}
+use Rattle.format.specs.Utf8.{charAt, follow, shortestForm, isScalar}
 use Rattle.format.proofs.ListLaws.{by-test}
 use Rattle.format.proofs.Utf8Laws.{char-reads}
-use Rattle.utf8.specs.Chars.{begins}
 
 -- in a range, below it or above it
 pub inside : {P : Type 0} (lo hi b : ℕ) → (lo ≤ b → b ≤ hi → P) → ((b < lo) ⊎ (hi < b) → P) → P
@@ -174,21 +173,3 @@ char-inside s at v n e =
     let r = char-reads (getD s at 0) (drop (at + 1) s) v n (ap charAt (sym (front 0 s at h)) ∙ e) in
     omega (arith, r .1, length-drop (at + 1) s))
     (λ t. let g = char-end s at (ltb-false at (length s) t) ∙ e in let z : _≡_ {A = ℕ} 0 1 = cc in absurd (omega arith))
-
--- the number of characters, from a place on
-begins-more : (b : ℕ) (bs : List ℕ) → begins b + characters bs ≡ characters (b ∷ bs)
-unfolding characters begins
-begins-more b bs = by-test (isBetween 0x80 0xBF b) (λ t. simp t (omega arith)) (λ t. simp t (omega arith))
-
-pub count-on : (s : List ℕ) (i : ℕ) → i < length s → begins (getD s i 0) + characters (drop (i + 1) s) ≡ characters (drop i s)
-count-on s i h = begins-more (getD s i 0) (drop (i + 1) s) ∙ ap characters (sym (front 0 s i h))
-
-pub count-end : (s : List ℕ) (i : ℕ) → length s ≤ i → characters (drop i s) ≡ 0
-unfolding characters
-count-end s i h = rw (drop-of-length-le s h)
-
-pub characters-fit : (s : List ℕ) → characters s ≤ length s
-unfolding characters
-characters-fit [] = omega arith
-characters-fit (b ∷ bs) = let h = characters-fit bs in by-test (isBetween 0x80 0xBF b) (λ t. simp t (omega arith))
-    (λ t. simp t (omega arith))

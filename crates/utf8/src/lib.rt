@@ -1,10 +1,10 @@
-// UTF-8 in place on bytes: whether they are UTF-8, the character at a place, and how many there are.
+// UTF-8 in place on bytes: whether they are UTF-8, and the character at a place.
 ghost use mathlib.Core.Path.{_≡_};
 ghost use mathlib.Core.Bool.{true};
 ghost use Prim.Native.Nat.{_+_, _≤_, _<_};
 ghost use lib.ListN.{length, drop};
-ghost use Rattle.format.specs.Utf8.{follow, shortestForm, charAt, isUtf8, characters};
-ghost use Rattle.utf8.specs.Chars.{charOf, bitsOf, begins};
+ghost use Rattle.format.specs.Utf8.{follow, shortestForm, charAt, isUtf8};
+ghost use Rattle.utf8.specs.Chars.{charOf, bitsOf};
 ghost use Rattle.utf8.specs.Utf8.{Ascii, more, whole, isWhole, step, firstByte};
 
 // Where a reader of UTF-8 stands that is fed a byte at a time, as from text words, whose bytes don't lie side by side: how many bytes of
@@ -256,32 +256,6 @@ pub fn char_at(s: &[u8], at: usize) -> Char
         return shortest_form(0x10000, 3, follow_bits(s, next, 3, b - 0xF0));
     }
     Char::Nothing
-}
-
-// 1 for a byte that begins a character.
-fn begins(b: u8) -> usize
-    ensures { λ r. ⌜ (r ≡ begins b) × (r ≤ 1) ⌝ }
-{
-    if b < 0x80 {
-        return 1;
-    }
-    if 0xBF < b {
-        return 1;
-    }
-    0
-}
-
-// The number of characters of a text.
-pub fn characters(s: &[u8]) -> usize
-    ensures { λ r. ⌜ r ≡ characters (now (s .entry)) ⌝ }
-{
-    let mut n = 0;
-    let mut i = 0;
-    while i < s.len() {
-        n += begins(s[i]);
-        i += 1;
-    }
-    n
 }
 
 // Whether bytes are UTF-8: ASCII stretches in one go, what lies between them a character at a time.
