@@ -1,5 +1,6 @@
-# library.sh: for run.sh and bench.sh to take in, with `here` the folder of this file. Builds the comparison with the groups of exports
-# that libruns.a and libhost.a have, in the folder that RUNS_LIB_DIR names, else in target/staticlib; groups are found by name.
+# library.sh: for run.sh, soak.sh, bench.sh and stack.sh to take in, with `here` the folder of this file. Builds the comparison with the
+# groups of exports that libruns.a and libhost.a have, in the folder that RUNS_LIB_DIR names, else in target/staticlib; groups are found
+# by name.
 # Where cargo or the source text isn't at hand, one line says so, and the script that took this in ends with exit status 0.
 RUNS_LIB_DIR=${RUNS_LIB_DIR:-$here/../target/staticlib}
 export RUNS_LIB_DIR

@@ -66,7 +66,7 @@ fn shuffled(n: usize) -> Vec<usize> {
 }
 
 /// A source of so many bytes, of whose lines nine in ten have an address.
-fn source(bytes: usize) -> Parts {
+pub fn source(bytes: usize) -> Parts {
     let text = b"    ADD R0, R0, #1 ; 1\n";
     let line_block = |i: usize| (10 * i as u64, (0..9).map(|a| a + 10 * i as u16).collect());
     Parts {

@@ -8,6 +8,7 @@
 //! - [`gen`]: cases. [`under`]: the calls under test, compared. [`ffi`]: those of the Rattle library. [`table`]: what a run saw.
 //! - [`marked`], [`vectors`]: the cases marked M, lists to replay.
 //! - [`speed`], [`growth`]: times beside the crate's. [`figures`], [`picture`]: how they are shown.
+//! - [`stack`]: the stack that the library's calls use.
 
 pub mod asm;
 pub mod ffi;
@@ -25,6 +26,7 @@ pub mod records;
 pub mod reference;
 pub mod rust;
 pub mod speed;
+pub mod stack;
 pub mod table;
 pub mod under;
 pub mod vectors;

@@ -8,7 +8,7 @@ use lc3_differential::gen::Depth;
 use lc3_differential::numbers::query::{Query, Values};
 use lc3_differential::reference::{self, Answer, Object};
 use lc3_differential::under::{self, Plan};
-use lc3_differential::{ffi, growth, hex, marked, rust, speed, vectors};
+use lc3_differential::{ffi, growth, hex, marked, rust, speed, stack, vectors};
 
 const USAGE: &str = "\
 differential run [--cases N] [--seed S] [--short none|quick|full] [--long N] [--many N] [--strict]
@@ -18,7 +18,8 @@ differential count_lines | raw_line_span N | line_span N | get_pos_pair N | get 
 differential marked                                  document 01's cases marked M
 differential vectors queries | binary | text         the lists for the test programs
 differential speed                                   times of the library's calls beside the crate's, with their bars
-differential growth [FOLDER]                         the same on inputs that grow; pictures in the folder";
+differential growth [FOLDER]                         the same on inputs that grow; pictures in the folder
+differential stack [--strict]                        the stack that the library's calls use; strict: over 128 KiB is a failure";
 
 fn stop(why: &str) -> ! {
     eprintln!("differential: {why}\n{USAGE}");
@@ -124,6 +125,10 @@ fn main() {
         },
         "speed" => speed::print(&ffi::calls()),
         "growth" => growth::print(&ffi::calls(), args.get(1).map(Path::new)).unwrap_or_else(|e| stop(&e.to_string())),
+        "stack" => {
+            let strict = args.iter().any(|a| a == "--strict");
+            exit(i32::from(!stack::print(&ffi::calls(), strict).unwrap_or_else(|e| stop(&e.to_string()))))
+        }
         _ => stop("what?"),
     }
 }

@@ -14,6 +14,11 @@ const PRINTED: &str = "LC-3 OBJ FILE\n\n.TEXT\n3000\n2\n1234\n????\n\n.SYMBOL\nA
     ADDR | LABEL\n3001 | A\n\n.DEBUG\n# DEBUG SYMBOLS FOR LC3TOOLS\n\nLABEL | INDEX\nA     |     5\n====================\n\
     LINE | ADDR | SOURCE\n   0 | ???? | a\\n\n   1 | 3000 | b\\n\n   2 | ???? | \n====================\n";
 
+/// Document 01's object, its binary file, and the text file of what that reads as.
+pub fn example() -> (Vec<u32>, Vec<u8>, Vec<u8>) {
+    (hex::parse_words(WORDS).unwrap(), hex::parse_bytes(BINARY).unwrap(), PRINTED.into())
+}
+
 /// Header and records.
 fn file(records: &str) -> Vec<u8> {
     hex::parse_bytes(&format!("6F626A21100001{records}")).unwrap()

@@ -38,11 +38,11 @@ pub fn assignment() -> Parts {
     p
 }
 
-/// About 64 KiB of binary in 2,500 label records; the crate writes and reads them in hash order.
-pub fn labels() -> Parts {
+/// Labels with addresses and source starts in random order; the crate writes and reads them in hash order.
+pub fn labels(count: usize) -> Parts {
     let mut r = Prng::new(7);
     let mut p = Parts::default();
-    while p.labels.len() < 2500 {
+    while p.labels.len() < count {
         let name = format!("L{:05X}", r.below(1 << 20));
         *p.label_mut(name.as_bytes()) =
             Label { name: name.clone().into(), addr: r.next() as u16, external: false, start: r.below(60_000) as u64 };
@@ -145,7 +145,7 @@ pub fn print(calls: &Calls) {
         "(a) a typical assignment: 50 labels, 400 lines, 12 KB of source; (b) 2,500 labels in random order; (c) one block of 60,000 words"
     );
     println!("\n{}", head(["object", "call", "the crate", "ours", "ours / crate", "bar"]));
-    for (object, p) in [('a', assignment()), ('b', labels()), ('c', block())] {
+    for (object, p) in [('a', assignment()), ('b', labels(2_500)), ('c', block())] {
         for t in forms(calls, &p, &BinaryFormat::serialize(&access::build(&p))) {
             let shown = |ns: Option<f64>| ns.map_or("-".into(), time);
             let ratio = t.ours.zip(t.theirs).map(|(ours, theirs)| ours / theirs);

@@ -1,8 +1,10 @@
 //! A run finds nothing in the numbers' own calls, and finds every wrong call.
+use std::hint::black_box;
+
 use lc3_differential::gen::Depth;
 use lc3_differential::numbers::query::Query;
-use lc3_differential::rust;
 use lc3_differential::under::{paper, run, Calls, Form, Host, Plan, Queries};
+use lc3_differential::{rust, stack};
 
 const FEW: Plan = Plan { seed: 5, cases: 2000, depth: Depth::None, long: 0, many: 0 };
 
@@ -161,4 +163,22 @@ fn wrong_calls_are_found() {
     for (name, calls) in wrong {
         assert!(run(&calls, &FEW).differences > 0, "{name}");
     }
+}
+
+/// A refused call, or one that fills wrong, isn't measured for a sound one; and a deep one is a failure where that is asked for.
+#[test]
+fn the_stack_of_wrong_calls() {
+    let passes = |calls: &Calls, strict: bool| stack::print(calls, strict).unwrap();
+    assert!(passes(&paper::CALLS, true));
+    assert!(!passes(&binary(Form { read: |_, _| (10, 0), ..BINARY }), false));
+    assert!(!passes(&text(Form { write: |w, out| (TEXT.write)(w, &mut out.to_vec()), ..TEXT }), false));
+    assert!(!passes(&query(|w, q| ((QUERIES.query)(w, q).0, 0, 0)), false));
+    const IS_FAIR: fn(&[u32]) -> (u8, u8) = paper::CALLS.is_fair.unwrap();
+    let is_fair = |w: &[u32]| {
+        black_box(&mut [0u8; 128 << 10]);
+        IS_FAIR(w)
+    };
+    let deep = Calls { is_fair: Some(is_fair), ..Calls::default() };
+    assert!(passes(&deep, false) && !passes(&deep, true));
+    assert!(!passes(&Calls::default(), true), "nothing was measured");
 }

@@ -96,21 +96,29 @@ pub fn binary(r: &mut Prng) -> Vec<u8> {
 
 /// A text file: the rows of each table in some order, some of them twice.
 pub fn text(r: &mut Prng) -> Vec<u8> {
-    let written = String::from_utf8(text_write::write(&parts(r))).unwrap();
-    let lines: Vec<&str> = written.lines().collect();
+    let written = text_write::write(&parts(r));
+    change_tables(&written, |rows| {
+        let all = rows.clone();
+        for _ in 0..r.below(20).min(all.len()) {
+            rows.push(r.pick(&all));
+        }
+        reorder(r, rows);
+    })
+}
+
+/// A written text file with each table's rows changed, but for those of the line table, which are numbered.
+pub fn change_tables(written: &[u8], mut change: impl FnMut(&mut Vec<&str>)) -> Vec<u8> {
+    let lines: Vec<&str> = std::str::from_utf8(written).unwrap().lines().collect();
     let mut out: Vec<&str> = vec![];
     let mut at = 0;
     while at < lines.len() {
         out.push(lines[at]);
         at += 1;
-        // The rows after a header, but for the line table, whose rows are numbered.
+        // The rows after a header.
         if matches!(lines[at - 1].split(" | ").next().map(str::trim), Some("ADDR" | "LABEL")) {
             let end = lines[at..].iter().position(|l| !l.contains(" | ")).map_or(lines.len(), |e| at + e);
             let mut rows = lines[at..end].to_vec();
-            for _ in 0..r.below(20).min(rows.len()) {
-                rows.push(r.pick(&lines[at..end]));
-            }
-            reorder(r, &mut rows);
+            change(&mut rows);
             out.extend(rows);
             at = end;
         }
