@@ -16,6 +16,6 @@ fn main() {
         return;
     }
     let mut out = io::large_buffer();
-    let len = text_format::conversion::bin2text(&input[..n], &mut out);
+    let len = binary_to_text::bin2text(&input[..n], &mut out);
     io::write_all(1, &out[..len]);
 }

@@ -1,1 +1,2 @@
 pub mod AfterLaws
+pub mod ReadLaws

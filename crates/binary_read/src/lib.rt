@@ -1,12 +1,13 @@
-// The binary reader after the header: how many words the records of a file make, and the words.
+// The reader of the binary form (document 01, "Binary form"): the header, then the records.
 use binary_emit::put_words;
+use binary_header::has_header;
 use binary_scan::scan;
 use binary_sizes::words_length;
 use binary_words::lines_apart;
 use units::Filled;
 use units::Measured;
 ghost use mathlib.Core.Path.{_≡_};
-ghost use Rattle.format.specs.Calls.{measured, fill};
+ghost use Rattle.format.specs.Calls.{readBinary, measured, fill, ReadsBinary};
 ghost use Rattle.units.specs.Filled.{measuredOf, filledOf};
 ghost use Rattle.binary_sizes.specs.ObjectWords.{objectWords};
 ghost use Rattle.binary_read.specs.AfterHeader.{afterHeader, answerOf};
@@ -26,7 +27,7 @@ fn refusal(s: &[u8]) -> u8
 }
 
 // The number of the first question after the header that is answered no, or how many words the file gives.
-pub fn records_length(s: &[u8]) -> Measured
+fn records_length(s: &[u8]) -> Measured
     ensures { λ r. ⌜ measuredOf r ≡ measured (afterHeader (now (s .entry))) ⌝ }
 {
     let number = refusal(s);
@@ -38,7 +39,7 @@ pub fn records_length(s: &[u8]) -> Measured
 }
 
 // The words of the file, or the number of the first question after the header that is answered no; 3 where the buffer is too short.
-pub fn read_records(s: &[u8], out: &mut [u32]) -> Filled
+fn read_records(s: &[u8], out: &mut [u32]) -> Filled
     ensures { λ r. ⌜ filledOf r (now (out .exit)) ≡ fill (afterHeader (now (s .entry))) (now (out .entry)) ⌝ }
 {
     let refused = refusal(s);
@@ -46,4 +47,24 @@ pub fn read_records(s: &[u8], out: &mut [u32]) -> Filled
         return Filled::refused(refused);
     }
     put_words(s, out)
+}
+
+// How many words a binary file makes, or the number of the first question that is answered no, 10 to 15.
+pub fn binary_length(s: &[u8]) -> Measured
+    ensures { λ r. ⌜ measuredOf r ≡ measured (readBinary (now (s .entry))) ⌝ }
+{
+    if !has_header(s) {
+        return Measured { number: 10, len: 0 };
+    }
+    records_length(s)
+}
+
+// The words of a binary file, or the number of the first question that is answered no, 10 to 15; 3 where the buffer is too short.
+pub fn read_binary(s: &[u8], out: &mut [u32]) -> Filled
+    ensures { λ r. ⌜ ReadsBinary (now (s .entry)) (now (out .entry)) (filledOf r (now (out .exit))) ⌝ }
+{
+    if !has_header(s) {
+        return Filled::refused(10);
+    }
+    read_records(s, out)
 }

@@ -3,3 +3,4 @@ pub mod RoomLaws
 pub mod PlaceLaws
 pub mod StartLaws
 pub mod FileLaws
+pub mod HeaderLaws

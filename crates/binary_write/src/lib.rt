@@ -1,4 +1,4 @@
-// The writer of the binary form (document 01, "Binary form"). It asks, measures, and then writes record by record.
+// The writer of the binary form (document 01, "Binary form"). It asks, measures, and then writes the header and record by record.
 ghost use mathlib.Core.Path.{_≡_};
 ghost use mathlib.Core.List.{[], _∷_, _++_, reverse};
 ghost use Prim.Native.Nat.{_+_, _-_, _%_, _^_, _≤_, _<_};
@@ -6,7 +6,7 @@ ghost use lib.ListN.{length};
 ghost use lib.Dec.{leb};
 ghost use Rattle.format.specs.Digits.{digitsOf};
 ghost use Rattle.format.specs.Words.{flagBit};
-ghost use Rattle.format.specs.Calls.{checked};
+ghost use Rattle.format.specs.Calls.{checked, WritesBinary};
 ghost use Rattle.units.specs.Filled.{filledOf};
 ghost use Rattle.writing.specs.Written.{Put};
 ghost use Rattle.object.specs.Bodies.{Text};
@@ -14,6 +14,7 @@ ghost use Rattle.object.specs.Access.{recordAt};
 ghost use Rattle.binary_measure.specs.Measured.{Stands, textOf, bytesIn};
 ghost use Rattle.binary_write.specs.Files.{WritesAfter, flagOf, memoryPart, addressPart, sized, RoomFor, PutRecord};
 ghost use Rattle.binary_write.specs.Files.{startBytes, contentOf, contentPlace, Content};
+use binary_header::file_header;
 use binary_measure::record_end;
 use binary_measure::write_number;
 use byte_numbers::put_u16_be;
@@ -286,7 +287,7 @@ fn put_records(out: &mut [u8], object: &[u32]) -> usize
 }
 
 // The file of an object: the bytes `front`, then its records, in the object's own order.
-pub fn write_file(object: &[u32], front: &[u8], out: &mut [u8]) -> Filled
+fn write_file(object: &[u32], front: &[u8], out: &mut [u8]) -> Filled
     ensures { λ r. ⌜ WritesAfter (now (front .entry)) (now (object .entry)) (now (out .entry)) (filledOf r (now (out .exit))) ⌝ }
 {
     let m = write_number(object, front.len(), out.len());
@@ -297,4 +298,12 @@ pub fn write_file(object: &[u32], front: &[u8], out: &mut [u8]) -> Filled
     at += put_bytes(&mut out[at..], front);
     at += put_records(&mut out[at..], object);
     Filled::given(at)
+}
+
+// The binary file of an object, or the number of the first question that is answered no, 1 or 2; 3 where the buffer is too short.
+pub fn write_binary(object: &[u32], out: &mut [u8]) -> Filled
+    ensures { λ r. ⌜ WritesBinary (now (object .entry)) (now (out .entry)) (filledOf r (now (out .exit))) ⌝ }
+{
+    let front = file_header();
+    write_file(object, &front, out)
 }

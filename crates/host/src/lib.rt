@@ -4,7 +4,7 @@ ghost use mathlib.Core.Path.{_≡_};
 ghost use Rattle.format.specs.Calls.{measured, readBinary, readText};
 ghost use Rattle.format.specs.Source.{getPosPair};
 ghost use Rattle.host.specs.Answers.{measuredOf, positionOf};
-use binary_format::BinaryFormat;
+use binary_read::binary_length;
 use byte_positions::position_of;
 use text_read::text_length;
 
@@ -27,7 +27,7 @@ pub struct Position {
 pub extern "C" fn lc3_binary_length(bytes: &[u8]) -> Measured
     ensures { λ r. ⌜ measuredOf r ≡ measured (readBinary (now (bytes .entry))) ⌝ }
 {
-    let b = BinaryFormat::new().length(bytes);
+    let b = binary_length(bytes);
     Measured {
         number: b.number,
         len: b.len,

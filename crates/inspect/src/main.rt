@@ -1,21 +1,13 @@
 // The clerk's look at a file on standard input: how it reads in each form, and of the object that it gives the counts of the five parts
 // and whether it is fair. Where the file has more than 65,536 bytes, 3 and a newline are printed; an object of more than 16,384 words is
 // refused with 3.
-ghost use mathlib.Core.Path.{_≡_};
-ghost use lib.ListN.{length};
 ghost use Rattle.inspect.specs.Parts.{PartsCounted};
-use binary_format::BinaryFormat;
+use binary_read::read_binary;
 use fair::is_fair;
 use object::kind;
+use printing::object_room;
 use text_read::read_text;
 use units::Filled;
-
-// Room for the words of an object: 64 KiB.
-fn object_room() -> [u32; 16384]
-    ensures { λ r. ⌜ 16384 ≡ length r ⌝ }
-{
-    [0; 16384]
-}
 
 // How many words there are of each kind. Of a kind that begins a record, these are the records.
 fn count_kinds(ws: &[u32]) -> [u64; 8]
@@ -69,7 +61,7 @@ fn tell_object(ws: &[u32]) {
 fn tell_file(file: &[u8]) {
     let mut words = object_room();
     let mut others = object_room();
-    let b = BinaryFormat::new().deserialize(file, &mut words);
+    let b = read_binary(file, &mut words);
     let t = read_text(file, &mut others);
     tell_form(b"binary: ", b);
     tell_form(b"text: ", t);

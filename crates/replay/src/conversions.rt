@@ -1,7 +1,7 @@
 // What `bin2text` and `text2bin` print of files that one case of standard input doesn't show: refusals, the header alone, an input that
 // just fills its buffer, and an output that is a byte longer than its own.
-use text_format::conversion::bin2text;
-use text_format::conversion::text2bin;
+use binary_to_text::bin2text;
+use text_to_binary::text2bin;
 use writing::put_bytes;
 
 // What `bin2text` prints of a file.

@@ -15,6 +15,6 @@ fn main() {
         return;
     }
     let mut out = io::large_buffer();
-    let len = text_format::conversion::text2bin(&input[..n], &mut out);
+    let len = text_to_binary::text2bin(&input[..n], &mut out);
     io::write_all(1, &out[..len]);
 }

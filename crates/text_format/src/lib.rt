@@ -1,12 +1,8 @@
-// The text format (document 01, "Text form"; TextFormat of 000): the calls that write and read it, and the conversion of a file
-// of one format into the other.
+// The text format (document 01, "Text form"; TextFormat of 000): the calls that write and read it.
 ghost use mathlib.Core.Path.{_≡_};
 ghost use Rattle.format.specs.Calls.{readText, measured, WritesText, ReadsText};
 ghost use Rattle.units.specs.Filled.{filledOf, measuredOf};
 ghost use Rattle.text_format.specs.Formats.{textFormat};
-
-pub mod conversion;
-
 use text_read::read_text;
 use text_read::text_length;
 use text_write::write_text;

@@ -3,7 +3,7 @@ use denote.Ref.{now}
 use Rattle.format.specs.Calls.{Filled, readBinary, readText}
 use Rattle.io.specs.Counts.{Counts}
 use Rattle.units.specs.Filled.{filledOf}
-use Rattle.text_format.proofs.PrintLaws.{fill-counts}
+use Rattle.printing.proofs.PrintLaws.{fill-counts}
 use Rattle.inspect.proofs.tell_file.Statement.{statement}
 use Rattle.inspect.proofs.tell_file.Tie as tie
 
@@ -12,20 +12,20 @@ module _ (c : tie.After-struct-known) where
   abbrev text : tie.After-read-text
   text = c .before .before .before .before .before .before
 
-  abbrev binary : tie.After-deserialize
+  abbrev binary : tie.After-read-binary
   binary = text .before .before .before
 
   abbrev start : tie.Start
-  start = binary .before .before .before .before .before .before
+  start = binary .before .before .before .before .before
 
   abbrev b : Filled
-  b = filledOf (binary .deserialize .result) (binary .deserialize .last .1 .1 .0)
+  b = filledOf (binary .read-binary .result) (binary .read-binary .last .1 .0)
 
   abbrev t : Filled
   t = filledOf (text .read-text .result) (text .read-text .last .1 .0)
 
   binary-words : Counts (b .len) (b .buffer)
-  binary-words = fill-counts (readBinary (now (start .args .file))) _ b (binary .deserialize .ensures)
+  binary-words = fill-counts (readBinary (now (start .args .file))) _ b (binary .read-binary .ensures)
 
   text-words : Counts (t .len) (t .buffer)
   text-words = fill-counts (readText (now (start .args .file))) _ t (text .read-text .ensures)
@@ -34,7 +34,6 @@ pub tell-file-spec : {M : Type 1} → statement M
 tell-file-spec =
     tie.close
     (tie.spec
-    (λ c κs. search needs)
     (λ c κs. search needs)
     (λ c κs. search needs)
     (λ c. search needs)
