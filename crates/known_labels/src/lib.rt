@@ -1,6 +1,7 @@
 // The words of a text file's labels, by way of an array where it has room for all labels, and else from the rows.
 use label_cache::Cached;
-use label_cache::gather_labels;
+use label_cache::gather_few;
+use label_cache::gather_many;
 use label_items::cached_room;
 use label_items::put_cached;
 use text_labels::labels_room;
@@ -32,36 +33,34 @@ pub fn put_known(out: &mut [u32], u: &[u8], items: &[usize], cached: Cached) -> 
     put_labels(out, u)
 }
 
-// The room after the labels, by way of an array.
-fn gathered_room(u: &[u8], items: &mut [usize], room: usize) -> Room
-    ensures { λ r. ⌜ roomOf r ≡ roomAfter (labelParts (now (u .entry))) room ⌝ }
-{
-    let cached = gather_labels(u, items);
-    known_room(u, items, cached, room)
-}
-
-// The same, of a short text: a small array is cleared sooner.
-fn few_room(u: &[u8], room: usize) -> Room
-    ensures { λ r. ⌜ roomOf r ≡ roomAfter (labelParts (now (u .entry))) room ⌝ }
-{
-    let mut items = [0usize; 4096];
-    gathered_room(u, &mut items, room)
-}
-
-// The same, of any text.
+// The room after the labels, with room for many.
 fn many_room(u: &[u8], room: usize) -> Room
     ensures { λ r. ⌜ roomOf r ≡ roomAfter (labelParts (now (u .entry))) room ⌝ }
 {
     let mut items = [0usize; 16384];
-    gathered_room(u, &mut items, room)
+    let cached = gather_many(u, &mut items);
+    known_room(u, &items, cached, room)
 }
 
-// The room after the labels of a text file.
+// The same, with room for few first, unless for many is asked, and once more if they are not enough. It calls itself since the arrays for many
+// are then not in its own frame.
+fn room_by(u: &[u8], room: usize, many: bool) -> Room
+    ensures { λ r. ⌜ roomOf r ≡ roomAfter (labelParts (now (u .entry))) room ⌝ }
+{
+    if many {
+        return many_room(u, room);
+    }
+    let mut items = [0usize; 4096];
+    let cached = gather_few(u, &mut items);
+    if cached.whole {
+        return cached_room(u, &items, cached.count, room);
+    }
+    room_by(u, room, true)
+}
+
+// The room after the labels of a text file; a long one often has many.
 pub fn all_labels_room(u: &[u8], room: usize) -> Room
     ensures { λ r. ⌜ roomOf r ≡ roomAfter (labelParts (now (u .entry))) room ⌝ }
 {
-    if u.len() < 32768 {
-        return few_room(u, room);
-    }
-    many_room(u, room)
+    room_by(u, room, 32768 <= u.len())
 }

@@ -2,8 +2,7 @@
 -- trimming leaves, where the rows of the line table are. Assumes nothing.
 use mathlib.Core.Bool.{Bool, _&&_, not}
 use mathlib.Core.List.{List, [], _++_, map, flatMap}
-use mathlib.Core.Path.{_≡_}
-use mathlib.Core.Option.{Option, none, some}
+use mathlib.Core.Option.{Option}
 use Prim.Native.Nat.{ℕ, _+_, _/_}
 use lib.ListN.{length}
 use Rattle.format.specs.Basics.{if_then_else_, isEmpty, andThen}
@@ -17,10 +16,7 @@ use Rattle.text_labels.specs.Labels.{labelsOf}
 use Rattle.text_words.specs.Room.{roomFor, roomAfter}
 use Rattle.text_debug.specs.declared.Lines.{Lines}
 use Rattle.text_runs.specs.Runs.{blockWords}
-use Rattle.label_cache.specs.Caches.{HoldsLabels}
 use Rattle.known_labels.specs.Known.{labelParts}
-use Rattle.text_read.specs.declared.Gathered.{Gathered}
-use Rattle.text_read.specs.declared.Gathered.the-variants as gathered
 
 abbrev pub joined : List (List ℕ) → List ℕ  -- parts one after the other
 joined ps = flatMap (λ p. p) ps
@@ -68,8 +64,3 @@ restWords u sourced = length (joined (labelParts u)) + length (joined (relocatio
 -- the room after n words and parts
 unfoldable pub othersRoom : ℕ → List (List ℕ) → ℕ → Option ℕ
 othersRoom n ps room = andThen (roomFor n room) λ left. roomAfter ps left
-
--- labels in an array, and the room after them
-abbrev pub Gathers : List ℕ → List ℕ → ℕ → Gathered → Type 0
-Gathers u items room (gathered.Left cached left) = HoldsLabels u items cached × (some left ≡ roomAfter (labelParts u) room)
-Gathers u items room gathered.Short = none ≡ roomAfter (labelParts u) room

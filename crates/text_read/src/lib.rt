@@ -3,7 +3,8 @@ use known_labels::all_labels_room;
 use known_labels::known_room;
 use known_labels::put_known;
 use label_cache::Cached;
-use label_cache::gather_labels;
+use label_cache::gather_few;
+use label_cache::gather_many;
 use text_debug::Lines;
 use text_push::Held;
 use text_push::flush;
@@ -39,7 +40,7 @@ ghost use Rattle.text_scan.specs.Scan.{Scans};
 ghost use Rattle.label_cache.specs.Caches.{HoldsLabels};
 ghost use Rattle.text_words.specs.Written.{PutEach};
 ghost use Rattle.text_words.specs.Room.{roomOf};
-ghost use Rattle.text_read.specs.Parts.{joined, lineParts, sourceParts, relocationParts, keepsRelocations, frontParts, backParts, objectParts, fixedWords, restWords, debugWords, othersRoom, Gathers};
+ghost use Rattle.text_read.specs.Parts.{joined, lineParts, sourceParts, relocationParts, keepsRelocations, frontParts, backParts, objectParts, fixedWords, restWords, debugWords, othersRoom};
 ghost use Rattle.text_read.specs.SourceText.{sourceAt, Unescapes};
 
 // The text of the source, token by token.
@@ -240,24 +241,7 @@ pub fn text_length(s: &[u8]) -> Measured
     length_scanned(s, scanned)
 }
 
-// Labels in an array and the room after them, or too short a room.
-enum Gathered {
-    Left(Cached, usize),
-    Short,
-}
-
-// The labels in an array, if it has room for all, and the room after them.
-fn gather_room(u: &[u8], items: &mut [usize], room: usize) -> Gathered
-    ensures { λ r. ⌜ Gathers (now (u .entry)) (now (items .exit)) room r ⌝ }
-{
-    let cached = gather_labels(u, items);
-    let Room::Left(left) = known_room(u, items, cached, room) else {
-        return Gathered::Short;
-    };
-    Gathered::Left(cached, left)
-}
-
-// The words of an object, by way of an array for its labels.
+// The words of an object, of which blocks, line blocks and source have so many, with its labels from an array if that holds all.
 fn fill_in(
     out: &mut [u32],
     u: &[u8],
@@ -265,13 +249,15 @@ fn fill_in(
     sourced: bool,
     rows: usize,
     fixed: usize,
-    items: &mut [usize],
+    items: &[usize],
+    cached: Cached,
 ) -> Filled
-    requires { ⌜ (sourced ≡ true → Unescapes (now t) rows) × (fixed ≡ fixedWords (now u) (now t) sourced rows) ⌝ }
+    requires { ⌜ (sourced ≡ true → Unescapes (now t) rows) × (fixed ≡ fixedWords (now u) (now t) sourced rows)
+        × HoldsLabels (now u) (now items) cached ⌝ }
     ensures { λ r. ⌜ filledOf r (now (out .exit)) ≡ fill (given (joined (objectParts (now (u .entry)) (now (t .entry)) sourced rows))) (now (out .entry)) ⌝ }
 {
     let room = out.len();
-    let Gathered::Left(cached, left) = gather_room(u, items, room) else {
+    let Room::Left(left) = known_room(u, items, cached, room) else {
         return Filled::refused(3);
     };
     let kept = keeps_relocations(sourced, room - left);
@@ -282,16 +268,7 @@ fn fill_in(
     Filled::given(n)
 }
 
-// The same, of a short text: a small array is cleared sooner.
-fn fill_few(out: &mut [u32], u: &[u8], t: &[u8], sourced: bool, rows: usize, fixed: usize) -> Filled
-    requires { ⌜ (sourced ≡ true → Unescapes (now t) rows) × (fixed ≡ fixedWords (now u) (now t) sourced rows) ⌝ }
-    ensures { λ r. ⌜ filledOf r (now (out .exit)) ≡ fill (given (joined (objectParts (now (u .entry)) (now (t .entry)) sourced rows))) (now (out .entry)) ⌝ }
-{
-    let mut items = [0usize; 4096];
-    fill_in(out, u, t, sourced, rows, fixed, &mut items)
-}
-
-// The same, of any text.
+// The same, with room for many labels.
 fn fill_many(
     out: &mut [u32],
     u: &[u8],
@@ -304,10 +281,36 @@ fn fill_many(
     ensures { λ r. ⌜ filledOf r (now (out .exit)) ≡ fill (given (joined (objectParts (now (u .entry)) (now (t .entry)) sourced rows))) (now (out .entry)) ⌝ }
 {
     let mut items = [0usize; 16384];
-    fill_in(out, u, t, sourced, rows, fixed, &mut items)
+    let cached = gather_many(u, &mut items);
+    fill_in(out, u, t, sourced, rows, fixed, &items, cached)
 }
 
-// The words of an object, of which blocks, line blocks and source have so many.
+// The same, with room for few first, unless for many is asked, and once more if they are not enough. It calls itself since the arrays for many
+// are then not in its own frame.
+fn fill_by(
+    out: &mut [u32],
+    u: &[u8],
+    t: &[u8],
+    sourced: bool,
+    rows: usize,
+    fixed: usize,
+    many: bool,
+) -> Filled
+    requires { ⌜ (sourced ≡ true → Unescapes (now t) rows) × (fixed ≡ fixedWords (now u) (now t) sourced rows) ⌝ }
+    ensures { λ r. ⌜ filledOf r (now (out .exit)) ≡ fill (given (joined (objectParts (now (u .entry)) (now (t .entry)) sourced rows))) (now (out .entry)) ⌝ }
+{
+    if many {
+        return fill_many(out, u, t, sourced, rows, fixed);
+    }
+    let mut items = [0usize; 4096];
+    let cached = gather_few(u, &mut items);
+    if cached.whole {
+        return fill_in(out, u, t, sourced, rows, fixed, &items, cached);
+    }
+    fill_by(out, u, t, sourced, rows, fixed, true)
+}
+
+// The same; a long text often has many labels.
 fn fill_object(
     out: &mut [u32],
     u: &[u8],
@@ -319,10 +322,7 @@ fn fill_object(
     requires { ⌜ (sourced ≡ true → Unescapes (now t) rows) × (fixed ≡ fixedWords (now u) (now t) sourced rows) ⌝ }
     ensures { λ r. ⌜ filledOf r (now (out .exit)) ≡ fill (given (joined (objectParts (now (u .entry)) (now (t .entry)) sourced rows))) (now (out .entry)) ⌝ }
 {
-    if u.len() < 32768 {
-        return fill_few(out, u, t, sourced, rows, fixed);
-    }
-    fill_many(out, u, t, sourced, rows, fixed)
+    fill_by(out, u, t, sourced, rows, fixed, 32768 <= u.len())
 }
 
 // The words of a text file that was scanned.
