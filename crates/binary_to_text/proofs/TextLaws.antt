@@ -5,14 +5,20 @@ use Prim.Native.Nat.{ℕ}
 use lib.ListN.{length}
 use Rattle.format.specs.Basics.{Outcome, refused, given, _>>=_}
 use Rattle.format.specs.Calls.{Filled, fill, message, fitting, readBinary, writeText, bin2text}
+use Rattle.format.specs.Words.{objectOf}
+use Rattle.format.proofs.Numbered.{Numbered, numbered-bind, binary-read}
 use Rattle.units.specs.declared.Filled as units
 use Rattle.units.specs.Filled.{filledOf, handedBack}
 use Rattle.writing.specs.Written.{Put}
 use Rattle.printing.specs.Printed.{wordsRead, PrintsFilled, Counts}
-use Rattle.printing.proofs.Numbered.{numbered-bind}
+use Rattle.printing.proofs.RefusalLaws.{object-numbered}
 use Rattle.printing.proofs.PrintLaws.{fitting-last, words-numbered, printed}
 use Rattle.binary_to_text.specs.ToText.{binaryToText, PrintsText}
-use Rattle.binary_to_text.proofs.RefusalLaws.{binary-read, text-write}
+
+-- no refusal of a write has number 0
+text-write : (ws : List ℕ) → Numbered (writeText ws)
+unfolding writeText
+text-write ws = numbered-bind (objectOf ws) _ (object-numbered ws) λ h. tt
 
 module _ (input buffer : List ℕ) where
   pub stops : (n : ℕ) → wordsRead readBinary input ≡ refused n → filledOf (handedBack n 0) buffer ≡ fill (binaryToText input) buffer

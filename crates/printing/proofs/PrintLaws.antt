@@ -16,7 +16,7 @@ use Rattle.units.specs.Filled.{filledOf}
 use Rattle.writing.specs.Written.{into, filled, written, Put}
 use Rattle.writing.proofs.WriteLaws.{filled-fits, written-fits}
 use Rattle.printing.specs.Printed.{wordsRead, numberLine, PrintsFilled, Counts}
-use Rattle.printing.proofs.Numbered.{Numbered, numbered-bind, numbered-ask}
+use Rattle.format.proofs.Numbered.{Numbered, numbered-bind, numbered-ask}
 
 -- A CALL THAT FILLS A BUFFER, as an outcome that asks for the buffer's length too
 

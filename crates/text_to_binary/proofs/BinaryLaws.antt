@@ -6,15 +6,23 @@ use native.Mathlib.Omega.{arith}
 use lib.ListN.{length}
 use Rattle.format.specs.Basics.{Outcome, refused, given, _>>=_}
 use Rattle.format.specs.Calls.{Filled, fill, message, fitting, readText, writeBinary, OrdersOf, WritesBinary}
+use Rattle.format.specs.ObjectFile.{Label, Relocation}
+use Rattle.format.specs.Words.{objectOf}
+use Rattle.format.specs.Binary.{countsFit}
 use Rattle.format.proofs.WordsOnly.{given-same}
+use Rattle.format.proofs.Numbered.{Numbered, numbered-bind, numbered-ask, text-read}
 use Rattle.units.specs.declared.Filled as units
 use Rattle.units.specs.Filled.{filledOf, handedBack}
 use Rattle.writing.specs.Written.{Put}
 use Rattle.printing.specs.Printed.{wordsRead, PrintsFilled, Counts}
-use Rattle.printing.proofs.Numbered.{numbered-bind}
+use Rattle.printing.proofs.RefusalLaws.{object-numbered}
 use Rattle.printing.proofs.PrintLaws.{fitting-last, words-numbered, printed}
 use Rattle.text_to_binary.specs.ToBinary.{textToBinary, ConvertsText, text2bin, PrintsBinary}
-use Rattle.text_to_binary.proofs.RefusalLaws.{text-read, binary-write}
+
+-- no refusal of a write has number 0
+binary-write : (ws : List ℕ) (ls : List Label) (rs : List Relocation) → Numbered (writeBinary ws ls rs)
+unfolding writeBinary
+binary-write ws ls rs = numbered-bind (objectOf ws) _ (object-numbered ws) λ h. numbered-ask 2 (countsFit h) _ (omega arith) tt
 
 module _ (input buffer : List ℕ) where
   pub stops : (n : ℕ) → wordsRead readText input ≡ refused n → ConvertsText input buffer (filledOf (handedBack n 0) buffer)

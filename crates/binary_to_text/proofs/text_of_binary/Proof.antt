@@ -9,7 +9,7 @@ use Rattle.format.specs.Calls.{Filled, readBinary}
 use Rattle.units.specs.Filled.{filledOf}
 use Rattle.printing.specs.Printed.{wordsRead, Counts}
 use Rattle.printing.proofs.PrintLaws.{too-long, not-read, is-read}
-use Rattle.binary_to_text.proofs.RefusalLaws.{binary-read}
+use Rattle.format.proofs.Numbered.{binary-read}
 use Rattle.binary_to_text.proofs.TextLaws.{stops, goes-on}
 use Rattle.binary_to_text.proofs.text_of_binary.Statement.{statement}
 use Rattle.binary_to_text.proofs.text_of_binary.Tie as tie

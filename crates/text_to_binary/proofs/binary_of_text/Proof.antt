@@ -10,7 +10,7 @@ use Rattle.units.specs.Filled.{filledOf}
 use Rattle.printing.specs.Printed.{wordsRead, Counts}
 use Rattle.printing.proofs.PrintLaws.{too-long, not-read, is-read}
 use Rattle.text_to_binary.specs.ToBinary.{ConvertsText}
-use Rattle.text_to_binary.proofs.RefusalLaws.{text-read}
+use Rattle.format.proofs.Numbered.{text-read}
 use Rattle.text_to_binary.proofs.BinaryLaws.{stops, goes-on}
 use Rattle.text_to_binary.proofs.binary_of_text.Statement.{statement}
 use Rattle.text_to_binary.proofs.binary_of_text.Tie as tie
