@@ -4,12 +4,12 @@ use mathlib.Core.Path.{_≡_, refl, sym, ap, _∙_, subst}
 use mathlib.Core.Bool.{Bool, true, false, true≢false, not}
 use mathlib.Core.List.{List, [], _∷_, map, flatMap}
 use mathlib.Core.Option.{Option, none, some}
-use Prim.Native.Nat.{ℕ, zero, suc, _+_, _-_, _^_, _%_, _≤_, _<_, compare, Ordering, Ordering·lt, Ordering·eq, Ordering·gt}
+use Prim.Native.Nat.{ℕ, zero, suc, _+_, _-_, _^_, _/_, _%_, _≤_, _<_, compare, Ordering, Ordering·lt, Ordering·eq, Ordering·gt}
 use native.Mathlib.Omega.{arith}
-use lib.ListN.{length, take, drop, getD, set, length-set, length-append, length-map}
-use lib.Seq.{getD-set-same, getD-set-other, drop-drop}
+use lib.ListN.{length, take, drop, length-append, length-map}
+use lib.Seq.{drop-drop}
 use lib.Dec.{leb, eqb, isEq}
-use borrow.Author.Tests.{eq-eqb, ne-eqb, eqb-true, eqb-false, leb-true, leb-false}
+use borrow.Author.Tests.{eqb-true, eqb-false, leb-true, leb-false}
 use Rattle.format.specs.Basics.{Outcome, refused, given, _>>=_, ask, need, andThen, allSome, if_then_else_, isSome}
 use Rattle.format.specs.Tokens.{Parts, scanTokens}
 use Rattle.format.specs.Sorted.{order, byOrdering, thenBy, upsert, atKey}
@@ -21,7 +21,8 @@ use Rattle.format.specs.Words.{memoryWord, recordWords}
 use Rattle.trim.specs.Span.{part}
 use Rattle.text_lines.specs.Groups.{partsFrom, RowAt}
 use Rattle.text_lines.proofs.RowLaws.{rows-on, row-groups}
-use Rattle.text_blocks.specs.Blocks.{wordsIn, blockIn, EntriesAt, BodyAt, BlockFrom, NoBlock, Seen, blocksLength, Counts, Settles}
+use Rattle.text_blocks.specs.Blocks.{wordsIn, blockIn, EntriesAt, BodyAt, BlockFrom, NoBlock, isMarked, marked, Seen, blocksLength, Counts, Settles}
+use Rattle.text_blocks.proofs.MarkLaws.{length-marked, marked-same, marked-other}
 use Rattle.text_lines.proofs.TestLaws.{by-test}
 
 enough : (n : ℕ) (ls : List (List ℕ)) → n ≤ length ls → allSome maybeHex2u16 (take n ls) ≡ wordsIn n ls
@@ -109,14 +110,14 @@ order-one : (x a : ℕ) → isEq (order (x ∷ []) (a ∷ [])) ≡ eqb x a
 unfolding order
 order-one x a = then-eq (compare x a)
 
-pub seen-put : (h : ObjectFile) (seen : List ℕ) (b : Block) → Seen h seen → b .address < length seen → Seen (putRecord h (block b)) (set seen (b .address) 1)
+seen-put : (h : ObjectFile) (seen : List ℕ) (b : Block) → Seen h seen → b .address / 8 < length seen → isMarked seen (b .address) ≡ false
+    → Seen (putRecord h (block b)) (marked seen (b .address))
 unfolding putRecord isSome
-seen-put h seen b s l x =
+seen-put h seen b s l new x =
     ap (λ (o : Option Block). isSome o) (atKey-upsert blockKey (x ∷ []) b (h .blocks) ∙ ap (λ (t : Bool). if t then some b else atKey blockKey (x ∷ []) (h .blocks)) (order-one x (b .address)))
     ∙ by-test (eqb x (b .address))
-    (λ t. let q : x ≡ b .address = eqb-true x (b .address) t in
-    rw (t, q, getD-set-same seen (b .address) 1 0 l) refl)
-    (λ t. rw (t, getD-set-other seen (b .address) x 1 0 (eqb-false x (b .address) t)) (s x))
+    (λ t. rw t (sym (ap (isMarked (marked seen (b .address))) (eqb-true x (b .address) t) ∙ marked-same seen (b .address) l new)))
+    (λ t. rw t (s x ∙ sym (marked-other seen (b .address) l new x (eqb-false x (b .address) t))))
 
 -- a step over entries
 module _ (t : List ℕ) (at a e n : ℕ) (l : RowAt t at a e n) where
@@ -311,18 +312,18 @@ pub marking-begin : (t : List ℕ) (at words : ℕ) (seen : List ℕ) → Markin
 marking-begin t at words seen = record { from = omega arith; size = refl; groups = refl; stands = λ h₀ s n. (h₀, s, n, refl) }
 
 module _ (t : List ℕ) (at words₀ : ℕ) (seen₀ : List ℕ) (i words : ℕ) (seen : List ℕ) (m : Marking t at words₀ seen₀ i words seen) where
-  pub marking-on : (a n p q : ℕ) → BlockFrom t i a n p q → (getD seen a 0 ≡ 1 → ⊥) → a < length seen → (words′ : ℕ) → words′ ≡ (words + (1 + n)) % 2 ^ 64
-      → Marking t at words₀ seen₀ q words′ (set seen a 1)
+  pub marking-on : (a n p q : ℕ) → BlockFrom t i a n p q → isMarked seen a ≡ false → a / 8 < length seen → (words′ : ℕ) → words′ ≡ (words + (1 + n)) % 2 ^ 64
+      → Marking t at words₀ seen₀ q words′ (marked seen a)
   marking-on a n p q b new l words′ e =
       record {
         from = omega (arith, m .from, b .on);
-        size = length-set seen a 1 ∙ m .size;
+        size = length-marked seen a ∙ m .size;
         groups = b .groups ∙ m .groups;
         stands = λ h₀ s c.
             let w = m .stands h₀ s c in
-            let fresh = w .1 a ∙ ne-eqb (getD seen a 0) 1 new in (
+            let fresh = w .1 a ∙ new in (
               putRecord (w .0) (block (record { address = a; words = b .words })),
-              seen-put (w .0) seen (record { address = a; words = b .words }) (w .1) l,
+              seen-put (w .0) seen (record { address = a; words = b .words }) (w .1) l new,
               counts-put (w .0) (record { address = a; words = b .words }) words n words′ fresh (w .2) (words-count n (partsFrom t p .before) (b .words) (b .there)) e,
               ap (parseTextGroup (putRecord (w .0) (block (record { address = a; words = b .words })))) (b .rest)
                   ∙ sym (text-on (w .0) (partsFrom t i .before) (b .first) (b .lines) (b .rows) (record { address = a; words = b .words }) n (b .read) fresh)
@@ -334,12 +335,12 @@ module _ (t : List ℕ) (at words₀ : ℕ) (seen₀ : List ℕ) (i words : ℕ)
       → Settles (parseTextGroup h₀ (partsFrom t at .before)) number seen words
   settled-as o number h₀ e s = subst (λ (x : Outcome ObjectFile). Settles x number seen words) e s
 
-  pub marking-again : (a n p q : ℕ) → BlockFrom t i a n p q → getD seen a 0 ≡ 1 → (h₀ : ObjectFile) → Seen h₀ seen₀ → Counts h₀ words₀
+  pub marking-again : (a n p q : ℕ) → BlockFrom t i a n p q → isMarked seen a ≡ true → (h₀ : ObjectFile) → Seen h₀ seen₀ → Counts h₀ words₀
       → Settles (parseTextGroup h₀ (partsFrom t at .before)) 25 seen words
   marking-again a n p q b old h₀ s c =
       let w = m .stands h₀ s c in
       settled-as (refused 25) 25 h₀
-      (sym (text-again (w .0) (partsFrom t i .before) (b .first) (b .lines) (b .rows) (record { address = a; words = b .words }) n (b .read) (w .1 a ∙ eq-eqb (getD seen a 0) 1 old)) ∙ w .3)
+      (sym (text-again (w .0) (partsFrom t i .before) (b .first) (b .lines) (b .rows) (record { address = a; words = b .words }) n (b .read) (w .1 a ∙ old)) ∙ w .3)
       refl
 
   pub marking-bad : NoBlock t i → (h₀ : ObjectFile) → Seen h₀ seen₀ → Counts h₀ words₀ → Settles (parseTextGroup h₀ (partsFrom t at .before)) 24 seen words

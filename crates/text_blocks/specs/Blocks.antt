@@ -4,8 +4,8 @@ use mathlib.Core.Path.{_≡_}
 use mathlib.Core.Bool.{Bool, true, false, _&&_}
 use mathlib.Core.List.{List, [], _∷_, map, flatMap}
 use mathlib.Core.Option.{Option, none, some}
-use Prim.Native.Nat.{ℕ, zero, suc, _+_, _*_, _^_, _%_, _≤_, _<_}
-use lib.ListN.{length, drop, getD}
+use Prim.Native.Nat.{ℕ, zero, suc, _+_, _*_, _^_, _/_, _%_, _≤_, _<_}
+use lib.ListN.{length, drop, getD, set}
 use lib.Dec.{eqb, ltb}
 use Rattle.format.specs.Basics.{Outcome, refused, given, andThen, isSome, if_then_else_}
 use Rattle.format.specs.Sorted.{atKey}
@@ -135,9 +135,17 @@ NextBlock t at (bl.At a n p q) = BlockFrom t at a n p q
 NextBlock t at bl.Done = partsFrom t at .before ≡ []
 NextBlock t at bl.Bad = NoBlock t at
 
--- the addresses that the object has blocks at are marked by 1
+-- the mark of an address: bit a % 8 of byte a / 8
+unfoldable pub isMarked : List ℕ → ℕ → Bool
+isMarked seen a = eqb (getD seen (a / 8) 0 / 2 ^ (a % 8) % 2) 1
+
+-- the marks, with that of an address that had none
+unfoldable pub marked : List ℕ → ℕ → List ℕ
+marked seen a = set seen (a / 8) (getD seen (a / 8) 0 + 2 ^ (a % 8))
+
+-- the addresses that the object has blocks at are marked
 abbrev pub Seen : ObjectFile → List ℕ → Type 0
-Seen h seen = (a : ℕ) → isSome (atKey blockKey (a ∷ []) (h .blocks)) ≡ eqb (getD seen a 0) 1
+Seen h seen = (a : ℕ) → isSome (atKey blockKey (a ∷ []) (h .blocks)) ≡ isMarked seen a
 
 -- how many words blocks have
 unfoldable pub blocksLength : List Block → ℕ
@@ -155,10 +163,10 @@ Settles (given h) number seen words = (number ≡ 0) × Seen h seen × Counts h 
 abbrev pub textAt : ℕ → ℕ → ℕ → Text
 textAt number next words = record { number = number; next = next; words = words }
 
--- What a check of .TEXT's lines comes to, from marks and a count that stand for any object. With fewer than 65,536 marks nothing is marked: 3.
+-- What a check of .TEXT's lines comes to, from marks and a count that stand for any object. With fewer than 8,192 bytes of marks nothing is marked: 3.
 pub record BlocksChecked (t : List ℕ) (at words : ℕ) (seen seen′ : List ℕ) (r : Text) : Type 0 where
   pub from : at ≤ r .next
   pub after : r .number ≡ 0 → partsFrom t (r .next) ≡ record { before = []; groups = partsFrom t at .groups }
-  pub short : length seen < 65536 → (r .number ≡ 3) × (seen′ ≡ seen)
-  pub settles : 65536 ≤ length seen → (h : ObjectFile) → Seen h seen → Counts h words
+  pub short : length seen < 8192 → (r .number ≡ 3) × (seen′ ≡ seen)
+  pub settles : 8192 ≤ length seen → (h : ObjectFile) → Seen h seen → Counts h words
       → Settles (parseTextGroup h (partsFrom t at .before)) (r .number) seen′ (r .words)

@@ -10,12 +10,12 @@ use text_lines::Passed;
 use text_lines::is_four_long;
 use text_lines::next_row;
 ghost use mathlib.Core.Path.{_≡_};
-ghost use mathlib.Core.Bool.{true};
-ghost use Prim.Native.Nat.{_<_};
-ghost use lib.ListN.{getD};
+ghost use mathlib.Core.Bool.{true, false};
+ghost use Prim.Native.Nat.{_/_, _<_};
+ghost use lib.ListN.{length, getD};
 ghost use Rattle.format.specs.Basics.{isSome};
 ghost use Rattle.format.specs.TextReader.{hex2u16, maybeHex2u16};
-ghost use Rattle.text_blocks.specs.Blocks.{isTable, fourWord, shortEntry, OneEntry, Entries, BodyIs, NextBlock, textAt, BlocksChecked};
+ghost use Rattle.text_blocks.specs.Blocks.{isTable, fourWord, shortEntry, OneEntry, Entries, BodyIs, NextBlock, isMarked, marked, textAt, BlocksChecked};
 
 // A block of .TEXT: where its entries start, and the place after them.
 pub enum BlockStep {
@@ -472,11 +472,28 @@ fn text_at(number: u8, next: usize, words: usize) -> Text
     }
 }
 
+// Whether an address is marked.
+fn is_marked(seen: &[u8], a: usize) -> bool
+    requires { ⌜ a / 8 < length (now seen) ⌝ }
+    ensures { λ r. ⌜ r ≡ isMarked (now (seen .entry)) a ⌝ }
+{
+    (seen[a / 8] >> (a % 8)) % 2 == 1
+}
+
+// Marks an address that has no mark. Its bit is 0, so that adding it changes no other.
+fn mark(seen: &mut [u8], a: usize)
+    requires { ⌜ (a / 8 < length (now seen)) × (isMarked (now seen) a ≡ false) ⌝ }
+    ensures { λ r. ⌜ now (seen .exit) ≡ marked (now (seen .entry)) a ⌝ }
+{
+    let i = a / 8;
+    seen[i] += 1 << (a % 8);
+}
+
 // The lines of a .TEXT group, checked; the addresses of its blocks are marked, and their words counted.
 pub fn parse_text(t: &[u8], at: usize, words: usize, seen: &mut [u8]) -> Text
     ensures { λ r. ⌜ BlocksChecked (now (t .entry)) at words (now (seen .entry)) (now (seen .exit)) r ⌝ }
 {
-    if seen.len() < 65536 {
+    if seen.len() < 8192 {
         return text_at(3, at, words);
     }
     let mut i = at;
@@ -491,10 +508,10 @@ pub fn parse_text(t: &[u8], at: usize, words: usize, seen: &mut [u8]) -> Text
                 next,
             } => {
                 let a = address as usize;
-                if seen[a] == 1 {
+                if is_marked(seen, a) {
                     return text_at(25, at, n);
                 }
-                seen[a] = 1;
+                mark(seen, a);
                 n = wrapping_add_usize(n, 1 + count as usize);
                 i = next;
             }

@@ -2,7 +2,8 @@
 use mathlib.Core.Path.{_≡_, refl, sym, ap, _∙_, subst}
 use mathlib.Core.Bool.{Bool, true, false, _||_, not}
 use mathlib.Core.List.{List, [], _∷_}
-use Prim.Native.Nat.{ℕ, zero, suc, _-_, _≤_, _<_}
+use Prim.Native.Nat.{ℕ, zero, suc, _-_, _^_, _/_, _%_, _≤_, _<_}
+use native.Mathlib.Nat.{zero-div}
 use native.Mathlib.Omega.{arith}
 use lib.ListN.{length, take, drop, getD, replicate}
 use lib.Seq.{take-nil, length-take-le}
@@ -19,7 +20,7 @@ use Rattle.trim.specs.Span.{part, Spans}
 use Rattle.text_lines.specs.Lines.{kept, LineAt}
 use Rattle.text_lines.proofs.LineLaws.{kept-trimmed, to-end}
 use Rattle.text_lines.specs.Groups.{partsFrom}
-use Rattle.text_blocks.specs.Blocks.{Seen, Counts}
+use Rattle.text_blocks.specs.Blocks.{isMarked, Seen, Counts}
 use Rattle.text_scan.specs.declared.Walked.{Walked}
 use Rattle.text_scan.specs.declared.Scanned.{Scanned}
 use Rattle.text_scan.specs.Walk.{blocksRise, Lined, Comes, groupsFrom, GroupsWalked}
@@ -34,8 +35,8 @@ getD-zero (suc n) zero = refl
 getD-zero (suc n) (suc a) = getD-zero n a
 
 none-seen : (n : ℕ) → Seen emptyObject (replicate n 0)
-unfolding emptyObject atKey isSome
-none-seen n a = sym (ap (λ (x : ℕ). eqb x 1) (getD-zero n a))
+unfolding emptyObject atKey isSome isMarked
+none-seen n a = sym (ap (λ (x : ℕ). eqb (x / 2 ^ (a % 8) % 2) 1) (getD-zero n (a / 8)) ∙ ap (λ (q : ℕ). eqb (q % 2) 1) (zero-div (2 ^ (a % 8))))
 
 long : (n : ℕ) → n ≤ length {A = ℕ} (replicate n 0)
 long zero = omega arith

@@ -154,7 +154,7 @@ module _ (t : List ℕ) (kind at words : ℕ) (seen : List ℕ) where
   abbrev kept : Group → Text  -- a group that has no blocks
   kept g = record { number = g .number; next = g .next; words = words }
 
-  pub lines-text : (seen′ : List ℕ) (r : Text) → kind ≡ 0 → 65536 ≤ length seen → BlocksChecked t at words seen seen′ r
+  pub lines-text : (seen′ : List ℕ) (r : Text) → kind ≡ 0 → 8192 ≤ length seen → BlocksChecked t at words seen seen′ r
       → LinesChecked t kind at words seen seen′ r
   lines-text seen′ r k l c =
       let f : Settled seen′ (r .words) (r .number) = λ name e h s n.

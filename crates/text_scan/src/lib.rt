@@ -64,7 +64,7 @@ fn parse_debug_group(t: &[u8], at: usize, w: Walked) -> Walked
 
 // A group of another kind, after groups that marked their blocks, and counted their words: 23 to 26.
 fn parse_lines(t: &[u8], kind: u8, at: usize, words: usize, seen: &mut [u8]) -> Text
-    requires { ⌜ (65536 ≤ length (now seen)) × (kind ≡ 3 → ⊥) ⌝ }
+    requires { ⌜ (8192 ≤ length (now seen)) × (kind ≡ 3 → ⊥) ⌝ }
     ensures { λ r. ⌜ LinesChecked (now (t .entry)) kind at words (now (seen .entry)) (now (seen .exit)) r ⌝ }
 {
     if kind == 0 {
@@ -95,7 +95,7 @@ fn parse_lines(t: &[u8], kind: u8, at: usize, words: usize, seen: &mut [u8]) -> 
 
 // A group of any kind, after the groups before it: 23 to 30.
 fn parse_group(t: &[u8], kind: u8, at: usize, w: Walked, seen: &mut [u8]) -> Walked
-    requires { ⌜ 65536 ≤ length (now seen) ⌝ }
+    requires { ⌜ 8192 ≤ length (now seen) ⌝ }
     ensures { λ r. ⌜ GroupChecked (now (t .entry)) kind at (w .sourced) (w .rows) (w .lines) (w .words) (now (seen .entry)) (now (seen .exit)) r ⌝ }
 {
     if kind == 3 {
@@ -130,7 +130,7 @@ fn no_groups(number: u8, at: usize) -> Walked
 
 // All groups from a place on, where no block is marked: 22 to 30.
 fn parse_groups(t: &[u8], first: usize, seen: &mut [u8]) -> Walked
-    requires { ⌜ (65536 ≤ length (now seen)) × Seen emptyObject (now seen) ⌝ }
+    requires { ⌜ (8192 ≤ length (now seen)) × Seen emptyObject (now seen) ⌝ }
     ensures { λ r. ⌜ GroupsWalked (now (t .entry)) first r ⌝ }
 {
     let mut w = no_groups(0, first);
@@ -208,7 +208,7 @@ fn scan_groups(t: &[u8], first: usize) -> Scanned
     requires { ⌜ first ≤ length (now t) ⌝ }
     ensures { λ r. ⌜ Scans (now (t .entry)) (groupsObject (now (t .entry)) first) r ⌝ }
 {
-    let mut seen = [0u8; 65536];
+    let mut seen = [0u8; 8192];
     let w = parse_groups(t, first, &mut seen);
     if w.number != 0 {
         return refuse(w.number);

@@ -29,4 +29,4 @@ returns-3 c =
 pub scan-groups-spec : {M : Type 1} → statement M
 scan-groups-spec =
     tie.close
-    (tie.spec (λ c. search needs) (λ c κs. marks-begin 65536) (λ c κs. search needs) returns (λ c κs. search needs) (λ c κs. search needs) returns-2 returns-3)
+    (tie.spec (λ c. search needs) (λ c κs. marks-begin 8192) (λ c κs. search needs) returns (λ c κs. search needs) (λ c κs. search needs) returns-2 returns-3)
