@@ -1,37 +1,12 @@
-// The words of a text file's labels, by way of an array where it has room for all labels, and else from the rows.
-use label_cache::Cached;
+// The room after the words of a text file's labels, by way of an array where it has room for all labels, and else from the rows.
 use label_cache::gather_few;
 use label_cache::gather_many;
 use label_items::cached_room;
-use label_items::put_cached;
 use text_labels::labels_room;
-use text_labels::put_labels;
 use text_words::Room;
 ghost use mathlib.Core.Path.{_≡_};
 ghost use Rattle.text_words.specs.Room.{roomOf, roomAfter};
-ghost use Rattle.text_words.specs.Written.{PutEach};
-ghost use Rattle.known_labels.specs.Known.{labelParts, knownParts};
-
-// The room after the labels, from an array if it holds all.
-pub fn known_room(u: &[u8], items: &[usize], cached: Cached, room: usize) -> Room
-    ensures { λ r. ⌜ roomOf r ≡ roomAfter (knownParts (now (u .entry)) (now (items .entry)) cached) room ⌝ }
-{
-    if cached.whole {
-        return cached_room(u, items, cached.count, room);
-    }
-    labels_room(u, room)
-}
-
-// The labels, from an array if it holds all.
-pub fn put_known(out: &mut [u32], u: &[u8], items: &[usize], cached: Cached) -> usize
-    ensures { λ r. ⌜ PutEach (knownParts (now (u .entry)) (now (items .entry)) cached)
-        (now (out .entry)) r (now (out .exit)) ⌝ }
-{
-    if cached.whole {
-        return put_cached(out, u, items, cached.count);
-    }
-    put_labels(out, u)
-}
+ghost use Rattle.known_labels.specs.Known.{labelParts};
 
 // The room after the labels, with room for many.
 fn many_room(u: &[u8], room: usize) -> Room
@@ -39,7 +14,10 @@ fn many_room(u: &[u8], room: usize) -> Room
 {
     let mut items = [0usize; 16384];
     let cached = gather_many(u, &mut items);
-    known_room(u, &items, cached, room)
+    if !cached.whole {
+        return labels_room(u, room);
+    }
+    cached_room(u, &items, cached.count, room)
 }
 
 // The same, with room for few first, unless for many is asked, and once more if they are not enough. It calls itself since the arrays for many

@@ -1,11 +1,13 @@
 // The text reader: how many words a text file makes, and the words.
 use known_labels::all_labels_room;
-use known_labels::known_room;
-use known_labels::put_known;
 use label_cache::Cached;
 use label_cache::gather_few;
 use label_cache::gather_many;
+use label_items::cached_room;
+use label_items::put_cached;
 use text_debug::Lines;
+use text_labels::labels_room;
+use text_labels::put_labels;
 use text_push::Held;
 use text_push::flush;
 use text_push::push;
@@ -39,7 +41,8 @@ ghost use Rattle.writing.specs.Written.{Put};
 ghost use Rattle.text_scan.specs.Scan.{Scans};
 ghost use Rattle.label_cache.specs.Caches.{HoldsLabels};
 ghost use Rattle.text_words.specs.Written.{PutEach};
-ghost use Rattle.text_words.specs.Room.{roomOf};
+ghost use Rattle.text_words.specs.Room.{roomOf, roomAfter};
+ghost use Rattle.known_labels.specs.Known.{labelParts};
 ghost use Rattle.text_read.specs.Parts.{joined, lineParts, sourceParts, relocationParts, keepsRelocations, frontParts, backParts, objectParts, fixedWords, restWords, debugWords, othersRoom};
 ghost use Rattle.text_read.specs.SourceText.{sourceAt, Unescapes};
 
@@ -128,15 +131,21 @@ fn keeps_relocations(sourced: bool, labels: usize) -> bool
     labels != 0
 }
 
-// The blocks and the labels.
+// The blocks and the labels, these from an array if it holds all. The windows are asked for in two places, so that their arrays are not in
+// this frame.
 fn put_front(out: &mut [u32], u: &[u8], items: &[usize], cached: Cached) -> usize
     requires { ⌜ HoldsLabels (now u) (now items) cached ⌝ }
     ensures { λ r. ⌜ PutEach (frontParts (now (u .entry))) (now (out .entry)) r (now (out .exit)) ⌝ }
 {
     let mut at = 0;
     at += put_rows(&mut out[at..], u, 0);
-    at += put_known(&mut out[at..], u, items, cached);
-    at
+    if cached.whole {
+        return at + put_cached(&mut out[at..], u, items, cached.count);
+    }
+    if at == 0 {
+        return put_labels(&mut out[at..], u);
+    }
+    at + put_labels(&mut out[at..], u)
 }
 
 // The line blocks, the source and the relocations.
@@ -239,6 +248,17 @@ pub fn text_length(s: &[u8]) -> Measured
         return Measured { number, len: 0 };
     }
     length_scanned(s, scanned)
+}
+
+// The room after the labels, from an array if it holds all.
+fn known_room(u: &[u8], items: &[usize], cached: Cached, room: usize) -> Room
+    requires { ⌜ HoldsLabels (now u) (now items) cached ⌝ }
+    ensures { λ r. ⌜ roomOf r ≡ roomAfter (labelParts (now (u .entry))) room ⌝ }
+{
+    if cached.whole {
+        return cached_room(u, items, cached.count, room);
+    }
+    labels_room(u, room)
 }
 
 // The words of an object, of which blocks, line blocks and source have so many, with its labels from an array if that holds all.

@@ -9,7 +9,7 @@ use borrow.Fn.PlainCycle.{Measures, is, falls, and}
 use Rattle.format.specs.Basics.{if_then_else_}
 use Rattle.label_cache.proofs.gather_few.Reads as gather-few-reads
 use Rattle.label_items.proofs.cached_room.Reads as cached-room-reads
-use Rattle.known_labels.proofs.KnownLaws.{room-whole, room-known}
+use Rattle.known_labels.proofs.KnownLaws.{held-room}
 use Rattle.known_labels.proofs.many_room.Reads as many-room-reads
 use Rattle.known_labels.proofs.room_by.Reads as reads
 use Rattle.known_labels.proofs.room_by.Kinds as kinds
@@ -44,8 +44,7 @@ module _ (t : ℕ) where
   returns-2 c =
       let e = c .before .before in
       let g = e .before .before .gather-few in
-      let r = g .result in
-      room-known _ (g .last .1 .0) r _ _ (g .ensures) (room-whole _ (g .last .1 .0) r _ _ (e .if2 .taken) (c .cached-room .ensures))
+      held-room _ (g .last .1 .0) (g .result) (g .ensures) (e .if2 .taken) _ _ (c .cached-room .ensures)
 
   -- no more turns after the next
   room-by-requires : lts.Need-room-by-requires claims At reads.Post

@@ -9,7 +9,6 @@ use Rattle.units.specs.Filled.{filledOf}
 use Rattle.writing.proofs.WriteLaws.{put-fills}
 use Rattle.text_words.specs.Room.{roomOf, roomAfter}
 use Rattle.known_labels.specs.Known.{labelParts}
-use Rattle.known_labels.proofs.KnownLaws.{room-known}
 use Rattle.text_read.specs.Parts.{joined, objectParts}
 use Rattle.text_read.proofs.PartLaws.{labels-lack, labels-below, kept-is, all-lack, all-left}
 use Rattle.text_read.proofs.FileLaws.{fill-lacks, fill-fits}
@@ -26,9 +25,7 @@ measures c = c .before .before .before
 labels : (c : tie.After-known-told) →
     let a = start (measures c) .args in
     some (c .before .left .given .0 .0) ≡ roomAfter (labelParts (now (a .u))) (length (now (a .out)))
-labels c =
-    let g = measures c in
-    room-known _ _ _ _ _ (start g .pre .2) (sym (ap roomOf (c .before .left .given .1)) ∙ g .known-room .ensures)
+labels c = sym (ap roomOf (c .before .left .given .1)) ∙ measures c .known-room .ensures
 
 returns : tie.Need-returns
 returns c =
@@ -39,7 +36,7 @@ returns c =
     ap (λ x. filledOf x (now (a .out))) (c .refused .ensures)
     ∙ fill-lacks _ _ (a .sourced) (a .rows) (a .fixed) (k .pre .1) (now (a .out))
     (labels-lack (now (a .u)) (a .sourced) (a .fixed) (length (now (a .out)))
-    (room-known _ _ _ _ _ (k .pre .2) (sym (ap roomOf (d .enum-told .given .1)) ∙ g .known-room .ensures)))
+    (sym (ap roomOf (d .enum-told .given .1)) ∙ g .known-room .ensures))
 
 returns-2 : tie.Need-returns-2
 returns-2 c =
@@ -80,6 +77,6 @@ returns-3 c =
 pub fill-in-spec : {M : Type 1} → statement M
 fill-in-spec =
     tie.close
-    (tie.spec (λ c κs. search needs) (λ c. search needs) (λ c. search needs) (λ c κs. search needs) returns (λ c. labels-below _ _ _ (labels c))
+    (tie.spec (λ c κs. c .before .before .before .before .pre .2) (λ c. search needs) (λ c. search needs) (λ c κs. search needs) returns (λ c. labels-below _ _ _ (labels c))
     (λ c κs. search needs) (λ c κs. search needs) (λ c. search needs) (λ c. search needs) (λ c κs. search needs) returns-2 put-object-requires
     (λ c κs. search needs) (λ c. search needs) returns-3)
