@@ -330,7 +330,16 @@ fn fill_by(
     fill_by(out, u, t, sourced, rows, fixed, true)
 }
 
-// The same; a long text often has many labels.
+// Whether a text of this length is long beside so many words of blocks, line blocks and source, which take five bytes of it or more each: it
+// often has many labels then. Either answer is right.
+fn is_long(len: usize, fixed: usize) -> bool {
+    if len / 5 < fixed {
+        return false;
+    }
+    6553 < len / 5 - fixed
+}
+
+// The same; a text that is long beside them often has many labels.
 fn fill_object(
     out: &mut [u32],
     u: &[u8],
@@ -342,7 +351,7 @@ fn fill_object(
     requires { ⌜ (sourced ≡ true → Unescapes (now t) rows) × (fixed ≡ fixedWords (now u) (now t) sourced rows) ⌝ }
     ensures { λ r. ⌜ filledOf r (now (out .exit)) ≡ fill (given (joined (objectParts (now (u .entry)) (now (t .entry)) sourced rows))) (now (out .entry)) ⌝ }
 {
-    fill_by(out, u, t, sourced, rows, fixed, 32768 <= u.len())
+    fill_by(out, u, t, sourced, rows, fixed, is_long(u.len(), fixed))
 }
 
 // The words of a text file that was scanned.
