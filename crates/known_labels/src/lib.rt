@@ -20,8 +20,8 @@ fn many_room(u: &[u8], room: usize) -> Room
     cached_room(u, &items, cached.count, room)
 }
 
-// The same, with room for few first, unless for many is asked, and once more if they are not enough. It calls itself since the arrays for many
-// are then not in its own frame.
+// The same, with room for few first, unless for many is asked, and once more if they are not enough. It calls itself so that the arrays for
+// many are not in its frame.
 fn room_by(u: &[u8], room: usize, many: bool) -> Room
     ensures { λ r. ⌜ roomOf r ≡ roomAfter (labelParts (now (u .entry))) room ⌝ }
 {

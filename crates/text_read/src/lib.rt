@@ -131,8 +131,7 @@ fn keeps_relocations(sourced: bool, labels: usize) -> bool
     labels != 0
 }
 
-// The blocks and the labels, these from an array if it holds all. The windows are asked for in two places, so that their arrays are not in
-// this frame.
+// The blocks and the labels, these from an array if it holds all. The windows are asked for in two places, so that they are not in this frame.
 fn put_front(out: &mut [u32], u: &[u8], items: &[usize], cached: Cached) -> usize
     requires { ⌜ HoldsLabels (now u) (now items) cached ⌝ }
     ensures { λ r. ⌜ PutEach (frontParts (now (u .entry))) (now (out .entry)) r (now (out .exit)) ⌝ }
@@ -250,7 +249,7 @@ pub fn text_length(s: &[u8]) -> Measured
     length_scanned(s, scanned)
 }
 
-// The room after the labels, from an array if it holds all.
+// The room after the labels, from an array if it holds all. `many_room` of `known_labels` asks for the windows too: so they are not in this frame.
 fn known_room(u: &[u8], items: &[usize], cached: Cached, room: usize) -> Room
     requires { ⌜ HoldsLabels (now u) (now items) cached ⌝ }
     ensures { λ r. ⌜ roomOf r ≡ roomAfter (labelParts (now (u .entry))) room ⌝ }
@@ -305,8 +304,8 @@ fn fill_many(
     fill_in(out, u, t, sourced, rows, fixed, &items, cached)
 }
 
-// The same, with room for few first, unless for many is asked, and once more if they are not enough. It calls itself since the arrays for many
-// are then not in its own frame.
+// The same, with room for few first, unless for many is asked, and once more if they are not enough. It calls itself so that the arrays for
+// many are not in its frame.
 fn fill_by(
     out: &mut [u32],
     u: &[u8],
