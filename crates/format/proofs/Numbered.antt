@@ -144,6 +144,13 @@ unfolding rowsUnder
 rows-numbered n columns [] h = tt
 rows-numbered n columns (l ∷ ls) h = numbered-ask n (sameCells (map trim (splitn (length columns - 1) l)) columns) _ h tt
 
+-- a table whose rows are put one after the other
+table-numbered :
+    (columns : List (List ℕ)) (one : ObjectFile → List ℕ → Outcome ObjectFile) → ((h : ObjectFile) (l : List ℕ) → Numbered (one h l))
+    → (h : ObjectFile) (ls : List (List ℕ)) → Numbered (rowsUnder 26 columns ls >>= λ rows. foldOutcome one h rows)
+table-numbered columns one row h ls =
+    numbered-bind (rowsUnder 26 columns ls) _ (rows-numbered 26 columns ls (omega arith)) λ rows. numbered-fold one row h rows
+
 symbol-row : (h : ObjectFile) (l : List ℕ) → Numbered (parseSymbolRow h l)
 unfolding parseSymbolRow
 symbol-row h l =
@@ -169,9 +176,7 @@ line-rows i (l ∷ ls) =
 
 label-table : (h : ObjectFile) (ls : List (List ℕ)) → Numbered (parseLabelTable h ls)
 unfolding parseLabelTable
-label-table h ls =
-    numbered-bind (rowsUnder 26 _ ls) _ (rows-numbered 26 _ ls (omega arith)) λ rows.
-    numbered-fold parseLabelRow label-row h rows
+label-table h ls = table-numbered _ parseLabelRow label-row h ls
 
 line-table : (h : ObjectFile) (ls : List (List ℕ)) → Numbered (parseLineTable h ls)
 unfolding parseLineTable
@@ -193,15 +198,11 @@ debug-group h (l ∷ ls) =
 
 symbol-group : (h : ObjectFile) (ls : List (List ℕ)) → Numbered (parseSymbolGroup h ls)
 unfolding parseSymbolGroup
-symbol-group h ls =
-    numbered-bind (rowsUnder 26 _ ls) _ (rows-numbered 26 _ ls (omega arith)) λ rows.
-    numbered-fold parseSymbolRow symbol-row h rows
+symbol-group h ls = table-numbered _ parseSymbolRow symbol-row h ls
 
 linker-group : (h : ObjectFile) (ls : List (List ℕ)) → Numbered (parseLinkerGroup h ls)
 unfolding parseLinkerGroup
-linker-group h ls =
-    numbered-bind (rowsUnder 26 _ ls) _ (rows-numbered 26 _ ls (omega arith)) λ rows.
-    numbered-fold parseLinkerRow linker-row h rows
+linker-group h ls = table-numbered _ parseLinkerRow linker-row h ls
 
 group : (h : ObjectFile) (g : List ℕ × List (List ℕ)) → Numbered (parseGroup h g)
 unfolding parseGroup
