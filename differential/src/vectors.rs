@@ -7,6 +7,7 @@
 //! Files: a line is `CALL INPUT NUMBER OUTPUT`. CALL is B binary read, b binary write, T text read, t text write. INPUT and OUTPUT are
 //! bytes, 2 digits each, or words; a refusal has no OUTPUT. A binary file that is written has its records in the object's order.
 use std::collections::{BTreeMap, BTreeSet};
+use std::ops::RangeInclusive;
 
 use crate::gen;
 use crate::numbers::query::{Query, Values};
@@ -142,6 +143,28 @@ const SENTENCES: [&str; 18] = [
     ".LINKER_INFO\nADDR | LABEL\n3000 | A\n.DEBUG\n=\nLINE | ADDR | SOURCE\n0 | ????\n=\n",
 ];
 
+/// Unicode's 25 White_Space characters (P6) and what stands beside each, with x180E, x200B and xFEFF.
+const BESIDE_WHITE_SPACE: [RangeInclusive<u32>; 12] = [
+    0x8..=0xE,
+    0x1F..=0x21,
+    0x84..=0x86,
+    0x9F..=0xA1,
+    0x167F..=0x1681,
+    0x180E..=0x180E,
+    0x1FFF..=0x200B,
+    0x2027..=0x202A,
+    0x202E..=0x2030,
+    0x205E..=0x2060,
+    0x2FFF..=0x3001,
+    0xFEFF..=0xFEFF,
+];
+
+/// Of each of these two texts: trimmed at both ends or 21, a blank line or 22.
+fn white_space_texts() -> impl Iterator<Item = String> {
+    let characters = BESIDE_WHITE_SPACE.into_iter().flatten().filter_map(char::from_u32);
+    characters.flat_map(|c| [format!("{c}LC-3 OBJ FILE{c}"), format!("LC-3 OBJ FILE\n{c}\n")])
+}
+
 /// The list of files of one form; the same for every run.
 fn files(read: (char, fn(&mut Prng) -> Vec<u8>, fn(&[u8]) -> Answer<Vec<u32>>), write: (char, fn(&Object) -> Answer<Vec<u8>>)) {
     let mut r = Prng::new(7);
@@ -176,4 +199,9 @@ pub fn text() {
         sentences.fills(&mut r, 'T', (&file, bytes), &reference::read_text(&file), words);
     }
     sentences.print();
+    for text in white_space_texts() {
+        let mut one = Kept::default();
+        one.fills(&mut r, 'T', (text.as_bytes(), bytes), &reference::read_text(text.as_bytes()), words);
+        one.print();
+    }
 }

@@ -21,6 +21,7 @@ pub mod BinaryFair
 pub mod ListFacts
 pub mod NumeralBack
 pub mod Utf8Laws
+pub mod WhiteSpaceLaws
 pub mod TrimLaws
 pub mod EscapeLaws
 pub mod LineLaws

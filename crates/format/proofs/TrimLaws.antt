@@ -6,7 +6,7 @@ use mathlib.Core.Option.{Option, none, some}
 use Prim.Native.Nat.{ℕ, zero, suc, _+_, _/_, _%_, _≤_, _<_}
 use native.Mathlib.Omega.{arith}
 use lib.ListN.{length, replicate}
-use borrow.Author.Tests.{le-leb, lt-leb, ne-eqb, not-true}
+use borrow.Author.Tests.{ne-eqb, not-true}
 use Rattle.format.specs.Basics.{if_then_else_, isEmpty, every, All}
 use Rattle.format.specs.Utf8.{encodeScalar, charAt, scalars, isWhiteSpace, whiteSpaceLength, passOver, trimFrom, trimStart, isBlank, trimEnd, trim}
 use Rattle.format.specs.Fair.{noWhiteSpace}
@@ -14,6 +14,7 @@ use Rattle.format.specs.TextWriter.{spaces}
 use Rattle.format.proofs.ListLaws.{all-every}
 use Rattle.format.proofs.NumeralBack.{Numeric}
 use Rattle.format.proofs.Utf8Laws.{Scalar, Text, by-size, char-ascii, char-one, char-middle, char-2, char-3, char-4, char-reads, scalars-of}
+use Rattle.format.proofs.WhiteSpaceLaws.{below, above, white-last}
 use Rattle.format.proofs.TextLaws.{OneLine}
 
 -- no White_Space begins at any byte
@@ -26,12 +27,13 @@ abbrev pub Visible : ℕ → Type 0
 Visible b = (0x21 ≤ b) × (b < 0x7F)
 
 pub visible-not-white : (c : ℕ) → Visible c → isWhiteSpace c ≡ false
-unfolding isWhiteSpace
 visible-not-white c v =
     let h : 0x21 ≤ c = v .0 in
     let l : c < 0x7F = v .1 in
-    rw
-    (le-leb 9 c (omega arith), lt-leb c 13 (omega arith), ne-eqb c 0x20 (λ e. omega arith), ne-eqb c 0x85 (λ e. omega arith), ne-eqb c 0xA0 (λ e. omega arith), ne-eqb c 0x1680 (λ e. omega arith), lt-leb 0x2000 c (omega arith), ne-eqb c 0x2028 (λ e. omega arith), ne-eqb c 0x2029 (λ e. omega arith), ne-eqb c 0x202F (λ e. omega arith), ne-eqb c 0x205F (λ e. omega arith), ne-eqb c 0x3000 (λ e. omega arith))
+    sym
+    (white-last c (above 0x9 0xD c (omega arith)) (λ e. omega arith) (λ e. omega arith) (λ e. omega arith) (λ e. omega arith)
+    (below 0x2000 0x200A c (omega arith)) (λ e. omega arith) (λ e. omega arith) (λ e. omega arith) (λ e. omega arith))
+    ∙ ne-eqb c 0x3000 (λ e. omega arith)
 
 pub visible-first : (b : ℕ) (bs : List ℕ) → Visible b → whiteSpaceLength (charAt (b ∷ bs)) ≡ 0
 visible-first b bs v = rw (char-one b bs (omega (arith, v .1)), visible-not-white b v)

@@ -2,7 +2,7 @@
 use mathlib.Core.Bool.{Bool, true, false, _&&_}
 use mathlib.Core.List.{List, [], _∷_, flatMap}
 use mathlib.Core.Option.{Option, none, some}
-use Prim.Native.Nat.{ℕ}
+use Prim.Native.Nat.{ℕ, zero, suc}
 use Prim.Native.Char.{code}
 use Prim.Native.String.{String, [] as []ˢ, _∷_ as _∷ˢ_}
 use lib.Dec.{eqb}
@@ -76,6 +76,11 @@ module _ {A : Type 0} where
   chain r (x ∷ []) = true
   chain r (x ∷ y ∷ zs) = r x y && chain r (y ∷ zs)
 
+-- how many of the numbers below n pass the test
+unfoldable pub howMany : (ℕ → Bool) → ℕ → ℕ
+howMany p zero = 0
+howMany p (suc n) = if p n then suc (howMany p n) else howMany p n
+
 -- all of them, or none
 unfoldable pub allSome : {A B : Type 0} → (A → Option B) → List A → Option (List B)
 allSome f [] = some []
@@ -101,5 +106,5 @@ All P (x ∷ xs) = P x × All P xs
 
 -- Named on an `unfolding` line, it opens every definition of this module, and the library's `flatMap`; each module ends with its own.
 unfoldable pub open-Basics : Unit {0}
-unfolding isSome ascii isEmpty every keep chain allSome eqs beginsWith flatMap
+unfolding isSome ascii isEmpty every keep chain howMany allSome eqs beginsWith flatMap
 open-Basics = tt

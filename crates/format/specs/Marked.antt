@@ -1,8 +1,10 @@
--- The cases that document 01 marks M: one named row each, in one table that one proposition covers. Assumes nothing.
+-- The cases that document 01 marks M, and of document 02's requests those that no theorem sees: one named row each, in one table that one
+-- proposition covers. Assumes nothing.
 use mathlib.Core.Path.{_≡_}
 use mathlib.Core.List.{List, [], _∷_, _++_}
 use Prim.Native.Nat.{ℕ}
-use Rattle.format.specs.Basics.{Outcome, refused, given, _>>=_, ascii, All}
+use Rattle.format.specs.Basics.{Outcome, refused, given, _>>=_, ascii, keep, All}
+use Rattle.format.specs.Utf8.{isWhiteSpace}
 use Rattle.format.specs.Words.{objectOf}
 use Rattle.format.specs.Calls.{writeBinary, readBinary, readText, bin2text}
 
@@ -12,6 +14,7 @@ pub data Case : Type 0 where
   reads-binary : List ℕ → Outcome (List ℕ) → Case
   reads-text : List ℕ → Outcome (List ℕ) → Case
   prints : List ℕ → List ℕ → Case
+  white-space-of : List ℕ → List ℕ → Case
 
 -- binary write with labels and relocations in the object's own order: the only one where there is one of each
 unfoldable pub writeInOrder : List ℕ → Outcome (List ℕ)
@@ -23,6 +26,7 @@ Holds (writes-binary ws o) = writeInOrder ws ≡ o
 Holds (reads-binary bs o) = readBinary bs ≡ o
 Holds (reads-text bs o) = readText bs ≡ o
 Holds (prints bs out) = bin2text 65536 16384 65536 bs ≡ out
+Holds (white-space-of cs ws) = keep isWhiteSpace cs ≡ ws
 
 -- the 18 words of "A holding in three dresses", with their relocation word
 abbrev pub words18 : ℕ → List ℕ
@@ -127,11 +131,21 @@ lines-1-and-3 =
 abbrev pub lines-1-and-2 : Case
 lines-1-and-2 = reads-binary (header7 ++ twoLines 1 ++ twoLines 2) (refused 15)
 
+-- P6, which 25 they are, as no count shows: Unicode's list, out of it and what stands beside each, with x180E, x200B and xFEFF
+abbrev pub white-space : Case
+white-space =
+    white-space-of
+    (0x8 ∷ 0x9 ∷ 0xA ∷ 0xB ∷ 0xC ∷ 0xD ∷ 0xE ∷ 0x1F ∷ 0x20 ∷ 0x21 ∷ 0x84 ∷ 0x85 ∷ 0x86 ∷ 0x9F ∷ 0xA0 ∷ 0xA1 ∷ 0x167F ∷ 0x1680 ∷ 0x1681
+    ∷ 0x180E ∷ 0x1FFF ∷ 0x2000 ∷ 0x2001 ∷ 0x2002 ∷ 0x2003 ∷ 0x2004 ∷ 0x2005 ∷ 0x2006 ∷ 0x2007 ∷ 0x2008 ∷ 0x2009 ∷ 0x200A ∷ 0x200B
+    ∷ 0x2027 ∷ 0x2028 ∷ 0x2029 ∷ 0x202A ∷ 0x202E ∷ 0x202F ∷ 0x2030 ∷ 0x205E ∷ 0x205F ∷ 0x2060 ∷ 0x2FFF ∷ 0x3000 ∷ 0x3001 ∷ 0xFEFF ∷ [])
+    (0x9 ∷ 0xA ∷ 0xB ∷ 0xC ∷ 0xD ∷ 0x20 ∷ 0x85 ∷ 0xA0 ∷ 0x1680 ∷ 0x2000 ∷ 0x2001 ∷ 0x2002 ∷ 0x2003 ∷ 0x2004 ∷ 0x2005 ∷ 0x2006
+    ∷ 0x2007 ∷ 0x2008 ∷ 0x2009 ∷ 0x200A ∷ 0x2028 ∷ 0x2029 ∷ 0x202F ∷ 0x205F ∷ 0x3000 ∷ [])
+
 -- THE TABLE
 abbrev pub marked : List Case
 marked =
     words-to-bytes ∷ bytes-to-words ∷ printing ∷ header-alone ∷ six-header-bytes ∷ equal-addresses-binary ∷ equal-addresses-text
-    ∷ block-twice-binary ∷ block-twice-text ∷ flag-01 ∷ plus-0FF ∷ one-bar ∷ lines-1-and-3 ∷ lines-1-and-2 ∷ []
+    ∷ block-twice-binary ∷ block-twice-text ∷ flag-01 ∷ plus-0FF ∷ one-bar ∷ lines-1-and-3 ∷ lines-1-and-2 ∷ white-space ∷ []
 
 abbrev pub MarkedHold : Type 0  -- "gathered in a table that one proposition covers"
 MarkedHold = All Holds marked

@@ -2,6 +2,7 @@
 ghost use mathlib.Core.Path.{_≡_};
 ghost use Rattle.format.specs.Calls.{checked, queryCountLines, queryRawLineSpan, queryLineSpan, queryPosPair, queryGet, queryFind};
 ghost use Rattle.format.specs.Calls.{fairAnswer, measured, readBinary, ReadsBinary, WritesBinary, readText, ReadsText, WritesText};
+ghost use Rattle.format.specs.Utf8.{isWhiteSpace};
 ghost use Rattle.format.specs.Words.{objectOf};
 ghost use Rattle.runs.specs.Answers.{valueOf, spanOf, positionOf, fairOf, measuredOf, filledOf};
 use binary_format::BinaryFormat;
@@ -52,6 +53,14 @@ pub struct Filled {
 pub struct Fair {
     pub number: u8,
     pub fair: bool,
+}
+
+// Is the number a White_Space character?
+#[no_mangle]
+pub extern "C" fn runs_is_white_space(c: u32) -> bool
+    ensures { λ r. ⌜ r ≡ isWhiteSpace c ⌝ }
+{
+    trim::is_white_space(c)
 }
 
 // Is the object well formed?

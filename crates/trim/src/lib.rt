@@ -2,7 +2,7 @@
 ghost use mathlib.Core.Path.{_≡_};
 ghost use Prim.Native.Nat.{_≤_};
 ghost use lib.ListN.{length, take, drop};
-ghost use Rattle.format.specs.Utf8.{isWhiteSpace, trimStart, trimEnd, trim, isBlank};
+ghost use Rattle.format.specs.Utf8.{isBetween, isWhiteSpace, trimStart, trimEnd, trim, isBlank};
 ghost use Rattle.trim.specs.Span.{part, clipped, trimStartSpan, trimEndSpan, trimSpan, Trimmed};
 ghost use Rattle.trim.specs.WhiteSpace.{shownWhite, whiteAt, endsWhite, whiteBefore};
 use utf8::Char;
@@ -13,16 +13,51 @@ pub struct Span {
     pub end: usize,
 }
 
-// The Unicode property White_Space.
+// Whether a number lies between two, both included.
+fn is_between(low: u32, high: u32, x: u32) -> bool
+    ensures { λ r. ⌜ r ≡ isBetween low high x ⌝ }
+{
+    if x < low {
+        return false;
+    }
+    x <= high
+}
+
+// The Unicode property White_Space, by comparisons: those of its definition, in their order, with no list behind them.
 pub fn is_white_space(c: u32) -> bool
     ensures { λ r. ⌜ r ≡ isWhiteSpace c ⌝ }
 {
-    match c {
-        0x20 | 0x85 | 0xA0 | 0x1680 | 0x2028 | 0x2029 | 0x202F | 0x205F | 0x3000 => true,
-        0x9..=0xD => true,
-        0x2000..=0x200A => true,
-        _ => false,
+    if is_between(0x9, 0xD, c) {
+        return true;
     }
+    if c == 0x20 {
+        return true;
+    }
+    if c == 0x85 {
+        return true;
+    }
+    if c == 0xA0 {
+        return true;
+    }
+    if c == 0x1680 {
+        return true;
+    }
+    if is_between(0x2000, 0x200A, c) {
+        return true;
+    }
+    if c == 0x2028 {
+        return true;
+    }
+    if c == 0x2029 {
+        return true;
+    }
+    if c == 0x202F {
+        return true;
+    }
+    if c == 0x205F {
+        return true;
+    }
+    c == 0x3000
 }
 
 // What stands at a byte of ASCII from the space up to `~`, by that byte alone: 1 byte of White_Space, or 0; 4 of other bytes.
