@@ -82,6 +82,9 @@ numbers/query.rs@s/out.push((start, i + 1))/out.push((start, i))/
 numbers/query.rs@s/n.checked_sub(\*first)?/n.checked_sub(*first)?.saturating_sub(1)/
 numbers/utf8.rs@s/| 0x85 | 0xA0/| 0xA0/
 numbers/utf8.rs@s/| 0x205F | 0x3000/| 0x3000/
+numbers/utf8.rs@s/| 0x1680 /| 0x1680 | 0x180E /
+numbers/utf8.rs@s/0x2000..=0x200A/0x2000..=0x200B/
+numbers/utf8.rs@s/0x2000..=0x200A/0x2001..=0x200A/
 numbers/utf8.rs@s/0xED => (3, 0x80, 0x9F)/0xED => (3, 0x80, 0xBF)/
 numbers/utf8.rs@s/0xF4 => (4, 0x80, 0x8F)/0xF4 => (4, 0x80, 0xBF)/
 object.rs@s/line_end(l) <= last_line/line_end(l) <= last_line + 1/

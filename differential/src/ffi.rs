@@ -58,6 +58,8 @@ pub const LINKED: &[&str] = &[
     "text",
     #[cfg(feature = "fair")]
     "fair",
+    #[cfg(feature = "white_space")]
+    "white_space",
     #[cfg(feature = "host")]
     "host",
 ];
@@ -73,6 +75,8 @@ pub fn calls() -> Calls {
         text: Some(text::CALLS),
         #[cfg(feature = "fair")]
         is_fair: Some(fair::is_fair),
+        #[cfg(feature = "white_space")]
+        is_white_space: Some(white_space::is_white_space),
         #[cfg(feature = "host")]
         host: Some(host::CALLS),
         ..Calls::default()
@@ -175,6 +179,19 @@ mod fair {
         // SAFETY: start and count are those of a slice, which the call reads.
         let f = unsafe { runs_is_fair(object.as_ptr(), object.len()) };
         (f.number, f.fair)
+    }
+}
+
+#[cfg(feature = "white_space")]
+mod white_space {
+    extern "C" {
+        /// A C bool, taken as the byte that it is: any but 0 and 1 shows.
+        fn runs_is_white_space(number: u32) -> u8;
+    }
+
+    pub fn is_white_space(number: u32) -> u8 {
+        // SAFETY: the call takes any number, and touches no memory of ours.
+        unsafe { runs_is_white_space(number) }
     }
 }
 

@@ -23,6 +23,7 @@ pub enum Call {
     TextLength,
     TextRead,
     TextWrite,
+    IsWhiteSpace,
     /// The host's.
     HostBinary,
     HostText,
@@ -54,7 +55,7 @@ impl Call {
             Call::TextLength | Call::HostText => &[0, 20, 21, 22, 23, 24, 25, 26, 27, 28, 29, 30, 31],
             Call::TextRead => &[0, 3, 20, 21, 22, 23, 24, 25, 26, 27, 28, 29, 30, 31],
             Call::TextWrite => &[0, 1, 3],
-            Call::HostPosition => &[0],
+            Call::IsWhiteSpace | Call::HostPosition => &[0],
         }
     }
 }
@@ -82,6 +83,8 @@ pub struct Table {
     /// Which of the two is counted.
     pub at_random: bool,
     objects: BTreeMap<&'static str, u64>,
+    /// How many of all the numbers below x110000 are White_Space by the call under test, where each was asked.
+    pub white_spaces: Option<u64>,
     pub differences: u64,
     told: Vec<String>,
 }
@@ -93,25 +96,36 @@ impl Table {
     }
 
     pub fn case(&mut self, call: Call, excluded: Option<(Excluded, &'static str)>) {
+        self.cases(call, 1, excluded);
+    }
+
+    /// So many cases at once, all in the runs or all excluded for one reason.
+    pub fn cases(&mut self, call: Call, many: u64, excluded: Option<(Excluded, &'static str)>) {
         let row = self.row(call);
-        row.cases += 1;
+        row.cases += many;
         if let Some(why) = excluded {
-            *row.excluded.entry(why).or_default() += 1;
+            *row.excluded.entry(why).or_default() += many;
         }
     }
 
     pub fn call(&mut self, call: Call, number: u8) {
-        *self.row(call).numbers.entry(number).or_default() += 1;
+        self.calls(call, 1, number);
     }
 
-    pub fn differs(&mut self, call: Call, input: &str, what: &str) {
+    /// So many calls at once.
+    pub fn calls(&mut self, call: Call, many: u64, number: u8) {
+        *self.row(call).numbers.entry(number).or_default() += many;
+    }
+
+    /// The words are asked for only where they are told: a wrong call may differ 2^32 times.
+    pub fn differs(&mut self, call: Call, input: &dyn Fn() -> String, what: &dyn Fn() -> String) {
         self.differences += 1;
         if self.told.len() < TOLD {
-            let cut = |s: &str| match s.char_indices().nth(CUT) {
+            let cut = |s: String| match s.char_indices().nth(CUT) {
                 Some((at, _)) => format!("{} (cut)", &s[..at]),
-                None => s.to_string(),
+                None => s,
             };
-            self.told.push(format!("{call:?} of {}: {}", cut(input), cut(what)));
+            self.told.push(format!("{call:?} of {}: {}", cut(input()), cut(what())));
         }
     }
 
@@ -160,16 +174,16 @@ impl Table {
 
     pub fn print(&self) {
         for (name, rows) in [("short and large inputs", &self.fixed), ("random inputs", &self.random)] {
-            println!("{name}\n{:<15} {:>9} {:>9} {:>9}  calls by number", "call", "cases", "calls", "accepted");
+            println!("{name}\n{:<15} {:>10} {:>10} {:>9}  calls by number", "call", "cases", "calls", "accepted");
             for (call, row) in rows {
                 let (accepted, made) = row.accepted();
                 if made == 0 {
-                    println!("{:<15} {:>9}  not linked: the crate and the numbers alone", format!("{call:?}"), row.cases);
+                    println!("{:<15} {:>10}  not linked: the crate and the numbers alone", format!("{call:?}"), row.cases);
                     continue;
                 }
                 let share = 100.0 * accepted as f64 / made as f64;
                 let numbers: Vec<String> = row.numbers.iter().map(|(n, k)| format!("{n}: {k}")).collect();
-                println!("{:<15} {:>9} {made:>9} {share:>8.1}%  {}", format!("{call:?}"), row.cases, numbers.join(", "));
+                println!("{:<15} {:>10} {made:>10} {share:>8.1}%  {}", format!("{call:?}"), row.cases, numbers.join(", "));
             }
             println!();
         }
@@ -186,6 +200,9 @@ impl Table {
         println!("\nobjects by what they have");
         for (name, k) in &self.objects {
             println!("  {name}: {k}");
+        }
+        if let Some(yes) = self.white_spaces {
+            println!("\nWhite_Space among all numbers below x110000, by the call under test: {yes}");
         }
         println!("\ndifferences: {}", self.differences);
         for line in &self.told {

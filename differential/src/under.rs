@@ -48,6 +48,8 @@ pub struct Calls {
     pub text: Option<Form>,
     /// Number, and 1 if fair.
     pub is_fair: Option<fn(&[u32]) -> (u8, u8)>,
+    /// 1 for White_Space, of any number.
+    pub is_white_space: Option<fn(u32) -> u8>,
     pub host: Option<Host>,
 }
 
@@ -57,7 +59,7 @@ pub struct Plan {
     pub seed: u64,
     /// Random cases of each call.
     pub cases: u64,
-    /// How far short inputs are tried in full; None also leaves out the large cases.
+    /// How far short inputs, and numbers for White_Space, are tried in full; None also leaves out the large cases.
     pub depth: Depth,
     /// Objects with a line block too long for a binary file, for that write alone; each has over 65,535 words.
     pub long: u64,
@@ -80,6 +82,9 @@ impl Element for u32 {
     }
 }
 
+/// How many numbers are White_Space: request P6's law.
+const WHITE_SPACES: u64 = 25;
+
 /// Elements on both sides of a lent buffer, which nothing may touch.
 const AROUND: usize = 4;
 
@@ -89,22 +94,34 @@ struct Run<'a> {
     rng: Prng,
     /// For buffers alone, so that the cases are the same whatever is linked.
     buffers: Prng,
+    /// For White_Space alone, so that the cases of the other calls are what they are without it.
+    white: Prng,
 }
 
 impl Run<'_> {
     /// Counts a case, and a difference between the reference's own two sides.
     fn case<T>(&mut self, call: Call, input: &dyn Fn() -> String, want: &Answer<T>) {
         self.table.case(call, want.excluded.map(|why| (why, want.crate_did)));
+        self.sides(call, input, want);
+    }
+
+    /// A difference between the reference's own two sides.
+    fn sides<T>(&mut self, call: Call, input: &dyn Fn() -> String, want: &Answer<T>) {
         if let Some(what) = &want.difference {
-            self.table.differs(call, &input(), what);
+            self.table.differs(call, input, &|| what.clone());
         }
     }
 
     /// Counts a call, and a difference.
     fn call<T: PartialEq + std::fmt::Debug>(&mut self, call: Call, input: &dyn Fn() -> String, number: u8, want: T, got: T) {
         self.table.call(call, number);
+        self.ours(call, input, want, got);
+    }
+
+    /// A difference between ours and the reference.
+    fn ours<T: PartialEq + std::fmt::Debug>(&mut self, call: Call, input: &dyn Fn() -> String, want: T, got: T) {
         if got != want {
-            self.table.differs(call, &input(), &format!("wanted {want:?}, got {got:?}"));
+            self.table.differs(call, input, &|| format!("wanted {want:?}, got {got:?}"));
         }
     }
 
@@ -141,10 +158,10 @@ impl Run<'_> {
             self.call(call, &|| format!("{} with room for {room}", input()), told.0, told, got);
             let end = AROUND + filled.len();
             if got == told && !filled.is_empty() && order(&after[AROUND..end]) != filled {
-                self.table.differs(call, &input(), &format!("room for {room}: what was filled"));
+                self.table.differs(call, input, &|| format!("room for {room}: what was filled"));
             }
             if after[..AROUND] != before[..AROUND] || after[end..] != before[end..] {
-                self.table.differs(call, &input(), &format!("room for {room}: what was to be left alone"));
+                self.table.differs(call, input, &|| format!("room for {room}: what was to be left alone"));
             }
         }
     }
@@ -254,7 +271,48 @@ impl Run<'_> {
         }
     }
 
-    /// Objects too long for a binary file, inputs with many records; the cases marked M, short inputs in full, and the large cases.
+    /// White_Space of each of the numbers, counted at once, since there may be 2^32. How many got a yes from ours.
+    fn white_space(&mut self, numbers: impl IntoIterator<Item = u32>) -> u64 {
+        let call = Call::IsWhiteSpace;
+        let (mut cases, mut yes) = (0, 0);
+        let (mut out, mut why) = (0, None); // of this call there is one reason
+        for n in numbers {
+            let input = || format!("x{n:X}");
+            let want = reference::is_white_space(n);
+            self.sides(call, &input, &want);
+            cases += 1;
+            if want.excluded.is_some() {
+                out += 1;
+                why = want.excluded.map(|why| (why, want.crate_did));
+            }
+            if let Some(ask) = self.calls.is_white_space {
+                let got = ask(n);
+                yes += u64::from(got != 0);
+                self.ours(call, &input, u8::from(want.value == Some(true)), got);
+            }
+        }
+        self.table.cases(call, cases - out, None);
+        self.table.cases(call, out, why);
+        if self.calls.is_white_space.is_some() {
+            self.table.calls(call, cases, 0);
+        }
+        yes
+    }
+
+    /// White_Space of every number below x110000, of which exactly 25 may get a yes; and of those beyond, all or some.
+    fn white_space_in_full(&mut self, depth: Depth) {
+        let yes = self.white_space(0..0x11_0000);
+        if self.calls.is_white_space.is_some() {
+            self.table.white_spaces = Some(yes);
+            self.ours(Call::IsWhiteSpace, &|| "all numbers below x110000, how many are".into(), WHITE_SPACES, yes);
+        }
+        match depth {
+            Depth::Full => self.white_space(0x11_0000..=u32::MAX),
+            _ => self.white_space(gen::white::beyond()),
+        };
+    }
+
+    /// Objects too long for a binary file, inputs with many records; the cases marked M, short inputs in full, the large cases, numbers.
     fn fixed(&mut self, plan: &Plan) {
         for _ in 0..plan.long {
             let p = gen::edges::long_line_block(&mut self.rng);
@@ -286,6 +344,7 @@ impl Run<'_> {
         for (_, p) in gen::edges::objects() {
             self.object(encode(&p));
         }
+        self.white_space_in_full(plan.depth);
     }
 
     /// One random case of each call.
@@ -296,11 +355,14 @@ impl Run<'_> {
         self.text_file(&file);
         let words = gen::object::case(&mut self.rng);
         self.object(words);
+        let number = gen::white::case(&mut self.white);
+        self.white_space([number]);
     }
 }
 
 pub fn run(calls: &Calls, plan: &Plan) -> Table {
-    let mut run = Run { calls, table: Table::default(), rng: Prng::new(plan.seed), buffers: Prng::new(!plan.seed) };
+    let (rng, buffers, white) = (Prng::new(plan.seed), Prng::new(!plan.seed), Prng::new(plan.seed.reverse_bits()));
+    let mut run = Run { calls, table: Table::default(), rng, buffers, white };
     run.fixed(plan);
     run.table.at_random = true;
     for _ in 0..plan.cases {
@@ -313,6 +375,7 @@ pub fn run(calls: &Calls, plan: &Plan) -> Table {
 pub mod paper {
     use super::{Calls, Filled, Form, Host, Queries};
     use crate::numbers::query::{ask, get_pos_pair, Query};
+    use crate::numbers::utf8::is_white;
     use crate::numbers::{binary, text, text_write, Outcome};
     use crate::object::{decode, encode, fair};
     use crate::parts::Parts;
@@ -356,6 +419,7 @@ pub mod paper {
             write: |w, out| written(w, |p| Outcome::Given(text_write::write(p)), out),
         }),
         is_fair: Some(|w| decode(w).map_or((1, 0), |p| (0, fair(&p).into()))),
+        is_white_space: Some(|n| is_white(n).into()),
         host: Some(Host { binary_length: |f| length(binary::read(f)), text_length: |f| length(text::read(f)), get_pos_pair }),
     };
 }

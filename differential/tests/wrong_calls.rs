@@ -7,11 +7,13 @@ use lc3_differential::under::{paper, run, Calls, Form, Host, Plan, Queries};
 use lc3_differential::{rust, stack};
 
 const FEW: Plan = Plan { seed: 5, cases: 2000, depth: Depth::None, long: 0, many: 0 };
+const FIXED: Plan = Plan { cases: 0, depth: Depth::Quick, ..FEW };
 
 const BINARY: Form = paper::CALLS.binary.unwrap();
 const TEXT: Form = paper::CALLS.text.unwrap();
 const QUERIES: Queries = paper::CALLS.queries.unwrap();
 const HOST: Host = paper::CALLS.host.unwrap();
+const WHITE: fn(u32) -> u8 = paper::CALLS.is_white_space.unwrap();
 
 fn binary(form: Form) -> Calls {
     Calls { binary: Some(form), ..Calls::default() }
@@ -25,6 +27,9 @@ fn query(f: fn(&[u32], Query) -> (u8, u64, u64)) -> Calls {
 fn host(host: Host) -> Calls {
     Calls { host: Some(host), ..Calls::default() }
 }
+fn white_space(f: fn(u32) -> u8) -> Calls {
+    Calls { is_white_space: Some(f), ..Calls::default() }
+}
 
 #[test]
 fn no_difference_in_the_numbers() {
@@ -36,7 +41,7 @@ fn no_difference_in_the_numbers() {
 #[test]
 fn wrong_calls_are_found() {
     rust::quiet();
-    let wrong: [(&str, Calls); 17] = [
+    let wrong: [(&str, Calls); 28] = [
         ("a reader that refuses all", binary(Form { read: |_, _| (10, 0), ..BINARY })),
         ("a length told over untouched buffers", text(Form { write: |w, out| (TEXT.write)(w, &mut out.to_vec()), ..TEXT })),
         (
@@ -159,10 +164,35 @@ fn wrong_calls_are_found() {
         ),
         ("a check that says yes to all", Calls { queries: Some(Queries { check: |_| 0, ..QUERIES }), ..Calls::default() }),
         ("a test that says fair of all", Calls { is_fair: Some(|w| ((QUERIES.check)(w), 1 - (QUERIES.check)(w))), ..Calls::default() }),
+        ("x180E too, which was White_Space once", white_space(|n| WHITE(n) | u8::from(n == 0x180E))),
+        ("x200B too, a space without width", white_space(|n| WHITE(n) | u8::from(n == 0x200B))),
+        ("xFEFF too, once a space that breaks no line", white_space(|n| WHITE(n) | u8::from(n == 0xFEFF))),
+        ("x85 left out", white_space(|n| WHITE(n) & u8::from(n != 0x85))),
+        ("x3000 left out", white_space(|n| WHITE(n) & u8::from(n != 0x3000))),
+        ("x86 in place of x85", white_space(|n| WHITE(if n == 0x85 || n == 0x86 { n ^ 3 } else { n }))),
+        ("a test on the low 16 bits alone", white_space(|n| WHITE(n & 0xFFFF))),
+        ("a test on the low 24 bits alone", white_space(|n| WHITE(n & 0xFF_FFFF))),
+        ("a test that says White_Space of all", white_space(|_| 1)),
+        ("a test that says White_Space of none", white_space(|_| 0)),
+        ("a yes that isn't 1", white_space(|n| 2 * WHITE(n))),
     ];
     for (name, calls) in wrong {
         assert!(run(&calls, &FEW).differences > 0, "{name}");
     }
+}
+
+/// Faults that only a look at all numbers shows: one more or fewer differs by itself and by the count, one in place of another twice.
+#[test]
+fn one_number_of_all_is_found() {
+    rust::quiet();
+    let differ = |f: fn(u32) -> u8| {
+        let table = run(&white_space(f), &FIXED);
+        (table.differences, table.white_spaces)
+    };
+    assert_eq!(differ(WHITE), (0, Some(25)));
+    assert_eq!(differ(|n| WHITE(n) | u8::from(n == 0x1_D173)), (2, Some(26)));
+    assert_eq!(differ(|n| WHITE(n) & u8::from(n != 0x2007)), (2, Some(24)));
+    assert_eq!(differ(|n| WHITE(if n == 0x2007 || n == 0xE_0020 { n ^ 0xE_2027 } else { n })), (2, Some(25)));
 }
 
 /// A refused call, or one that fills wrong, isn't measured for a sound one; and a deep one is a failure where that is asked for.

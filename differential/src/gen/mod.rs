@@ -1,4 +1,4 @@
-//! Cases: random well formed objects, the files of such, damaged copies, and short inputs in full.
+//! Cases: random well formed objects, the files of such, damaged copies, short inputs in full, and numbers.
 
 pub mod binary;
 pub mod edges;
@@ -7,6 +7,7 @@ pub mod object;
 pub mod query;
 pub mod short;
 pub mod text;
+pub mod white;
 
 use crate::prng::Prng;
 

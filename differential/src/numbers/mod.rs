@@ -32,6 +32,8 @@ pub enum Excluded {
     IllFormed,
     /// A label over 65,535 bytes in a text write: the crate panics.
     WideColumn,
+    /// White_Space of a number that is no scalar value: the Rust takes a char.
+    NotScalar,
     /// `find` of an address that a block has more than once: the crate may name another of them.
     EqualNeighbours,
 }
