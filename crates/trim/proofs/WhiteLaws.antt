@@ -1,13 +1,13 @@
 -- White_Space by comparisons. Assumes nothing.
-use mathlib.Core.Path.{_≡_, sym, _∙_}
+use mathlib.Core.Path.{_≡_, sym, ap, _∙_}
 use mathlib.Core.Bool.{true, false}
 use mathlib.Core.Logic.{_⊎_, inl, inr}
 use Prim.Native.Nat.{ℕ}
 use native.Mathlib.Omega.{arith}
-use lib.Dec.{leb}
-use borrow.Author.Tests.{ne-eqb, leb-true}
+use lib.Dec.{leb, eqb}
+use borrow.Author.Tests.{ne-eqb, leb-true, eqb-true, eqb-false}
 use Rattle.format.specs.Utf8.{isBetween, isWhiteSpace}
-use Rattle.format.proofs.ListLaws.{both}
+use Rattle.format.proofs.ListLaws.{by-test, both}
 use Rattle.format.proofs.WhiteSpaceLaws.{white-last}
 pub use Rattle.format.proofs.WhiteSpaceLaws.{below, above}
 
@@ -32,6 +32,15 @@ module _ (x : ℕ) where
         ne-eqb x 0x1680 (λ e. omega arith),
         e,
       )
+
+  -- the line and paragraph separators, tested as a range
+  pub white-lines : isBetween 0x2028 0x2029 x ≡ true → true ≡ isWhiteSpace x
+  unfolding isWhiteSpace
+  white-lines e =
+      let h = both (leb 0x2028 x) (leb x 0x2029) e in
+      by-test (eqb x 0x2028) (λ t. sym (ap isWhiteSpace (eqb-true x 0x2028 t)))
+      (λ t. let l : x ≡ 0x2029 = omega (arith, leb-true 0x2028 x (h .0), leb-true x 0x2029 (h .1), eqb-false x 0x2028 t) in
+      sym (ap isWhiteSpace l))
 
   pub white-not :
       (Alone x → ⊥) → isBetween 0x9 0xD x ≡ false → isBetween 0x2000 0x200A x ≡ false → (x ≡ 0x2028 → ⊥) → (x ≡ 0x2029 → ⊥)

@@ -23,7 +23,8 @@ fn is_between(low: u32, high: u32, x: u32) -> bool
     x <= high
 }
 
-// The Unicode property White_Space, by comparisons: those of its definition, in their order, with no list behind them.
+// The Unicode property White_Space, by comparisons: those of its definition, in their order, with no list behind them. U+2028 and U+2029
+// are one test, since four single ones so close are compiled to a mask with a bit for each.
 pub fn is_white_space(c: u32) -> bool
     ensures { λ r. ⌜ r ≡ isWhiteSpace c ⌝ }
 {
@@ -45,10 +46,7 @@ pub fn is_white_space(c: u32) -> bool
     if is_between(0x2000, 0x200A, c) {
         return true;
     }
-    if c == 0x2028 {
-        return true;
-    }
-    if c == 0x2029 {
+    if is_between(0x2028, 0x2029, c) {
         return true;
     }
     if c == 0x202F {

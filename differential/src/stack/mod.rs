@@ -90,6 +90,11 @@ impl Measured {
             let fair = given(object.is_fair())?;
             self.call("runs_is_fair", (0, fair.into()), || is_fair(words))?;
         }
+        if let Some(is_white_space) = calls.is_white_space {
+            let last = 0x3000; // of its tests
+            let white = given(reference::is_white_space(last))?;
+            self.call("runs_is_white_space", white.into(), || is_white_space(last))?;
+        }
         Ok(())
     }
 
