@@ -76,7 +76,7 @@ module _ {A : Type 0} where
   chain r (x ∷ []) = true
   chain r (x ∷ y ∷ zs) = r x y && chain r (y ∷ zs)
 
--- how many of the numbers below n pass the test
+-- how many of the numbers below n pass the test: "exactly 25 characters get its yes" (document 02, P6) is about it
 unfoldable pub howMany : (ℕ → Bool) → ℕ → ℕ
 howMany p zero = 0
 howMany p (suc n) = if p n then suc (howMany p n) else howMany p n

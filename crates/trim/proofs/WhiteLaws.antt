@@ -2,7 +2,7 @@
 use mathlib.Core.Path.{_≡_, sym, ap, _∙_}
 use mathlib.Core.Bool.{true, false}
 use mathlib.Core.Logic.{_⊎_, inl, inr}
-use Prim.Native.Nat.{ℕ}
+use Prim.Native.Nat.{ℕ, _<_}
 use native.Mathlib.Omega.{arith}
 use lib.Dec.{leb, eqb}
 use borrow.Author.Tests.{ne-eqb, leb-true, eqb-true, eqb-false}
@@ -19,6 +19,13 @@ module _ (x : ℕ) where
   pub white-control : isBetween 0x9 0xD x ≡ true → true ≡ isWhiteSpace x
   unfolding isWhiteSpace
   white-control e = simp e
+
+  -- below x85 there are no others
+  pub white-low : isBetween 0x9 0xD x ≡ false → (x ≡ 0x20 → ⊥) → x < 0x85 → false ≡ isWhiteSpace x
+  white-low a b h =
+      sym (ne-eqb x 0x3000 (λ e. omega arith))
+      ∙ white-last x a b (λ e. omega arith) (λ e. omega arith) (λ e. omega arith) (below 0x2000 0x200A x (omega arith)) (λ e. omega arith)
+      (λ e. omega arith) (λ e. omega arith) (λ e. omega arith)
 
   pub white-wide : isBetween 0x2000 0x200A x ≡ true → true ≡ isWhiteSpace x
   unfolding isWhiteSpace

@@ -23,8 +23,8 @@ fn is_between(low: u32, high: u32, x: u32) -> bool
     x <= high
 }
 
-// The Unicode property White_Space, by comparisons: those of its definition, in their order, with no list behind them. U+2028 and U+2029
-// are one test, since four single ones so close are compiled to a mask with a bit for each.
+// The Unicode property White_Space, by comparisons: those of its definition, in their order, with no list behind them; ASCII leaves
+// early. U+2028 and U+2029 are one test, since four single ones so close are compiled to a mask with a bit for each.
 pub fn is_white_space(c: u32) -> bool
     ensures { λ r. ⌜ r ≡ isWhiteSpace c ⌝ }
 {
@@ -33,6 +33,9 @@ pub fn is_white_space(c: u32) -> bool
     }
     if c == 0x20 {
         return true;
+    }
+    if c < 0x85 {
+        return false;
     }
     if c == 0x85 {
         return true;
