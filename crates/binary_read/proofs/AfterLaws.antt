@@ -131,13 +131,13 @@ module _ (s : List ℕ) (n : ℕ) (e : n ≡ refusalOf (tokens recordAt 0 (drop 
   pub after-apart : n ≡ 0 → apart (objectAt s .lineBlocks) ≡ false → afterHeader s ≡ refused 15
   unfolding afterHeader concluded askAll
   after-apart z t =
-      let g = given-by (tokens recordAt 0 (drop 7 s)) (records-numbered 0 (drop 7 s)) (sym e ∙ z) in
+      let g = given-by 9 (tokens recordAt 0 (drop 7 s)) (records-numbered 0 (drop 7 s)) (sym e ∙ z) in
       rw (g .1, gathered-object s (g .0) (g .1), t) refl
 
   pub after-given : n ≡ 0 → apart (objectAt s .lineBlocks) ≡ true → afterHeader s ≡ given (objectWords s)
   unfolding afterHeader concluded askAll
   after-given z t =
-      let g = given-by (tokens recordAt 0 (drop 7 s)) (records-numbered 0 (drop 7 s)) (sym e ∙ z) in
+      let g = given-by 9 (tokens recordAt 0 (drop 7 s)) (records-numbered 0 (drop 7 s)) (sym e ∙ z) in
       rw (g .1, gathered-object s (g .0) (g .1), t) (ap given (kept-words s))
 
 -- what the number of a refusal says

@@ -18,7 +18,7 @@ use Rattle.binary_to_text.specs.ToText.{binaryToText, PrintsText}
 -- no refusal of a write has number 0
 text-write : (ws : List ℕ) → Numbered (writeText ws)
 unfolding writeText
-text-write ws = numbered-bind (objectOf ws) _ (object-numbered ws) λ h. tt
+text-write ws = numbered-bind 0 (objectOf ws) _ (object-numbered ws) λ h. tt
 
 module _ (input buffer : List ℕ) where
   pub stops : (n : ℕ) → wordsRead readBinary input ≡ refused n → filledOf (handedBack n 0) buffer ≡ fill (binaryToText input) buffer
@@ -39,6 +39,6 @@ module _ (input buffer : List ℕ) where
       (f : units.Filled) (left : List ℕ) → filledOf f left ≡ fill (binaryToText input) buffer → (r : ℕ) (after : List ℕ)
       → PrintsFilled f left r after → PrintsText input buffer r after × Counts r after
   prints f left e r after p =
-      let n = numbered-bind (wordsRead readBinary input) _ (words-numbered readBinary binary-read input) text-write in
+      let n = numbered-bind 0 (wordsRead readBinary input) _ (words-numbered readBinary binary-read input) text-write in
       let q = printed (binaryToText input) buffer f left e n r after p in
       (subst (λ (x : List ℕ). Put x buffer r after) (sym as-printed) (q .0), q .1)

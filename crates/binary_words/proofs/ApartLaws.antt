@@ -15,7 +15,7 @@ use Rattle.format.specs.Binary.{bytesAt, numberAt}
 use Rattle.format.proofs.ListLaws.{by-test}
 use Rattle.binary_words.specs.RecordAt.{lineBlockAt, inOrder, objectAt, bodyLength}
 use Rattle.binary_words.specs.Apart.{followsAt, apartFrom}
-use Rattle.binary_words.proofs.LengthLaws.{addresses-length}
+use Rattle.format.proofs.Counts.{addresses-length}
 
 -- where a line block ends
 pub line-end : (s : List ℕ) (q : ℕ) → lineEnd (lineBlockAt s q) ≡ numberAt (q + 1) 8 s + bodyLength 2 s q / 2

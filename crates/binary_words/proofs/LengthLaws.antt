@@ -10,35 +10,16 @@ use lib.Dec.{eqb, leb}
 use borrow.Author.Tests.{ne-eqb, eqb-true, eqb-false, leb-true, leb-false}
 use Rattle.format.specs.Digits.{digitsOf}
 use Rattle.format.specs.Sorted.{upsert, upsertAll}
-use Rattle.format.specs.Words.{numberWords, textWords, recordWords, memoryWord}
+use Rattle.format.specs.Words.{numberWords, recordWords, memoryWord}
 use Rattle.format.specs.Binary.{bytesAt, numberAt, memoriesFrom, addressesFrom}
 use Rattle.format.proofs.ListLaws.{by-test, flatMap-length}
+use Rattle.format.proofs.Counts.{memories-length, addresses-length, text-length}
 use Rattle.gather.specs.Places.{bytesAfter, places, placesOf, keyAt}
 use Rattle.gather.specs.Order.{HandsOut}
 use Rattle.gather.proofs.WindowLaws.{by-order, upsert-below, upsert-same, upsert-above}
 use Rattle.gather.proofs.WalkLaws.{after-0, after-1, after-2, after-4}
 use Rattle.gather.proofs.OrderLaws.{held-front}
 use Rattle.binary_words.specs.RecordAt.{wordsAt, partWords, bodyLength}
-
-pub memories-length : (bs : List ℕ) → length (memoriesFrom bs) ≡ length bs / 3
-unfolding memoriesFrom
-memories-length [] = refl
-memories-length (f ∷ []) = refl
-memories-length (f ∷ a ∷ []) = refl
-memories-length (f ∷ a ∷ b ∷ bs) = omega (arith, memories-length bs)
-
-pub addresses-length : (bs : List ℕ) → length (addressesFrom bs) ≡ length bs / 2
-unfolding addressesFrom
-addresses-length [] = refl
-addresses-length (a ∷ []) = refl
-addresses-length (a ∷ b ∷ bs) = omega (arith, addresses-length bs)
-
-pub text-length : (bs : List ℕ) → length (textWords bs) ≡ (length bs + 2) / 3
-unfolding textWords
-text-length [] = refl
-text-length (a ∷ []) = refl
-text-length (a ∷ b ∷ []) = refl
-text-length (a ∷ b ∷ c ∷ bs) = omega (arith, text-length bs)
 
 -- the words of the record of a kind, by the length of its body
 module _ (s : List ℕ) (p : ℕ) where

@@ -17,7 +17,8 @@ use Rattle.format.proofs.ListLaws.{by-test}
 use Rattle.gather.specs.Places.{bytesAfter, places, placesOf}
 use Rattle.gather.proofs.WalkLaws.{after-3}
 use Rattle.binary_words.specs.RecordAt.{chunkAt, sourceOf}
-use Rattle.binary_words.proofs.LengthLaws.{skipped, text-length}
+use Rattle.binary_words.proofs.LengthLaws.{skipped}
+use Rattle.format.proofs.Counts.{text-length}
 
 abbrev pub chunksLength : List ℕ → List ℕ → ℕ
 chunksLength s ps = length (flatMap (chunkAt s) ps)

@@ -2,11 +2,11 @@
 -- can be. Assumes nothing.
 use mathlib.Core.Path.{_≡_, refl, sym, _∙_, ap}
 use mathlib.Core.Bool.{true}
-use mathlib.Core.List.{List, [], _∷_, map, append-nil}
+use mathlib.Core.List.{List, [], map, append-nil}
 use mathlib.Core.Option.{Option, none, some}
-use Prim.Native.Nat.{ℕ, _^_, _*_, _≤_, _<_}
+use Prim.Native.Nat.{ℕ, _^_, _≤_, _<_}
 use native.Mathlib.Omega.{arith}
-use lib.ListN.{length, length-append}
+use lib.ListN.{length}
 use Rattle.format.specs.Basics.{given, chain, isEmpty, beginsWith, All, isSome}
 use Rattle.format.specs.Utf8.{isUtf8}
 use Rattle.format.specs.Sorted.{upsertAll}
@@ -14,7 +14,7 @@ use Rattle.format.proofs.SortedLaws.{Rises}
 use Rattle.format.proofs.GatherLaws.{sorted-back}
 use Rattle.format.specs.ObjectFile.{Block, Label, LineBlock, Relocation, ObjectFile, blockKey, consistent, apart, sourceText}
 use Rattle.format.specs.Records.{Record, block, label, lineBlock, source, relocation, recordsOf, sourceRecords, dropStrayRelocations, emptyObject, concluded, askAll, withLines}
-use Rattle.format.specs.Words.{textWords, numberWords, recordWords, wordsOf}
+use Rattle.format.specs.Words.{recordWords, wordsOf}
 use Rattle.format.specs.Binary.{magic, version, header, binaryFile, binaryRecords, binaryObject}
 use Rattle.format.specs.Calls.{Reordered, inOrder}
 use Rattle.format.specs.Trips.{swapRelocations}
@@ -22,6 +22,7 @@ use Rattle.format.proofs.ListLaws.{unchanged, all-map, all-both, all-re
 use Rattle.format.proofs.Ranges.{WellFormed, InRange, InBlock, InLabel, InLine, InRelocation, PartsHave, to-parts, of-parts}
 use Rattle.format.proofs.FairLaws.{Consistent, consistent-parts, fair-source, fair-blocks}
 use Rattle.format.specs.Fair.{FairLineBlock, FairSource, FairParts}
+use Rattle.format.proofs.Counts.{label-length, source-length, relocation-length}
 use Rattle.format.proofs.BinaryBack.{Writable, records-back}
 use Rattle.format.proofs.BinaryTrip.{binary-trip, gather-blocks, back-same}
 use Rattle.format.proofs.SwapLaws.{all-fit}
@@ -35,20 +36,12 @@ Short (lineBlock l) = Unit {0}
 Short (source s) = length s < 2 ^ 64
 Short (relocation r) = length (r .name) < 2 ^ 64
 
-text-size : (t : List ℕ) → length t ≤ 3 * length (textWords t)
-unfolding textWords
-text-size [] = omega arith
-text-size (a ∷ []) = omega arith
-text-size (a ∷ b ∷ []) = omega arith
-text-size (a ∷ b ∷ c ∷ bs) = let e = text-size bs in omega arith
-
 record-short : (r : Record) → length (recordWords r) < 2 ^ 62 → Short r
-unfolding recordWords
 record-short (block b) n = tt
-record-short (label l) n = let e = text-size (l .name) in let d = length-append (numberWords (l .start)) (textWords (l .name)) in omega arith
+record-short (label l) n = omega (arith, label-length l)
 record-short (lineBlock l) n = tt
-record-short (source s) n = let e = text-size s in omega arith
-record-short (relocation r) n = let e = text-size (r .name) in omega arith
+record-short (source s) n = omega (arith, source-length s)
+record-short (relocation r) n = omega (arith, relocation-length r)
 
 pub texts-short : (h : ObjectFile) → length (wordsOf h) < 2 ^ 62 → PartsHave Short h
 unfolding wordsOf

@@ -22,6 +22,7 @@ use Rattle.format.proofs.DigitLaws.{below-take, value-lt}
 use Rattle.format.proofs.ListLaws.{both, all-parts, every-all, all-map}
 use Rattle.format.proofs.Utf8Laws.{text-of}
 use Rattle.format.proofs.Ranges.{In16, Word16, Bytes, WellFormed, InRange}
+use Rattle.format.proofs.Counts.{memories-length}
 use Rattle.format.proofs.BinaryBack.{block-from, label-from, lines-from, relocation-from}
 use Rattle.format.proofs.Outcomes.{by-if, Gives, gives-ask, gives, gives-bind, gives-map, tokens-gives}
 use Rattle.format.proofs.Invariants.{Sound, Whole, words-formed, empty-formed, gather-formed, concluded-formed}
@@ -34,13 +35,6 @@ memories-below (f ∷ a ∷ []) h = tt
 memories-below (f ∷ a ∷ b ∷ bs) h =
     let v = value-lt 8 2 (a ∷ b ∷ []) (h .1 .0, (h .1 .1 .0, tt)) (omega arith) in
     (by-if Word16 (eqb f 0xFF) _ _ (λ _. v) (λ _. tt), memories-below bs (h .1 .1 .1))
-
-memories-length : (bs : List ℕ) → 3 * length (memoriesFrom bs) ≤ length bs
-unfolding memoriesFrom
-memories-length [] = omega arith
-memories-length (f ∷ []) = omega arith
-memories-length (f ∷ a ∷ []) = omega arith
-memories-length (f ∷ a ∷ b ∷ bs) = let ih = memories-length bs in omega arith
 
 addresses-below : (bs : List ℕ) → Bytes bs → All In16 (addressesFrom bs)
 unfolding addressesFrom

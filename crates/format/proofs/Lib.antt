@@ -47,3 +47,7 @@ pub mod Invariants
 pub mod BinaryFormed
 pub mod TextFormed
 pub mod Concatenation
+pub mod Counts
+pub mod Totals
+pub mod Rooms
+pub mod BinaryBound

@@ -1,4 +1,5 @@
--- No refusal has number 0: question by question, and of both readers. Assumes nothing.
+-- Which numbers a refusal has: question by question those above a given one; of both readers those above 9, so that none is 0, nor 3, which
+-- is a buffer's. Assumes nothing.
 use mathlib.Core.Path.{_≡_, refl, sym, ap}
 use mathlib.Core.Bool.{Bool, true, false, not, _&&_}
 use mathlib.Core.List.{List, [], _∷_, map, flatMap}
@@ -23,266 +24,281 @@ use Rattle.format.specs.TextReader.{unicodeEscape, afterBackslash, unesc
 use Rattle.format.specs.TextReader.{parseGroup, afterMagic, textObject}
 use Rattle.format.specs.Calls.{refusalOf, readBinary, readText}
 
+-- where it is refused, the number is above m
+abbrev pub Above : {A : Type 0} → ℕ → Outcome A → Type 0
+Above m (refused n) = m < n
+Above m (given a) = Unit {0}
+
 -- where it is refused, the number is not 0
 abbrev pub Numbered : {A : Type 0} → Outcome A → Type 0
-Numbered (refused n) = 0 < n
-Numbered (given a) = Unit {0}
+Numbered o = Above 0 o
 
-module _ {A B : Type 0} where
-  pub numbered-bind : (o : Outcome A) (f : A → Outcome B) → Numbered o → ((a : A) → Numbered (f a)) → Numbered (o >>= f)
+module _ (m : ℕ) {A B : Type 0} where
+  pub numbered-bind : (o : Outcome A) (f : A → Outcome B) → Above m o → ((a : A) → Above m (f a)) → Above m (o >>= f)
   numbered-bind (refused n) f h k = h
   numbered-bind (given a) f h k = k a
 
-  pub numbered-need : (n : ℕ) (o : Option A) (f : A → Outcome B) → 0 < n → ((a : A) → Numbered (f a)) → Numbered (need n o >>= f)
+  pub numbered-need : (n : ℕ) (o : Option A) (f : A → Outcome B) → m < n → ((a : A) → Above m (f a)) → Above m (need n o >>= f)
   numbered-need n none f h k = h
   numbered-need n (some a) f h k = k a
 
-module _ {B : Type 0} where
-  pub numbered-ask : (n : ℕ) (t : Bool) (f : Unit {0} → Outcome B) → 0 < n → Numbered (f tt) → Numbered (ask n t >>= f)
+module _ (m : ℕ) {B : Type 0} where
+  pub numbered-ask : (n : ℕ) (t : Bool) (f : Unit {0} → Outcome B) → m < n → Above m (f tt) → Above m (ask n t >>= f)
   numbered-ask n true f h k = k
   numbered-ask n false f h k = h
 
-  pub numbered-if : (t : Bool) (a b : Outcome B) → Numbered a → Numbered b → Numbered (if t then a else b)
+  pub numbered-if : (t : Bool) (a b : Outcome B) → Above m a → Above m b → Above m (if t then a else b)
   numbered-if true a b h k = h
   numbered-if false a b h k = k
 
+  pub above-numbered : (o : Outcome B) → Above m o → Numbered o
+  above-numbered (refused n) h = omega arith
+  above-numbered (given b) h = tt
+
   -- number 0 is given
-  pub given-by : (o : Outcome B) → Numbered o → refusalOf o ≡ 0 → (b : B) × (o ≡ given b)
+  pub given-by : (o : Outcome B) → Above m o → refusalOf o ≡ 0 → (b : B) × (o ≡ given b)
   given-by (refused n) h e = absurd (omega (arith, h, e))
   given-by (given b) h e = (b, refl)
 
+module _ {B : Type 0} where
   -- another number is refused
   pub refused-by : (o : Outcome B) (n : ℕ) → refusalOf o ≡ n → (n ≡ 0 → ⊥) → o ≡ refused n
   refused-by (refused m) n e ne = ap refused e
   refused-by (given b) n e ne = absurd (ne (sym e))
 
-module _ {A B : Type 0} (one : List A → Outcome (B × ℕ)) (step : (xs : List A) → Numbered (one xs)) where
-  pub numbered-tokens : (k : ℕ) (xs : List A) → Numbered (tokens one k xs)
+module _ (m : ℕ) {A B : Type 0} (one : List A → Outcome (B × ℕ)) (step : (xs : List A) → Above m (one xs)) where
+  pub numbered-tokens : (k : ℕ) (xs : List A) → Above m (tokens one k xs)
   unfolding tokens
   numbered-tokens k [] = tt
   numbered-tokens (suc k) (a ∷ xs) = numbered-tokens k xs
   numbered-tokens zero (a ∷ xs) =
-      numbered-bind (one (a ∷ xs)) _ (step (a ∷ xs)) λ t. numbered-bind (tokens one (t .1) xs) _ (numbered-tokens (t .1) xs) λ ts. tt
+      numbered-bind m (one (a ∷ xs)) _ (step (a ∷ xs)) λ t. numbered-bind m (tokens one (t .1) xs) _ (numbered-tokens (t .1) xs) λ ts. tt
 
-module _ {A S : Type 0} (one : S → List A → Outcome (S × ℕ)) (step : (s : S) (xs : List A) → Numbered (one s xs)) where
-  pub numbered-scan : (s : S) (k : ℕ) (xs : List A) → Numbered (scanTokens one s k xs)
+module _ (m : ℕ) {A S : Type 0} (one : S → List A → Outcome (S × ℕ)) (step : (s : S) (xs : List A) → Above m (one s xs)) where
+  pub numbered-scan : (s : S) (k : ℕ) (xs : List A) → Above m (scanTokens one s k xs)
   unfolding scanTokens
   numbered-scan s k [] = tt
   numbered-scan s (suc k) (a ∷ xs) = numbered-scan s k xs
-  numbered-scan s zero (a ∷ xs) = numbered-bind (one s (a ∷ xs)) _ (step s (a ∷ xs)) λ t. numbered-scan (t .0) (t .1) xs
+  numbered-scan s zero (a ∷ xs) = numbered-bind m (one s (a ∷ xs)) _ (step s (a ∷ xs)) λ t. numbered-scan (t .0) (t .1) xs
 
-module _ {A S : Type 0} (one : S → A → Outcome S) (step : (s : S) (a : A) → Numbered (one s a)) where
-  pub numbered-fold : (s : S) (xs : List A) → Numbered (foldOutcome one s xs)
+module _ (m : ℕ) {A S : Type 0} (one : S → A → Outcome S) (step : (s : S) (a : A) → Above m (one s a)) where
+  pub numbered-fold : (s : S) (xs : List A) → Above m (foldOutcome one s xs)
   unfolding foldOutcome
   numbered-fold s [] = tt
-  numbered-fold s (a ∷ xs) = numbered-bind (one s a) _ (step s a) λ t. numbered-fold t xs
+  numbered-fold s (a ∷ xs) = numbered-bind m (one s a) _ (step s a) λ t. numbered-fold t xs
 
 -- the last questions of a reader
-asks : (qs : List Question) (h : ObjectFile) → All (λ q. 0 < q .0) qs → Numbered (askAll qs h)
+asks : (qs : List Question) (h : ObjectFile) → All (λ q. 9 < q .0) qs → Above 9 (askAll qs h)
 unfolding askAll
 asks [] h k = tt
-asks (q ∷ qs) h k = numbered-ask (q .0) (q .1 h) _ (k .0) (asks qs h (k .1))
+asks (q ∷ qs) h k = numbered-ask 9 (q .0) (q .1 h) _ (k .0) (asks qs h (k .1))
 
-concludes : (qs : List Question) (h : ObjectFile) → All (λ q. 0 < q .0) qs → Numbered (concluded qs h)
+concludes : (qs : List Question) (h : ObjectFile) → All (λ q. 9 < q .0) qs → Above 9 (concluded qs h)
 unfolding concluded
-concludes qs h k = numbered-bind (askAll qs h) _ (asks qs h k) λ _. tt
+concludes qs h k = numbered-bind 9 (askAll qs h) _ (asks qs h k) λ _. tt
 
 -- THE TEXT READER
 
 -- 24, 25
-block-numbered : (h : ObjectFile) (ls : List (List ℕ)) → Numbered (blockAt h ls)
+block-numbered : (h : ObjectFile) (ls : List (List ℕ)) → Above 9 (blockAt h ls)
 unfolding blockAt
 block-numbered h [] = omega arith
 block-numbered h (l ∷ []) = omega arith
 block-numbered h (l ∷ c ∷ ls) =
-    numbered-need 24 (hex2u16 l) _ (omega arith) λ a.
-    numbered-need 24 (parseDecimal (2 ^ 16) c) _ (omega arith) λ n.
-    numbered-ask 24 (leb n (length ls)) _ (omega arith)
-    (numbered-need 24 (allSome maybeHex2u16 (take n ls)) _ (omega arith) λ ws.
-    numbered-ask 25 (not (isSome (atKey blockKey (a ∷ []) (h .blocks)))) _ (omega arith) tt)
+    numbered-need 9 24 (hex2u16 l) _ (omega arith) λ a.
+    numbered-need 9 24 (parseDecimal (2 ^ 16) c) _ (omega arith) λ n.
+    numbered-ask 9 24 (leb n (length ls)) _ (omega arith)
+    (numbered-need 9 24 (allSome maybeHex2u16 (take n ls)) _ (omega arith) λ ws.
+    numbered-ask 9 25 (not (isSome (atKey blockKey (a ∷ []) (h .blocks)))) _ (omega arith) tt)
 
-pub text-numbered : (h : ObjectFile) (ls : List (List ℕ)) → Numbered (parseTextGroup h ls)
+pub text-numbered : (h : ObjectFile) (ls : List (List ℕ)) → Above 9 (parseTextGroup h ls)
 unfolding parseTextGroup
-text-numbered h ls = numbered-scan blockAt block-numbered h 0 ls
+text-numbered h ls = numbered-scan 9 blockAt block-numbered h 0 ls
 
 -- 26 to 30
-numbered-scalar : (o : Option ℕ) → Numbered (scalarOf o)
+numbered-scalar : (o : Option ℕ) → Above 9 (scalarOf o)
 numbered-scalar none = omega arith
-numbered-scalar (some c) = numbered-if (isScalar c) (given c) (refused 30) tt (omega arith)
+numbered-scalar (some c) = numbered-if 9 (isScalar c) (given c) (refused 30) tt (omega arith)
 
-numbered-unicode : (bs : List ℕ) → Numbered (unicodeEscape bs)
+numbered-unicode : (bs : List ℕ) → Above 9 (unicodeEscape bs)
 unfolding unicodeEscape
 numbered-unicode bs =
-    numbered-ask 30 (beginsWith (ascii "{") bs) _ (omega arith)
-    (numbered-ask 30 (isBetween 1 6 (hexDigits (drop 1 bs)) && beginsWith (ascii "}") (drop (1 + hexDigits (drop 1 bs)) bs)) _ (omega arith)
-    (numbered-bind (scalarOf (digitsFrom 16 0 (take (hexDigits (drop 1 bs)) (drop 1 bs)))) _
+    numbered-ask 9 30 (beginsWith (ascii "{") bs) _ (omega arith)
+    (numbered-ask 9 30 (isBetween 1 6 (hexDigits (drop 1 bs)) && beginsWith (ascii "}") (drop (1 + hexDigits (drop 1 bs)) bs)) _ (omega arith)
+    (numbered-bind 9 (scalarOf (digitsFrom 16 0 (take (hexDigits (drop 1 bs)) (drop 1 bs)))) _
     (numbered-scalar (digitsFrom 16 0 (take (hexDigits (drop 1 bs)) (drop 1 bs)))) λ c. tt))
 
-numbered-backslash : (bs : List ℕ) → Numbered (afterBackslash bs)
+numbered-backslash : (bs : List ℕ) → Above 9 (afterBackslash bs)
 unfolding afterBackslash
 numbered-backslash [] = omega arith
 numbered-backslash (b ∷ bs) =
-    numbered-if (beginsWith (ascii "t") (b ∷ bs)) _ _ tt
-    (numbered-if (beginsWith (ascii "r") (b ∷ bs)) _ _ tt
-    (numbered-if (beginsWith (ascii "n") (b ∷ bs)) _ _ tt
-    (numbered-if (beginsWith (ascii "'") (b ∷ bs)) _ _ tt
-    (numbered-if (beginsWith (ascii "\"") (b ∷ bs)) _ _ tt
-    (numbered-if (beginsWith (ascii "\\") (b ∷ bs)) _ _ tt
-    (numbered-if (beginsWith (ascii "u") (b ∷ bs)) _ _ (numbered-unicode bs) (omega arith)))))))
+    numbered-if 9 (beginsWith (ascii "t") (b ∷ bs)) _ _ tt
+    (numbered-if 9 (beginsWith (ascii "r") (b ∷ bs)) _ _ tt
+    (numbered-if 9 (beginsWith (ascii "n") (b ∷ bs)) _ _ tt
+    (numbered-if 9 (beginsWith (ascii "'") (b ∷ bs)) _ _ tt
+    (numbered-if 9 (beginsWith (ascii "\"") (b ∷ bs)) _ _ tt
+    (numbered-if 9 (beginsWith (ascii "\\") (b ∷ bs)) _ _ tt
+    (numbered-if 9 (beginsWith (ascii "u") (b ∷ bs)) _ _ (numbered-unicode bs) (omega arith)))))))
 
-numbered-byte : (bs : List ℕ) → Numbered (unescapeAt bs)
+numbered-byte : (bs : List ℕ) → Above 9 (unescapeAt bs)
 unfolding unescapeAt
 numbered-byte [] = omega arith
-numbered-byte (b ∷ bs) = numbered-if (eqb b 0x5C) _ _ (numbered-backslash bs) tt
+numbered-byte (b ∷ bs) = numbered-if 9 (eqb b 0x5C) _ _ (numbered-backslash bs) tt
 
-pub numbered-unescape : (bs : List ℕ) → Numbered (unescape bs)
+pub numbered-unescape : (bs : List ℕ) → Above 9 (unescape bs)
 unfolding unescape
-numbered-unescape bs = numbered-bind (tokens unescapeAt 0 bs) _ (numbered-tokens unescapeAt numbered-byte 0 bs) λ ts. tt
+numbered-unescape bs = numbered-bind 9 (tokens unescapeAt 0 bs) _ (numbered-tokens 9 unescapeAt numbered-byte 0 bs) λ ts. tt
 
-pub rows-numbered : (n : ℕ) (columns ls : List (List ℕ)) → 0 < n → Numbered (rowsUnder n columns ls)
+pub rows-numbered : (n : ℕ) (columns ls : List (List ℕ)) → 9 < n → Above 9 (rowsUnder n columns ls)
 unfolding rowsUnder
 rows-numbered n columns [] h = tt
-rows-numbered n columns (l ∷ ls) h = numbered-ask n (sameCells (map trim (splitn (length columns - 1) l)) columns) _ h tt
+rows-numbered n columns (l ∷ ls) h = numbered-ask 9 n (sameCells (map trim (splitn (length columns - 1) l)) columns) _ h tt
 
 -- a table whose rows are put one after the other
 table-numbered :
-    (columns : List (List ℕ)) (one : ObjectFile → List ℕ → Outcome ObjectFile) → ((h : ObjectFile) (l : List ℕ) → Numbered (one h l))
-    → (h : ObjectFile) (ls : List (List ℕ)) → Numbered (rowsUnder 26 columns ls >>= λ rows. foldOutcome one h rows)
+    (columns : List (List ℕ)) (one : ObjectFile → List ℕ → Outcome ObjectFile) → ((h : ObjectFile) (l : List ℕ) → Above 9 (one h l))
+    → (h : ObjectFile) (ls : List (List ℕ)) → Above 9 (rowsUnder 26 columns ls >>= λ rows. foldOutcome one h rows)
 table-numbered columns one row h ls =
-    numbered-bind (rowsUnder 26 columns ls) _ (rows-numbered 26 columns ls (omega arith)) λ rows. numbered-fold one row h rows
+    numbered-bind 9 (rowsUnder 26 columns ls) _ (rows-numbered 26 columns ls (omega arith)) λ rows. numbered-fold 9 one row h rows
 
-symbol-row : (h : ObjectFile) (l : List ℕ) → Numbered (parseSymbolRow h l)
+symbol-row : (h : ObjectFile) (l : List ℕ) → Above 9 (parseSymbolRow h l)
 unfolding parseSymbolRow
 symbol-row h l =
-    numbered-need 26 (hex2u16 (trim (cellAt 0 (splitn 2 l)))) _ (omega arith) λ a.
-    numbered-need 26 (parseDecimal (2 ^ 8) (trim (cellAt 1 (splitn 2 l)))) _ (omega arith) λ e. tt
+    numbered-need 9 26 (hex2u16 (trim (cellAt 0 (splitn 2 l)))) _ (omega arith) λ a.
+    numbered-need 9 26 (parseDecimal (2 ^ 8) (trim (cellAt 1 (splitn 2 l)))) _ (omega arith) λ e. tt
 
-linker-row : (h : ObjectFile) (l : List ℕ) → Numbered (parseLinkerRow h l)
+linker-row : (h : ObjectFile) (l : List ℕ) → Above 9 (parseLinkerRow h l)
 unfolding parseLinkerRow
-linker-row h l = numbered-need 26 (hex2u16 (trim (cellAt 0 (splitn 1 l)))) _ (omega arith) λ a. tt
+linker-row h l = numbered-need 9 26 (hex2u16 (trim (cellAt 0 (splitn 1 l)))) _ (omega arith) λ a. tt
 
-label-row : (h : ObjectFile) (l : List ℕ) → Numbered (parseLabelRow h l)
+label-row : (h : ObjectFile) (l : List ℕ) → Above 9 (parseLabelRow h l)
 unfolding parseLabelRow
-label-row h l = numbered-need 26 (parseDecimal (2 ^ 64) (trim (cellAt 1 (splitn 1 l)))) _ (omega arith) λ i. tt
+label-row h l = numbered-need 9 26 (parseDecimal (2 ^ 64) (trim (cellAt 1 (splitn 1 l)))) _ (omega arith) λ i. tt
 
-line-rows : (i : ℕ) (ls : List (List ℕ)) → Numbered (parseLineRows i ls)
+line-rows : (i : ℕ) (ls : List (List ℕ)) → Above 9 (parseLineRows i ls)
 unfolding parseLineRows
 line-rows i [] = tt
 line-rows i (l ∷ ls) =
-    numbered-need 28 (parseDecimal (2 ^ 64) (trim (cellAt 0 (splitn 2 l)))) _ (omega arith) λ n.
-    numbered-ask 28 (eqb n i) _ (omega arith)
-    (numbered-need 28 (maybeHex2u16 (trim (cellAt 1 (splitn 2 l)))) _ (omega arith) λ a.
-    numbered-bind (parseLineRows (suc i) ls) _ (line-rows (suc i) ls) λ rows. tt)
+    numbered-need 9 28 (parseDecimal (2 ^ 64) (trim (cellAt 0 (splitn 2 l)))) _ (omega arith) λ n.
+    numbered-ask 9 28 (eqb n i) _ (omega arith)
+    (numbered-need 9 28 (maybeHex2u16 (trim (cellAt 1 (splitn 2 l)))) _ (omega arith) λ a.
+    numbered-bind 9 (parseLineRows (suc i) ls) _ (line-rows (suc i) ls) λ rows. tt)
 
-label-table : (h : ObjectFile) (ls : List (List ℕ)) → Numbered (parseLabelTable h ls)
+label-table : (h : ObjectFile) (ls : List (List ℕ)) → Above 9 (parseLabelTable h ls)
 unfolding parseLabelTable
 label-table h ls = table-numbered _ parseLabelRow label-row h ls
 
-line-table : (h : ObjectFile) (ls : List (List ℕ)) → Numbered (parseLineTable h ls)
+line-table : (h : ObjectFile) (ls : List (List ℕ)) → Above 9 (parseLineTable h ls)
 unfolding parseLineTable
 line-table h ls =
-    numbered-bind (rowsUnder 28 _ ls) _ (rows-numbered 28 _ ls (omega arith)) λ rows.
-    numbered-bind (parseLineRows 0 rows) _ (line-rows 0 rows) λ parsed.
-    numbered-if (isEmpty parsed) _ _ tt
-    (numbered-ask 29 (not (isSome (h .source))) _ (omega arith)
-    (numbered-bind (unescape (flatMap (λ (r : Option ℕ × List ℕ). r .1) parsed)) _
+    numbered-bind 9 (rowsUnder 28 _ ls) _ (rows-numbered 28 _ ls (omega arith)) λ rows.
+    numbered-bind 9 (parseLineRows 0 rows) _ (line-rows 0 rows) λ parsed.
+    numbered-if 9 (isEmpty parsed) _ _ tt
+    (numbered-ask 9 29 (not (isSome (h .source))) _ (omega arith)
+    (numbered-bind 9 (unescape (flatMap (λ (r : Option ℕ × List ℕ). r .1) parsed)) _
     (numbered-unescape (flatMap (λ (r : Option ℕ × List ℕ). r .1) parsed)) λ s. tt))
 
-debug-group : (h : ObjectFile) (ls : List (List ℕ)) → Numbered (parseDebugGroup h ls)
+debug-group : (h : ObjectFile) (ls : List (List ℕ)) → Above 9 (parseDebugGroup h ls)
 unfolding parseDebugGroup
 debug-group h [] = tt
 debug-group h (l ∷ ls) =
-    numbered-need 27 (splitAtBar (l ∷ ls) .after) _ (omega arith) λ after.
-    numbered-need 27 (upToBar after) _ (omega arith) λ rows.
-    numbered-bind (parseLabelTable h (splitAtBar (l ∷ ls) .before)) _ (label-table h (splitAtBar (l ∷ ls) .before)) λ h′. line-table h′ rows
+    numbered-need 9 27 (splitAtBar (l ∷ ls) .after) _ (omega arith) λ after.
+    numbered-need 9 27 (upToBar after) _ (omega arith) λ rows.
+    numbered-bind 9 (parseLabelTable h (splitAtBar (l ∷ ls) .before)) _ (label-table h (splitAtBar (l ∷ ls) .before)) λ h′. line-table h′ rows
 
-symbol-group : (h : ObjectFile) (ls : List (List ℕ)) → Numbered (parseSymbolGroup h ls)
+symbol-group : (h : ObjectFile) (ls : List (List ℕ)) → Above 9 (parseSymbolGroup h ls)
 unfolding parseSymbolGroup
 symbol-group h ls = table-numbered _ parseSymbolRow symbol-row h ls
 
-linker-group : (h : ObjectFile) (ls : List (List ℕ)) → Numbered (parseLinkerGroup h ls)
+linker-group : (h : ObjectFile) (ls : List (List ℕ)) → Above 9 (parseLinkerGroup h ls)
 unfolding parseLinkerGroup
 linker-group h ls = table-numbered _ parseLinkerRow linker-row h ls
 
-group : (h : ObjectFile) (g : List ℕ × List (List ℕ)) → Numbered (parseGroup h g)
+group : (h : ObjectFile) (g : List ℕ × List (List ℕ)) → Above 9 (parseGroup h g)
 unfolding parseGroup
 group h g =
-    numbered-if (eqs (g .0) (ascii ".TEXT")) _ _ (text-numbered h (g .1))
-    (numbered-if (eqs (g .0) (ascii ".SYMBOL")) _ _ (symbol-group h (g .1))
-    (numbered-if (eqs (g .0) (ascii ".LINKER_INFO")) _ _ (linker-group h (g .1))
-    (numbered-if (eqs (g .0) (ascii ".DEBUG")) _ _ (debug-group h (g .1)) (omega arith))))
+    numbered-if 9 (eqs (g .0) (ascii ".TEXT")) _ _ (text-numbered h (g .1))
+    (numbered-if 9 (eqs (g .0) (ascii ".SYMBOL")) _ _ (symbol-group h (g .1))
+    (numbered-if 9 (eqs (g .0) (ascii ".LINKER_INFO")) _ _ (linker-group h (g .1))
+    (numbered-if 9 (eqs (g .0) (ascii ".DEBUG")) _ _ (debug-group h (g .1)) (omega arith))))
 
-after-magic : (ls : List (List ℕ)) → Numbered (afterMagic ls)
+after-magic : (ls : List (List ℕ)) → Above 9 (afterMagic ls)
 unfolding afterMagic
 after-magic [] = omega arith
-after-magic (l ∷ ls) = numbered-ask 21 (eqs l (ascii "LC-3 OBJ FILE")) _ (omega arith) tt
+after-magic (l ∷ ls) = numbered-ask 9 21 (eqs l (ascii "LC-3 OBJ FILE")) _ (omega arith) tt
 
-text-object : (bs : List ℕ) → Numbered (textObject bs)
+text-object : (bs : List ℕ) → Above 9 (textObject bs)
 unfolding textObject
 text-object bs =
-    numbered-ask 20 (isUtf8 bs) _ (omega arith)
-    (numbered-bind (afterMagic (keptLines bs)) _ (after-magic (keptLines bs)) λ ls.
+    numbered-ask 9 20 (isUtf8 bs) _ (omega arith)
+    (numbered-bind 9 (afterMagic (keptLines bs)) _ (after-magic (keptLines bs)) λ ls.
     let parts = partsAt (beginsWith (ascii ".")) ls in
-    numbered-ask 22 (isEmpty (parts .before)) _ (omega arith)
-    (numbered-bind (foldOutcome parseGroup emptyObject (parts .groups)) _ (numbered-fold parseGroup group emptyObject (parts .groups)) λ h.
+    numbered-ask 9 22 (isEmpty (parts .before)) _ (omega arith)
+    (numbered-bind 9 (foldOutcome parseGroup emptyObject (parts .groups)) _ (numbered-fold 9 parseGroup group emptyObject (parts .groups)) λ h.
     concludes textQuestions h (omega arith, tt)))
 
-pub text-read : (bs : List ℕ) → Numbered (readText bs)
+pub text-above : (bs : List ℕ) → Above 9 (readText bs)
 unfolding readText
-text-read bs = numbered-bind (textObject bs) _ (text-object bs) λ h. tt
+text-above bs = numbered-bind 9 (textObject bs) _ (text-object bs) λ h. tt
+
+pub text-read : (bs : List ℕ) → Numbered (readText bs)
+text-read bs = above-numbered 9 (readText bs) (text-above bs)
 
 -- THE BINARY READER
 
 -- 11 to 14
 module _ (bs : List ℕ) where
-  numbered-0 : Numbered (blockFrom bs)
+  numbered-0 : Above 9 (blockFrom bs)
   unfolding blockFrom
-  numbered-0 = numbered-ask 12 (hasBytes 4 bs) _ (omega arith) (numbered-ask 12 (hasBytes (4 + 3 * numberAt 2 2 bs) bs) _ (omega arith) tt)
+  numbered-0 = numbered-ask 9 12 (hasBytes 4 bs) _ (omega arith) (numbered-ask 9 12 (hasBytes (4 + 3 * numberAt 2 2 bs) bs) _ (omega arith) tt)
 
-  numbered-1 : Numbered (labelFrom bs)
+  numbered-1 : Above 9 (labelFrom bs)
   unfolding labelFrom
   numbered-1 =
-      numbered-ask 12 (hasBytes 19 bs) _ (omega arith) (numbered-ask 12 (hasBytes (19 + numberAt 11 8 bs) bs) _ (omega arith)
-      (numbered-ask 13 (isUtf8 (bytesAt 19 (numberAt 11 8 bs) bs)) _ (omega arith) tt))
+      numbered-ask 9 12 (hasBytes 19 bs) _ (omega arith) (numbered-ask 9 12 (hasBytes (19 + numberAt 11 8 bs) bs) _ (omega arith)
+      (numbered-ask 9 13 (isUtf8 (bytesAt 19 (numberAt 11 8 bs) bs)) _ (omega arith) tt))
 
-  numbered-2 : Numbered (linesFrom bs)
+  numbered-2 : Above 9 (linesFrom bs)
   unfolding linesFrom
   numbered-2 =
-      numbered-ask 12 (hasBytes 10 bs) _ (omega arith) (numbered-ask 12 (hasBytes (10 + 2 * numberAt 8 2 bs) bs) _ (omega arith)
-      (numbered-ask 14 (strictlyRise (addressesFrom (bytesAt 10 (2 * numberAt 8 2 bs) bs))) _ (omega arith) tt))
+      numbered-ask 9 12 (hasBytes 10 bs) _ (omega arith) (numbered-ask 9 12 (hasBytes (10 + 2 * numberAt 8 2 bs) bs) _ (omega arith)
+      (numbered-ask 9 14 (strictlyRise (addressesFrom (bytesAt 10 (2 * numberAt 8 2 bs) bs))) _ (omega arith) tt))
 
-  numbered-3 : Numbered (sourceFrom bs)
+  numbered-3 : Above 9 (sourceFrom bs)
   unfolding sourceFrom
   numbered-3 =
-      numbered-ask 12 (hasBytes 8 bs) _ (omega arith) (numbered-ask 12 (hasBytes (8 + numberAt 0 8 bs) bs) _ (omega arith)
-      (numbered-ask 13 (isUtf8 (bytesAt 8 (numberAt 0 8 bs) bs)) _ (omega arith) tt))
+      numbered-ask 9 12 (hasBytes 8 bs) _ (omega arith) (numbered-ask 9 12 (hasBytes (8 + numberAt 0 8 bs) bs) _ (omega arith)
+      (numbered-ask 9 13 (isUtf8 (bytesAt 8 (numberAt 0 8 bs) bs)) _ (omega arith) tt))
 
-  numbered-4 : Numbered (relocationFrom bs)
+  numbered-4 : Above 9 (relocationFrom bs)
   unfolding relocationFrom
   numbered-4 =
-      numbered-ask 12 (hasBytes 10 bs) _ (omega arith) (numbered-ask 12 (hasBytes (10 + numberAt 2 8 bs) bs) _ (omega arith)
-      (numbered-ask 13 (isUtf8 (bytesAt 10 (numberAt 2 8 bs) bs)) _ (omega arith) tt))
+      numbered-ask 9 12 (hasBytes 10 bs) _ (omega arith) (numbered-ask 9 12 (hasBytes (10 + numberAt 2 8 bs) bs) _ (omega arith)
+      (numbered-ask 9 13 (isUtf8 (bytesAt 10 (numberAt 2 8 bs) bs)) _ (omega arith) tt))
 
-record-numbered : (bs : List ℕ) → Numbered (recordAt bs)
+record-numbered : (bs : List ℕ) → Above 9 (recordAt bs)
 unfolding recordAt
 record-numbered [] = omega arith
 record-numbered (k ∷ bs) =
-    numbered-if (eqb k 0) _ _ (numbered-0 bs)
-    (numbered-if (eqb k 1) _ _ (numbered-1 bs)
-    (numbered-if (eqb k 2) _ _ (numbered-2 bs)
-    (numbered-if (eqb k 3) _ _ (numbered-3 bs)
-    (numbered-if (eqb k 4) _ _ (numbered-4 bs) (omega arith)))))
+    numbered-if 9 (eqb k 0) _ _ (numbered-0 bs)
+    (numbered-if 9 (eqb k 1) _ _ (numbered-1 bs)
+    (numbered-if 9 (eqb k 2) _ _ (numbered-2 bs)
+    (numbered-if 9 (eqb k 3) _ _ (numbered-3 bs)
+    (numbered-if 9 (eqb k 4) _ _ (numbered-4 bs) (omega arith)))))
 
-pub records-numbered : (k : ℕ) (bs : List ℕ) → Numbered (tokens recordAt k bs)
-records-numbered k bs = numbered-tokens recordAt record-numbered k bs
+pub records-numbered : (k : ℕ) (bs : List ℕ) → Above 9 (tokens recordAt k bs)
+records-numbered k bs = numbered-tokens 9 recordAt record-numbered k bs
 
-binary-object : (bs : List ℕ) → Numbered (binaryObject bs)
+binary-object : (bs : List ℕ) → Above 9 (binaryObject bs)
 unfolding binaryObject binaryRecords
 binary-object bs =
-    numbered-bind (binaryRecords bs) _
-    (numbered-ask 10 (beginsWith header bs) _ (omega arith) (records-numbered 0 (drop 7 bs))) λ rs.
+    numbered-bind 9 (binaryRecords bs) _
+    (numbered-ask 9 10 (beginsWith header bs) _ (omega arith) (records-numbered 0 (drop 7 bs))) λ rs.
     concludes binaryQuestions (gatherRecords emptyObject rs) (omega arith, tt)
 
-pub binary-read : (bs : List ℕ) → Numbered (readBinary bs)
+pub binary-above : (bs : List ℕ) → Above 9 (readBinary bs)
 unfolding readBinary
-binary-read bs = numbered-bind (binaryObject bs) _ (binary-object bs) λ h. tt
+binary-above bs = numbered-bind 9 (binaryObject bs) _ (binary-object bs) λ h. tt
+
+pub binary-read : (bs : List ℕ) → Numbered (readBinary bs)
+binary-read bs = above-numbered 9 (readBinary bs) (binary-above bs)

@@ -34,6 +34,11 @@ pub gives-map : {A : Type 0} (P Q : A → Type 0) → ((a : A) → P a → Q a) 
 gives-map P Q k (refused n) h = tt
 gives-map P Q k (given a) h = k a h
 
+-- of what is given, nothing need be known
+pub anything : {A : Type 0} (o : Outcome A) → Gives (λ _. Unit {0}) o
+anything (refused n) = tt
+anything (given a) = tt
+
 module _ {A B : Type 0} (Q : B → Type 0) where
   pub gives-bind : (P : A → Type 0) (o : Outcome A) (f : A → Outcome B) → Gives P o → ((a : A) → P a → Gives Q (f a)) → Gives Q (o >>= f)
   gives-bind P (refused n) f h k = tt

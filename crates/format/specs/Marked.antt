@@ -6,13 +6,14 @@ use Prim.Native.Nat.{ℕ}
 use Rattle.format.specs.Basics.{Outcome, refused, given, _>>=_, ascii, keep, All}
 use Rattle.format.specs.Utf8.{isWhiteSpace}
 use Rattle.format.specs.Words.{objectOf}
-use Rattle.format.specs.Calls.{writeBinary, readBinary, readText, bin2text}
+use Rattle.format.specs.Calls.{Filled, writeBinary, readBinary, readText, ReadsBinary, bin2text}
 
 -- a call on an input, and its answer
 pub data Case : Type 0 where
   writes-binary : List ℕ → Outcome (List ℕ) → Case
   reads-binary : List ℕ → Outcome (List ℕ) → Case
   reads-text : List ℕ → Outcome (List ℕ) → Case
+  fills-words : List ℕ → List ℕ → Filled → Case
   prints : List ℕ → List ℕ → Case
   white-space-of : List ℕ → List ℕ → Case
 
@@ -25,6 +26,7 @@ abbrev pub Holds : Case → Type 0
 Holds (writes-binary ws o) = writeInOrder ws ≡ o
 Holds (reads-binary bs o) = readBinary bs ≡ o
 Holds (reads-text bs o) = readText bs ≡ o
+Holds (fills-words bs buffer r) = ReadsBinary bs buffer r
 Holds (prints bs out) = bin2text 65536 16384 65536 bs ≡ out
 Holds (white-space-of cs ws) = keep isWhiteSpace cs ≡ ws
 
@@ -141,11 +143,29 @@ white-space =
     (0x9 ∷ 0xA ∷ 0xB ∷ 0xC ∷ 0xD ∷ 0x20 ∷ 0x85 ∷ 0xA0 ∷ 0x1680 ∷ 0x2000 ∷ 0x2001 ∷ 0x2002 ∷ 0x2003 ∷ 0x2004 ∷ 0x2005 ∷ 0x2006
     ∷ 0x2007 ∷ 0x2008 ∷ 0x2009 ∷ 0x200A ∷ 0x2028 ∷ 0x2029 ∷ 0x202F ∷ 0x205F ∷ 0x3000 ∷ [])
 
+-- a line block without addresses, and no source record: 18 bytes
+abbrev pub bytes18 : List ℕ
+bytes18 = header7 ++ (0x02 ∷ 0x03 ∷ [] ++ zeros7 ++ (0x00 ∷ 0x00 ∷ []))
+
+-- P13, the limit: with (18 - 7) / 2 words it is read
+abbrev pub just-enough : Case
+just-enough =
+    let ws : List ℕ = 0x60000000 ∷ 0xC0000003 ∷ 0xC0000000 ∷ 0xC0000000 ∷ 0x80000000 ∷ [] in
+    fills-words bytes18 (9 ∷ 9 ∷ 9 ∷ 9 ∷ 9 ∷ []) (record { number = 0; len = 5; buffer = ws })
+
+abbrev pub one-word-less : Case  -- P13, the limit: "never gives 3" from there on alone
+one-word-less = fills-words bytes18 (9 ∷ 9 ∷ 9 ∷ 9 ∷ []) (record { number = 3; len = 0; buffer = 9 ∷ 9 ∷ 9 ∷ 9 ∷ [] })
+
+-- P13, the order: 10 comes before 3, so that below 7 bytes no words are room enough
+abbrev pub no-room : Case
+no-room = fills-words (0x6F ∷ 0x62 ∷ 0x6A ∷ 0x21 ∷ 0x10 ∷ 0x00 ∷ []) [] (record { number = 10; len = 0; buffer = [] })
+
 -- THE TABLE
 abbrev pub marked : List Case
 marked =
     words-to-bytes ∷ bytes-to-words ∷ printing ∷ header-alone ∷ six-header-bytes ∷ equal-addresses-binary ∷ equal-addresses-text
-    ∷ block-twice-binary ∷ block-twice-text ∷ flag-01 ∷ plus-0FF ∷ one-bar ∷ lines-1-and-3 ∷ lines-1-and-2 ∷ white-space ∷ []
+    ∷ block-twice-binary ∷ block-twice-text ∷ flag-01 ∷ plus-0FF ∷ one-bar ∷ lines-1-and-3 ∷ lines-1-and-2 ∷ white-space ∷ just-enough
+    ∷ one-word-less ∷ no-room ∷ []
 
 abbrev pub MarkedHold : Type 0  -- "gathered in a table that one proposition covers"
 MarkedHold = All Holds marked

@@ -129,13 +129,13 @@ fitting-last {B = B} (given a) g f n = go (g a)
 
 fitting-numbered : (n : ℕ) (o : Outcome (List ℕ)) → Numbered o → Numbered (fitting n o)
 unfolding fitting
-fitting-numbered n o q = numbered-bind o _ q λ out. numbered-ask 3 (leb (length out) n) _ (omega arith) tt
+fitting-numbered n o q = numbered-bind 0 o _ q λ out. numbered-ask 0 3 (leb (length out) n) _ (omega arith) tt
 
 pub words-numbered :
     (read : List ℕ → Outcome (List ℕ)) → ((bs : List ℕ) → Numbered (read bs)) → (input : List ℕ) → Numbered (wordsRead read input)
 unfolding wordsRead
 words-numbered read q input =
-    numbered-bind (fitting 65536 (given input)) _ (fitting-numbered 65536 (given input) tt) λ bs. fitting-numbered 16384 (read bs) (q bs)
+    numbered-bind 0 (fitting 65536 (given input)) _ (fitting-numbered 65536 (given input) tt) λ bs. fitting-numbered 16384 (read bs) (q bs)
 
 -- of a call that filled the buffer: the number and a newline, or what was filled
 module _ (o : Outcome (List ℕ)) (buffer : List ℕ) (g : units.Filled) (left : List ℕ) (e : filledOf g left ≡ fill o buffer) where

@@ -19,7 +19,7 @@ use Rattle.writing.proofs.Parts.{State, Emits, rest, has-room}
 use Rattle.writing.proofs.TextLaws.{firstWord, word-three, words-at}
 use borrow.Rule.Slice.PartAt.{part-to-end}
 use Rattle.binary_words.specs.RecordAt.{wordsAt}
-use Rattle.binary_words.proofs.LengthLaws.{memories-length, addresses-length}
+use Rattle.format.proofs.Counts.{memories-length, addresses-length}
 use Rattle.record_words.specs.OneWord.{memoryOfBytes, textWordOf, labelHead, relocationHead}
 
 -- the first part, where all of the room is lent

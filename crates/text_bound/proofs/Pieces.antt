@@ -8,7 +8,7 @@ use native.Mathlib.Omega.{arith}
 use lib.ListN.{length, length-append, length-drop, take, drop}
 use lib.Dec.{ltb, eqb}
 use borrow.Author.Tests.{eqb-true}
-use Rattle.format.specs.Basics.{Outcome, refused, given, ascii, isEmpty, keep, eqs, beginsWith}
+use Rattle.format.specs.Basics.{ascii, isEmpty, keep, eqs, beginsWith}
 use Rattle.format.specs.Tokens.{tokens}
 use Rattle.format.specs.Utf8.{isBetween, encodeScalar, charAt, whiteSpaceLength, passOver, trimFrom, trimStart, isBlank, trimEnd, trim}
 use Rattle.format.specs.TextReader.{onFirst, lines, keptLines, digitsFrom, withoutPlus, belowLimit, parseNumber, hex2u16, maybeHex2u16}
@@ -16,14 +16,9 @@ use Rattle.format.specs.TextReader.{splitOnce, firstCell, splitn, cellAt}
 use Rattle.format.specs.TextReader.{hexDigits, scalarOf, unicodeEscape, afterBackslash, unescapeAt, unescape}
 use Rattle.format.proofs.LineLaws.{isKept}
 use Rattle.format.proofs.ListLaws.{both, by-test}
-use Rattle.format.proofs.Outcomes.{by-if, Gives, Holds, gives-bind, gives-ask, holds-then}
-use Rattle.text_bound.specs.Size.{total}
+use Rattle.format.proofs.Outcomes.{by-if, Gives, Holds, anything, gives-bind, gives-ask, holds-then}
+use Rattle.format.proofs.Totals.{total}
 use Rattle.text_bound.proofs.Sizes.{bytes}
-
--- of what is given, nothing need be known
-pub anything : {A : Type 0} (o : Outcome A) → Gives (λ _. Unit {0}) o
-anything (refused n) = tt
-anything (given a) = tt
 
 -- TRIMMING
 

@@ -1,6 +1,6 @@
--- The object of a text file has at most as many words as the file has bytes, and so has its source. Each row that is read has at least as
--- many bytes as it adds to the object's size. Assumes nothing.
-use mathlib.Core.Path.{_≡_}
+-- The object of a text file has at most as many words as the file has bytes, so that a read with this room never gives 3; and its source at
+-- most as many bytes. Each row that is read has at least as many bytes as it adds to the object's size. Assumes nothing.
+use mathlib.Core.Path.{_≡_, ap}
 use mathlib.Core.Bool.{Bool, false, not}
 use mathlib.Core.List.{List, [], _∷_, _++_, map, flatMap}
 use mathlib.Core.Option.{Option, none, some}
@@ -13,17 +13,21 @@ use Rattle.format.specs.Tokens.{Parts, partsAt, scanTokens, foldOutcome}
 use Rattle.format.specs.Sorted.{atKey}
 use Rattle.format.specs.Utf8.{isUtf8, trim}
 use Rattle.format.specs.ObjectFile.{ObjectFile, blockKey, sourceText}
-use Rattle.format.specs.Records.{emptyObject, labelNamed, Question, textQuestions, askAll, concluded}
+use Rattle.format.specs.Records.{emptyObject, labelNamed, textQuestions, concluded}
 use Rattle.format.specs.TextReader.{hex2u16, parseDecimal, maybeHex2u16, splitn, cellAt, sameCells, rowsUnder, blockAt, parseTextGroup}
 use Rattle.format.specs.TextReader.{parseSymbolRow, parseSymbolGroup, parseLinkerRow, parseLinkerGroup, parseLabelRow, parseLabelTable}
 use Rattle.format.specs.TextReader.{parseLineRows, runsFrom, unescape, parseLineTable, isBar, Split, splitAtBar, upToBar, parseDebugGroup}
 use Rattle.format.specs.TextReader.{parseGroup, keptLines, afterMagic, textObject}
 use Rattle.format.specs.Words.{wordsOf}
+use Rattle.format.specs.Calls.{readText, ReadsText}
+use Rattle.format.specs.Bounds.{textRoom, WordsFit, NeverShort}
 use Rattle.format.proofs.Outcomes.{by-if, Gives, Holds, gives, gives-map, gives-bind, gives-need, gives-ask, holds-then}
-use Rattle.text_bound.specs.Size.{total, lineSize, size}
-use Rattle.text_bound.proofs.Sizes.{total-parts, bytes, words-few, source-bytes-few}
-use Rattle.text_bound.proofs.Sizes.{block-adds, label-adds, relocation-adds, dropped-few}
-use Rattle.text_bound.proofs.Pieces.{anything, trim-few, kept-few, number-long, hex-long, maybe-long}
+use Rattle.format.proofs.WordsOnly.{bind-given, given-same}
+use Rattle.format.proofs.Numbered.{text-above}
+use Rattle.format.proofs.Totals.{total, total-parts, block-adds, label-adds, relocation-adds, concluded-few}
+use Rattle.format.proofs.Rooms.{never-short}
+use Rattle.text_bound.proofs.Sizes.{sizes, size, bytes, words-few, source-bytes-few}
+use Rattle.text_bound.proofs.Pieces.{trim-few, kept-few, number-long, hex-long, maybe-long}
 use Rattle.text_bound.proofs.Pieces.{cells-two, cells-three, unescape-few}
 
 -- at most n more than the object h
@@ -49,7 +53,7 @@ block-paid h l (c ∷ ls) =
     gives-ask _ 24 (leb n (length ls)) _ λ _.
     gives-need _ (λ ws. length ws ≤ bytes (take n ls)) 24 (allSome maybeHex2u16 (take n ls)) _ (words-paid (take n ls)) λ ws r.
     gives-ask _ 25 (not (isSome (atKey blockKey (a ∷ []) (h .blocks)))) _ λ _.
-    omega (arith, p, q, r, block-adds h (record { address = a; words = ws }), total-parts length n ls)
+    omega (arith, p, q, r, block-adds sizes h (record { address = a; words = ws }), total-parts length n ls)
 
 blocks-paid : (h : ObjectFile) (k : ℕ) (ls : List (List ℕ)) → Gives (Adds h (bytes (drop k ls))) (scanTokens blockAt h k ls)
 unfolding scanTokens
@@ -93,14 +97,14 @@ module _ (h : ObjectFile) (l : List ℕ) where
         within 2 1,
         within 2 2,
         cells-three l 2,
-        label-adds h (record { name = cell 2 2; address = a; external = not (eqb e 0); start = labelNamed (cell 2 2) (h .labels) .start }),
+        label-adds sizes h (record { name = cell 2 2; address = a; external = not (eqb e 0); start = labelNamed (cell 2 2) (h .labels) .start }),
       )
 
   linker-paid : Gives (Adds h (length l)) (parseLinkerRow h l)
   unfolding parseLinkerRow
   linker-paid =
       gives-need _ (λ _. length (cell 1 0) ≡ 4) 26 (hex2u16 (cell 1 0)) _ (hex-long (cell 1 0)) λ a p.
-      omega (arith, p, within 1 0, within 1 1, cells-three l 1, relocation-adds h (record { address = a; name = cell 1 1 }))
+      omega (arith, p, within 1 0, within 1 1, cells-three l 1, relocation-adds sizes h (record { address = a; name = cell 1 1 }))
 
   label-paid : Gives (Adds h (length l)) (parseLabelRow h l)
   unfolding parseLabelRow
@@ -113,7 +117,7 @@ module _ (h : ObjectFile) (l : List ℕ) where
         second,
         within 1 0,
         cells-two l 1 second,
-        label-adds h (record { name = cell 1 0; address = old .address; external = old .external; start = i }),
+        label-adds sizes h (record { name = cell 1 0; address = old .address; external = old .external; start = i }),
       )
 
 rows-few : (n : ℕ) (columns ls : List (List ℕ)) → Gives (λ rows. bytes rows ≤ bytes ls) (rowsUnder n columns ls)
@@ -146,7 +150,7 @@ line-rows-paid i (l ∷ ls) =
     (line-rows-paid (suc i) ls) λ rows r.
     omega (arith, p, q, r, trim-few (at 0), trim-few (at 1), cells-three l 2, length-append (at 2) (sources rows))
 
-runs-few : (i : ℕ) (run : List ℕ) (rows : List (Option ℕ)) → total lineSize (runsFrom i run rows) ≤ length run + 4 * length rows
+runs-few : (i : ℕ) (run : List ℕ) (rows : List (Option ℕ)) → total (sizes .ofLines) (runsFrom i run rows) ≤ length run + 4 * length rows
 unfolding runsFrom
 runs-few i run [] = omega arith
 runs-few i run (some a ∷ rows) = omega (arith, runs-few (suc i) (run ++ a ∷ []) rows, length-append run (a ∷ []))
@@ -233,10 +237,6 @@ unfolding afterMagic
 magic-few [] = tt
 magic-few (l ∷ ls) = gives-ask _ 21 (eqs l (ascii "LC-3 OBJ FILE")) _ λ _. omega arith
 
-concluded-few : (qs : List Question) (h : ObjectFile) → Gives (λ g. size g ≤ size h) (concluded qs h)
-unfolding concluded
-concluded-few qs h = gives-bind _ (λ _. Unit {0}) (askAll qs h) _ (anything (askAll qs h)) λ _ _. dropped-few h
-
 text-paid : (bs : List ℕ) → Gives (λ h. size h ≤ length bs) (textObject bs)
 unfolding textObject emptyObject
 text-paid bs =
@@ -248,7 +248,7 @@ text-paid bs =
     (fold-paid parseGroup (λ g. bytes (g .1)) group-paid emptyObject groups) λ g q.
     gives-map (λ h. size h ≤ size g) (λ h. size h ≤ length bs)
     (λ h r. omega (arith, p, q, r, groups-few (beginsWith (ascii ".")) ls, kept-few bs)) (concluded textQuestions g)
-    (concluded-few textQuestions g)
+    (concluded-few sizes g textQuestions)
 
 -- THE BOUNDS
 module _ (bs : List ℕ) (h : ObjectFile) (e : textObject bs ≡ given h) where
@@ -260,3 +260,13 @@ module _ (bs : List ℕ) (h : ObjectFile) (e : textObject bs ≡ given h) where
 
   pub text-source-few : length (sourceText (h .source)) ≤ length bs
   text-source-few = omega (arith, small, source-bytes-few h)
+
+pub text-words-fit : WordsFit readText textRoom
+unfolding readText
+text-words-fit bs ws e =
+    let p = bind-given (textObject bs) (λ h. given (wordsOf h)) ws e in
+    let same : wordsOf (p .0) ≡ ws = given-same (p .2) in
+    omega (arith, text-words-few bs (p .0) (p .1), ap length same)
+
+pub text-never-short : NeverShort ReadsText textRoom
+text-never-short = never-short readText textRoom text-words-fit text-above

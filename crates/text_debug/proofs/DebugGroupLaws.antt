@@ -32,7 +32,7 @@ use Rattle.text_debug.specs.DebugGroup.{LastBar, FirstRow, lineBlocksIn}
 use Rattle.text_debug.specs.LineRuns.{addressIn}
 use Rattle.text_debug.specs.DebugGroup.{LinesSet, withoutRows, Barred, DebugSettles, DebugChecked}
 use Rattle.text_lines.specs.declared.Passed.the-variants as pa
-use Rattle.format.proofs.Numbered.{Numbered, refused-by, rows-numbered, numbered-unescape}
+use Rattle.format.proofs.Numbered.{Above, refused-by, rows-numbered, numbered-unescape}
 use Rattle.text_debug.proofs.LineTableLaws.{Parsed, row, end, rows-28, source-of, rest, opened}
 
 -- THE LINES UP TO THE LAST
@@ -80,7 +80,7 @@ Keeps h number (given h′) = (number ≡ 0) × Kept h h′
 
 module _ {R : Type 0} (one : ObjectFile → List ℕ → Outcome ObjectFile) (parse : List ℕ → Option R) (set : ObjectFile → R → ObjectFile)
     (k : ℕ)
-    (splits : (s : ObjectFile) (a : List ℕ) → one s a ≡ (need k (parse a) >>= λ r. given (set s r))) (few : 0 < k)
+    (splits : (s : ObjectFile) (a : List ℕ) → one s a ≡ (need k (parse a) >>= λ r. given (set s r))) (few : 9 < k)
     (keeps : (h : ObjectFile) (r : R) → Kept h (set h r)) (columns : List (List ℕ)) where
   kept-all : (h : ObjectFile) (rs : List R) → Kept h (foldl set h rs)
   unfolding foldl
@@ -92,12 +92,12 @@ module _ {R : Type 0} (one : ObjectFile → List ℕ → Outcome ObjectFile) (pa
 
   kept-rows : (h : ObjectFile) (o : Option (List R))
       → Keeps h (refusalOf (need k o >>= λ rs. given (foldl set h rs))) (need k o >>= λ rs. given (foldl set h rs))
-  kept-rows h none = (refl, few)
+  kept-rows h none = (refl, omega (arith, few))
   kept-rows h (some rs) = (refl, kept-all h rs)
 
-  kept-under : (h : ObjectFile) (t : Outcome (List (List ℕ))) → Numbered t
+  kept-under : (h : ObjectFile) (t : Outcome (List (List ℕ))) → Above 9 t
       → Keeps h (refusalOf (t >>= λ rows. foldOutcome one h rows)) (t >>= λ rows. foldOutcome one h rows)
-  kept-under h (refused n) q = (refl, q)
+  kept-under h (refused n) q = (refl, omega (arith, q))
   kept-under h (given rows) q =
       subst (λ (o : Outcome ObjectFile). Keeps h (refusalOf o) o) (sym (through-parse one parse set k splits h rows))
       (kept-rows h (allSome parse rows))
@@ -156,10 +156,10 @@ module _ (h : ObjectFile) where
   Numbers ls (refused n) = 0 < n
   Numbers ls (given h′) = Set ls h′
 
-  unescaped : (ls : List (List ℕ)) (o : Outcome (List ℕ)) → isEmpty ls ≡ false → Numbered o → unescape (flatMap sourceCell ls) ≡ o
+  unescaped : (ls : List (List ℕ)) (o : Outcome (List ℕ)) → isEmpty ls ≡ false → Above 9 o → unescape (flatMap sourceCell ls) ≡ o
       → Numbers ls (o >>= λ s. given (withLines h (lineBlocksIn ls) (some s)))
   unfolding sourceIn
-  unescaped ls (refused n) e q f = q
+  unescaped ls (refused n) e q f = omega (arith, q)
   unescaped ls (given s) e q f =
       let r : s ≡ sourceIn ls = ap (λ (o : Outcome (List ℕ)). givenOr o []) (sym f) in
       ((λ t. absurd (true≢false (sym t ∙ e))), λ t. (ap (λ (x : List ℕ). withLines h (lineBlocksIn ls) (some x)) r, f ∙ ap given r))

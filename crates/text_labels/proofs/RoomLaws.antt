@@ -15,7 +15,7 @@ use Rattle.text_rows.specs.Rows.{symbolRow, rowIn, rowAt, rowKey, rowsOf}
 use Rattle.text_gather.specs.Keys.{lineAt, cellAt}
 use Rattle.text_words.specs.Written.{symbolWords, wordsAt}
 use Rattle.text_words.specs.Room.{roomFor, roomAfter}
-use Rattle.text_words.proofs.WordLaws.{label-length}
+use Rattle.format.proofs.Counts.{label-length}
 use Rattle.text_words.proofs.RoomLaws.{room-one, rooms-none, rooms-short, rooms-on}
 use Rattle.text_labels.specs.declared.Stream.{Stream}
 use Rattle.text_labels.specs.declared.Next.{Next}

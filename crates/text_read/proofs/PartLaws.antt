@@ -15,7 +15,7 @@ use Rattle.format.specs.Words.{textWords, recordWords}
 use Rattle.format.proofs.ListLaws.{flatMap-append, by-test}
 use Rattle.writing.specs.Written.{Put}
 use Rattle.writing.proofs.Parts.{State, Emits, rest, after, emit}
-use Rattle.writing.proofs.TextLaws.{length-words}
+use Rattle.format.proofs.Counts.{text-length}
 use Rattle.text_runs.proofs.RunLaws.{room-for}
 use Rattle.text_tables.specs.Debug.{lineView}
 use Rattle.text_debug.specs.DebugGroup.{lineBlocksIn}
@@ -90,7 +90,7 @@ debug-is true t rows lines q =
     let m : ℕ = length (sourceAt t rows) in
     let size : length (joined (sourceParts true t rows)) ≡ suc ((m + 2) / 3) =
     ap (λ (ps : List (List ℕ)). length (joined ps)) (source-some true t rows refl) ∙ ap (λ (k : List ℕ). length (0x8000_0000 ∷ k)) (append-nil (textWords (sourceAt t rows)))
-    ∙ ap suc (length-words (sourceAt t rows)) in
+    ∙ ap suc (text-length (sourceAt t rows)) in
     let same : lines .words ≡ length (joined (lineParts true t rows)) =
     c .2 ∙ ap (λ (ps : List (List ℕ)). length (joined ps)) (lines-some true t rows refl) in
     omega (arith, size, same, c .0)

@@ -10,11 +10,11 @@ use borrow.Author.Tests.{ne-eqb, eq-eqb}
 use borrow.Rule.Slice.PartAt.{part-to-end}
 use borrow.Rule.Slice.PartMut.{midOf, putMid}
 use Rattle.format.specs.Basics.{andThen, isEmpty, if_then_else_}
-use Rattle.format.specs.Digits.{digitsOf}
 use Rattle.format.specs.TextReader.{runsFrom}
 use Rattle.format.specs.ObjectFile.{LineBlock}
 use Rattle.format.specs.Records.{lineBlock}
 use Rattle.format.specs.Words.{word, memoryWord, numberWords, recordWords}
+use Rattle.format.proofs.Counts.{number-length, line-length}
 use Rattle.trim.specs.Span.{part}
 use Rattle.writing.specs.Written.{written, Put}
 use Rattle.writing.proofs.Parts.{State, Emits, rest, begin, emit-one, room-one, has-room}
@@ -257,10 +257,6 @@ room-for {left = left} {s = s} f part left′ e =
     omega (arith, has-room f)
 
 -- A RUN written
-number-length : (v : ℕ) → length (numberWords v) ≡ 3
-unfolding numberWords digitsOf
-number-length v = refl
-
 pub run-length : (first : ℕ) (xs : List (Option ℕ)) → length (runWords first xs) ≡ 4 + length xs
 unfolding runWords
 run-length first xs =
@@ -303,12 +299,6 @@ module _ (t : List ℕ) (from first n : ℕ) (room : List ℕ) where
     run-short l = run-put 0 room (too-short _ room (4 + n) run-words l)
 
 -- THE WORDS of the line blocks, as a walk over the rows counts them
-block-length : (first : ℕ) (run : List ℕ) → length (recordWords (lineBlock (record { first = first; addresses = run }))) ≡ 4 + length run
-unfolding recordWords runWords
-block-length first run =
-    ap (λ (l : List ℕ). length (word 3 0 ∷ numberWords first ++ l)) (sym (map-map run)) ∙ run-length first (map some run)
-    ∙ ap (λ (k : ℕ). 4 + k) (length-map run some)
-
 abbrev sizeOf : List LineBlock → ℕ
 sizeOf ls = length (flatMap (λ (p : List ℕ). p) (blockWords ls))
 
@@ -329,7 +319,7 @@ over-words i (a ∷ run) (none ∷ rows) s e l =
     let n : ℕ = sizeOf (runsFrom (suc i) [] rows) in
     let w : runEnd s .words ≡ (s .words + (4 + s .count)) % 2 ^ 64 = simp (ne-eqb (s .count) 0 (λ z. omega (arith, z, e))) in
     let m = size-more (record { first = i - length (a ∷ run); addresses = a ∷ run }) (runsFrom (suc i) [] rows) in
-    let b = block-length (i - length (a ∷ run)) (a ∷ run) in
+    let b = line-length (record { first = i - length (a ∷ run); addresses = a ∷ run }) in
     over-words (suc i) [] rows (runEnd s) refl (omega (arith, w))
     ∙ (let z : (runEnd s .words + n) % 2 ^ 64 ≡ (s .words + sizeOf (runsFrom i (a ∷ run) (none ∷ rows))) % 2 ^ 64 = omega (arith, w, m, b, e) in z)
 

@@ -22,7 +22,7 @@ use Rattle.text_to_binary.specs.ToBinary.{textToBinary, ConvertsText, te
 -- no refusal of a write has number 0
 binary-write : (ws : List ℕ) (ls : List Label) (rs : List Relocation) → Numbered (writeBinary ws ls rs)
 unfolding writeBinary
-binary-write ws ls rs = numbered-bind (objectOf ws) _ (object-numbered ws) λ h. numbered-ask 2 (countsFit h) _ (omega arith) tt
+binary-write ws ls rs = numbered-bind 0 (objectOf ws) _ (object-numbered ws) λ h. numbered-ask 0 2 (countsFit h) _ (omega arith) tt
 
 module _ (input buffer : List ℕ) where
   pub stops : (n : ℕ) → wordsRead readText input ≡ refused n → ConvertsText input buffer (filledOf (handedBack n 0) buffer)
@@ -54,6 +54,6 @@ module _ (input buffer : List ℕ) where
 
     pub prints : (r : ℕ) (after : List ℕ) → PrintsFilled f left r after → PrintsBinary input buffer r after × Counts r after
     prints r after p =
-        let n = numbered-bind (wordsRead readText input) _ (words-numbered readText text-read input) λ ws. binary-write ws (c .0) (c .1) in
+        let n = numbered-bind 0 (wordsRead readText input) _ (words-numbered readText text-read input) λ ws. binary-write ws (c .0) (c .1) in
         let q = printed (textToBinary input (c .0) (c .1)) buffer f left (c .3) n r after p in
         ((c .0, c .1, c .2, subst (λ (x : List ℕ). Put x buffer r after) (sym as-printed) (q .0)), q .1)

@@ -5,18 +5,16 @@ use mathlib.Core.List.{List, [], _∷_, map}
 use mathlib.Core.Option.{Option, none, some}
 use Prim.Native.Nat.{ℕ, zero, suc, _+_, _-_, _/_, _≤_, _<_}
 use native.Mathlib.Omega.{arith}
-use lib.ListN.{length, set, length-append, length-drop, length-map}
+use lib.ListN.{length, set, length-drop, length-map}
 use lib.Dec.{eqb}
 use borrow.Author.Tests.{eq-eqb, ne-eqb}
 use Rattle.format.proofs.ListLaws.{by-test}
 use Rattle.format.specs.Basics.{andThen, isSome}
 use Rattle.format.specs.TextReader.{parseDecimal, maybeHex2u16}
-use Rattle.format.specs.Digits.{digitsOf}
 use Rattle.format.specs.Records.{label, relocation}
-use Rattle.format.specs.ObjectFile.{Label, Relocation}
-use Rattle.format.specs.Words.{word, memoryWord, numberWords, textWords, recordWords}
+use Rattle.format.specs.Words.{word, memoryWord, recordWords}
 use Rattle.trim.specs.Span.{part}
-use Rattle.writing.proofs.TextLaws.{length-words}
+use Rattle.format.proofs.Counts.{label-length, relocation-length}
 use borrow.Rule.Slice.PartAt.{part-to-end}
 use Rattle.writing.proofs.Parts.{State, Emits, rest, begin, emit-one, room-one, has-room}
 use Rattle.text_lines.specs.Groups.{partsFrom, RowAt}
@@ -27,19 +25,6 @@ use Rattle.text_rows.specs.Rows.{orZero, orNone, firstLine, countIn, blockRow, 
 use Rattle.text_gather.specs.Keys.{lineAt, cellAt, addressAt, keyCell}
 use Rattle.text_words.specs.declared.Entries.{Entries}
 use Rattle.text_words.specs.Written.{externalAt, indexAt, symbolWords, entryWord, entriesFrom, EntriesOf, wordsAt}
-
--- LENGTHS
-pub relocation-length : (q : Relocation) → length (recordWords (relocation q)) ≡ 1 + (length (q .name) + 2) / 3
-unfolding recordWords
-relocation-length q = omega (arith, length-words (q .name))
-
-number-length : (n : ℕ) → length (numberWords n) ≡ 3
-unfolding numberWords digitsOf
-number-length n = refl
-
-pub label-length : (l : Label) → length (recordWords (label l)) ≡ 4 + (length (l .name) + 2) / 3
-unfolding recordWords
-label-length l = omega (arith, number-length (l .start), length-append (numberWords (l .start)) (textWords (l .name)), length-words (l .name))
 
 -- what is left fits in the rest that is lent
 pub rest-room : (whole room left : List ℕ) (s : State ℕ) → Emits whole room left s → length left ≤ length (rest s)

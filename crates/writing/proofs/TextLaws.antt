@@ -1,7 +1,7 @@
 -- The words of a text, word by word. Assumes nothing.
-use mathlib.Core.Path.{_≡_, refl, ap, _∙_}
+use mathlib.Core.Path.{_≡_, refl, _∙_}
 use mathlib.Core.List.{List, [], _∷_}
-use Prim.Native.Nat.{ℕ, suc, _+_, _*_, _/_, _<_}
+use Prim.Native.Nat.{ℕ, _+_, _*_, _<_}
 use native.Mathlib.Omega.{arith}
 use lib.ListN.{length, drop, getD, length-drop}
 use lib.Seq.{drop-drop}
@@ -48,10 +48,3 @@ words-cons (a ∷ b ∷ c ∷ s) h = refl
 
 pub words-at : (s : List ℕ) (i : ℕ) → i < length s → textWords (drop i s) ≡ firstWord (drop i s) ∷ textWords (drop (i + 3) s)
 words-at s i h = words-cons (drop i s) (rw length-drop (omega arith)) ∙ simp drop-drop
-
-pub length-words : (s : List ℕ) → length (textWords s) ≡ (length s + 2) / 3
-unfolding textWords
-length-words [] = refl
-length-words (a ∷ []) = refl
-length-words (a ∷ b ∷ []) = refl
-length-words (a ∷ b ∷ c ∷ s) = ap suc (length-words s) ∙ omega arith

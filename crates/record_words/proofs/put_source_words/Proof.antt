@@ -9,7 +9,7 @@ use denote.Ref.{now}
 use Rattle.writing.proofs.WriteLaws.{too-short}
 use Rattle.writing.proofs.Parts.{Emits, begin, emit-one, emitted, room-one, same}
 use Rattle.format.specs.Words.{textWords}
-use Rattle.writing.proofs.TextLaws.{length-words}
+use Rattle.format.proofs.Counts.{text-length}
 use Rattle.record_words.proofs.RecordLaws.{text-at}
 use Rattle.record_words.proofs.put_source_words.Statement.{statement}
 use Rattle.record_words.proofs.put_source_words.Tie as tie
@@ -24,12 +24,12 @@ abbrev μ-loop : tie.MeasureT-loop
 returns-2 : tie.Need-returns-2 Inv-loop μ-loop
 returns-2 c =
     let s = now (c .before .before .before .before .args .s) in
-    too-short _ _ _ (length-words s) (omega (arith, c .if2 .taken, c .before .if1 .left))
+    too-short _ _ _ (text-length s) (omega (arith, c .if2 .taken, c .before .if1 .left))
 
 loop-holds : tie.Need-loop-holds Inv-loop μ-loop
 loop-holds c =
     let s = now (c .before .before .before .before .args .s) in
-    (search needs, search needs, begin _ _ (omega (arith, length-words s, c .if2 .left, c .before .if1 .left)))
+    (search needs, search needs, begin _ _ (omega (arith, text-length s, c .if2 .left, c .before .if1 .left)))
 
 -- the next word
 next-word : (c : tie.After-text-word Inv-loop μ-loop) →

@@ -10,7 +10,7 @@ use Rattle.format.specs.Records.{label}
 use Rattle.format.specs.Words.{numberWords, textWords, recordWords}
 use Rattle.writing.proofs.WriteLaws.{too-short}
 use Rattle.writing.proofs.Parts.{State, Emits, after, begin, emit, emitted, within, small}
-use Rattle.text_words.proofs.WordLaws.{label-length}
+use Rattle.format.proofs.Counts.{label-length}
 use Rattle.text_words.proofs.put_label.Statement.{statement}
 use Rattle.text_words.proofs.put_label.Tie as tie
 

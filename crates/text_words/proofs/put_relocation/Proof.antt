@@ -10,7 +10,7 @@ use Rattle.format.specs.Records.{relocation}
 use Rattle.format.specs.Words.{textWords, recordWords}
 use Rattle.writing.proofs.WriteLaws.{too-short}
 use Rattle.writing.proofs.Parts.{State, Emits, after, begin, emit, emitted, within, small}
-use Rattle.text_words.proofs.WordLaws.{relocation-length}
+use Rattle.format.proofs.Counts.{relocation-length}
 use Rattle.text_words.proofs.put_relocation.Statement.{statement}
 use Rattle.text_words.proofs.put_relocation.Tie as tie
 

@@ -10,7 +10,8 @@ use borrow.Rule.Slice.PartAt.{part-to-end}
 use Rattle.format.specs.Words.{textWords}
 use Rattle.writing.proofs.WriteLaws.{too-short}
 use Rattle.writing.proofs.Parts.{Emits, begin, emit-one, emitted, room-one, same}
-use Rattle.writing.proofs.TextLaws.{firstWord, words-at, length-words}
+use Rattle.writing.proofs.TextLaws.{firstWord, words-at}
+use Rattle.format.proofs.Counts.{text-length}
 use Rattle.writing.proofs.put_text_words.Statement.{statement}
 use Rattle.writing.proofs.put_text_words.Tie as tie
 
@@ -22,10 +23,10 @@ abbrev μ-loop : tie.MeasureT-loop
 μ-loop out₀ s at₀ i₀ out at i = length s - i
 
 returns : tie.Need-returns Inv-loop μ-loop
-returns c = too-short _ _ _ (length-words _) (c .if1 .taken)
+returns c = too-short _ _ _ (text-length _) (c .if1 .taken)
 
 loop-holds : tie.Need-loop-holds Inv-loop μ-loop
-loop-holds c = (search needs, begin _ _ (omega (arith, length-words (now (c .before .before .before .args .s)))))
+loop-holds c = (search needs, begin _ _ (omega (arith, text-length (now (c .before .before .before .args .s)))))
 
 -- the next word
 next-word : (c : tie.After-text-word Inv-loop μ-loop) →
