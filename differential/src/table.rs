@@ -19,6 +19,8 @@ pub enum Call {
     IsFair,
     BinaryLength,
     BinaryRead,
+    /// The same with as much room as request P13 says is enough.
+    BinaryRoom,
     BinaryWrite,
     TextLength,
     TextRead,
@@ -49,7 +51,7 @@ impl Call {
             Call::CountLines | Call::GetPosPair => &[0, 1, 4],
             Call::RawLineSpan | Call::LineSpan => &[0, 1, 4, 5],
             Call::Get | Call::Find => &[0, 1, 4, 6],
-            Call::BinaryLength | Call::HostBinary => &[0, 10, 11, 12, 13, 14, 15],
+            Call::BinaryLength | Call::BinaryRoom | Call::HostBinary => &[0, 10, 11, 12, 13, 14, 15],
             Call::BinaryRead => &[0, 3, 10, 11, 12, 13, 14, 15],
             Call::BinaryWrite => &[0, 1, 2, 3],
             Call::TextLength | Call::HostText => &[0, 20, 21, 22, 23, 24, 25, 26, 27, 28, 29, 30, 31],
@@ -69,11 +71,21 @@ struct Row {
     numbers: BTreeMap<u8, u64>,
     /// Cases that aren't in the runs, by reason and what the crate did. They are compared with document 01 alone.
     excluded: BTreeMap<(Excluded, &'static str), u64>,
+    differences: u64,
+}
+
+/// Accepted binary files of even or of odd length, and those of them with just as many words as request P13 allows.
+#[derive(Default, Clone, Copy)]
+struct Rooms {
+    files: u64,
+    met: u64,
 }
 
 /// How many differences are told, and how many characters of an input or an answer.
 const TOLD: usize = 20;
 const CUT: usize = 1500;
+
+const LENGTHS: [&str; 2] = ["even", "odd"];
 
 #[derive(Default)]
 pub struct Table {
@@ -85,6 +97,8 @@ pub struct Table {
     objects: BTreeMap<&'static str, u64>,
     /// How many of all the numbers below x110000 are White_Space by the call under test, where each was asked.
     pub white_spaces: Option<u64>,
+    /// Of even length, and of odd.
+    rooms: [Rooms; 2],
     pub differences: u64,
     told: Vec<String>,
 }
@@ -120,6 +134,7 @@ impl Table {
     /// The words are asked for only where they are told: a wrong call may differ 2^32 times.
     pub fn differs(&mut self, call: Call, input: &dyn Fn() -> String, what: &dyn Fn() -> String) {
         self.differences += 1;
+        self.row(call).differences += 1;
         if self.told.len() < TOLD {
             let cut = |s: String| match s.char_indices().nth(CUT) {
                 Some((at, _)) => format!("{} (cut)", &s[..at]),
@@ -127,6 +142,18 @@ impl Table {
             };
             self.told.push(format!("{call:?} of {}: {}", cut(input()), cut(what())));
         }
+    }
+
+    /// The differences of one call.
+    pub fn differences_of(&self, call: Call) -> u64 {
+        [&self.fixed, &self.random].iter().filter_map(|rows| rows.get(&call)).map(|row| row.differences).sum()
+    }
+
+    /// Counts an accepted binary file, by its length in bytes and whether it has just as many words as request P13 allows.
+    pub fn room(&mut self, bytes: usize, met: bool) {
+        let rooms = &mut self.rooms[bytes % 2];
+        rooms.files += 1;
+        rooms.met += u64::from(met);
     }
 
     /// Counts what an object has that a run should meet.
@@ -156,7 +183,8 @@ impl Table {
         }
     }
 
-    /// What keeps this run from showing much: a number not reached, or under a quarter of a call's random cases accepted.
+    /// What keeps this run from showing much: a number not reached, under a quarter of a call's random cases accepted, or request P13's
+    /// bound not met. At odd lengths only the header alone meets it.
     pub fn gaps(&self) -> Vec<String> {
         let mut out = vec![];
         for (call, row) in self.random.iter().filter(|(_, row)| !row.numbers.is_empty()) {
@@ -168,6 +196,9 @@ impl Table {
             if 4 * accepted < made {
                 out.push(format!("{call:?}: {accepted} of {made} random calls accepted, under a quarter"));
             }
+        }
+        for (name, _) in LENGTHS.iter().zip(&self.rooms).filter(|(_, rooms)| rooms.met == 0) {
+            out.push(format!("BinaryRoom: no file of {name} length has as many words as it may"));
         }
         out
     }
@@ -204,9 +235,19 @@ impl Table {
         if let Some(yes) = self.white_spaces {
             println!("\nWhite_Space among all numbers below x110000, by the call under test: {yes}");
         }
+        self.print_rooms();
         println!("\ndifferences: {}", self.differences);
         for line in &self.told {
             println!("  {line}");
+        }
+    }
+
+    fn print_rooms(&self) {
+        let [even, odd] = self.rooms;
+        let (files, met) = (even.files + odd.files, even.met + odd.met);
+        println!("\naccepted binary files, and those with just (n - 7) / 2 words, rounded down: {files}, {met}");
+        for (name, rooms) in LENGTHS.iter().zip(&self.rooms) {
+            println!("  of {name} length: {}, {}", rooms.files, rooms.met);
         }
     }
 }

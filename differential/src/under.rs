@@ -4,6 +4,7 @@ use crate::gen::Depth;
 use crate::hex;
 use crate::marked::{self, Input};
 use crate::numbers::query::{Query, Values};
+use crate::numbers::room;
 use crate::object::encode;
 use crate::prng::Prng;
 use crate::records;
@@ -88,6 +89,12 @@ const WHITE_SPACES: u64 = 25;
 /// Elements on both sides of a lent buffer, which nothing may touch.
 const AROUND: usize = 4;
 
+/// A buffer with so much room, and the elements around it.
+fn before<T: Element>(room: usize, salt: u64) -> Vec<T> {
+    let odd = salt | 1;
+    (0..room + 2 * AROUND).map(|i| T::of(odd.wrapping_mul(2 * i as u64 + 1) >> 40)).collect()
+}
+
 struct Run<'a> {
     calls: &'a Calls,
     table: Table,
@@ -96,6 +103,8 @@ struct Run<'a> {
     buffers: Prng,
     /// For White_Space alone, so that the cases of the other calls are what they are without it.
     white: Prng,
+    /// For request P13 alone, files and buffers, likewise.
+    room: Prng,
 }
 
 impl Run<'_> {
@@ -142,27 +151,40 @@ impl Run<'_> {
             Some(v) => vec![0, v.len() - 1, v.len(), v.len() + some],
         };
         for room in rooms {
-            let salt = self.buffers.next() | 1;
-            let before: Vec<T> = (0..room + 2 * AROUND).map(|i| T::of(salt.wrapping_mul(2 * i as u64 + 1) >> 40)).collect();
-            let mut after = before.clone();
-            let got = ask(&mut after[AROUND..AROUND + room]);
-            let filled: &[T] = match &want.value {
-                Some(v) if v.len() <= room => v,
-                _ => &[],
-            };
-            let told = match &want.value {
-                None => (want.number, 0),
-                Some(v) if v.len() > room => (3, 0),
-                Some(v) => (0, v.len()),
-            };
-            self.call(call, &|| format!("{} with room for {room}", input()), told.0, told, got);
-            let end = AROUND + filled.len();
-            if got == told && !filled.is_empty() && order(&after[AROUND..end]) != filled {
-                self.table.differs(call, input, &|| format!("room for {room}: what was filled"));
-            }
-            if after[..AROUND] != before[..AROUND] || after[end..] != before[end..] {
-                self.table.differs(call, input, &|| format!("room for {room}: what was to be left alone"));
-            }
+            let before = before(room, self.buffers.next());
+            self.fills_one(call, input, want, ask, order, before);
+        }
+    }
+
+    /// A filling call, with one buffer.
+    fn fills_one<T: Element>(
+        &mut self,
+        call: Call,
+        input: &dyn Fn() -> String,
+        want: &Answer<Vec<T>>,
+        ask: &dyn Fn(&mut [T]) -> Filled,
+        order: &dyn Fn(&[T]) -> Vec<T>,
+        before: Vec<T>,
+    ) {
+        let room = before.len() - 2 * AROUND;
+        let mut after = before.clone();
+        let got = ask(&mut after[AROUND..AROUND + room]);
+        let filled: &[T] = match &want.value {
+            Some(v) if v.len() <= room => v,
+            _ => &[],
+        };
+        let told = match &want.value {
+            None => (want.number, 0),
+            Some(v) if v.len() > room => (3, 0),
+            Some(v) => (0, v.len()),
+        };
+        self.call(call, &|| format!("{} with room for {room}", input()), told.0, told, got);
+        let end = AROUND + filled.len();
+        if got == told && !filled.is_empty() && order(&after[AROUND..end]) != filled {
+            self.table.differs(call, input, &|| format!("room for {room}: what was filled"));
+        }
+        if after[..AROUND] != before[..AROUND] || after[end..] != before[end..] {
+            self.table.differs(call, input, &|| format!("room for {room}: what was to be left alone"));
         }
     }
 
@@ -188,11 +210,51 @@ impl Run<'_> {
         if let Some(host) = self.calls.host {
             self.length(Call::HostBinary, file, &want, host.binary_length);
         }
+        self.binary_room(file, &want);
+    }
+
+    /// Request P13 of any binary file: an accepted one has at most so many words, and a read with this much room never gives 3.
+    /// Whether it has just so many.
+    fn binary_room(&mut self, file: &[u8], want: &Answer<Vec<u32>>) -> bool {
+        let (call, input) = (Call::BinaryRoom, || hex::bytes(file));
+        let room = room::binary(file.len());
+        let before = before(room, self.room.next()); // drawn also where nothing is linked: the cases stay the same
+        self.table.case(call, want.excluded.map(|why| (why, want.crate_did)));
+        let words = want.value.as_ref().map(Vec::len);
+        if let Some(words) = words {
+            self.table.room(file.len(), words == room);
+            if words > room {
+                self.table.differs(call, &input, &|| format!("{words} words, of {room} at most"));
+            }
+        }
+        if let Some(form) = self.calls.binary {
+            self.fills_one(call, &input, want, &|out| (form.read)(file, out), &|w| w.to_vec(), before);
+        }
+        words == Some(room)
+    }
+
+    /// A file for request P13 alone, so that the other calls' cases are what they are without it.
+    fn room_file(&mut self, file: &[u8]) -> bool {
+        let want = reference::read_binary(file);
+        self.sides(Call::BinaryRoom, &|| hex::bytes(file), &want);
+        self.binary_room(file, &want)
+    }
+
+    /// A line block alone has just as many words as request P13 allows, so that no fewer would do.
+    fn line_blocks_alone(&mut self) {
+        for k in gen::room::counts() {
+            if !self.room_file(&gen::room::alone(k)) {
+                self.table.differs(Call::BinaryRoom, &|| format!("a line block of {k} alone"), &|| "not the most words".into());
+            }
+        }
     }
 
     fn text_file(&mut self, file: &[u8]) {
         let want = reference::read_text(file);
         self.file(self.calls.text, Call::TextLength, Call::TextRead, file, &want);
+        if want.value.as_ref().is_some_and(|words| words.len() > file.len()) {
+            self.table.differs(Call::TextRead, &|| hex::bytes(file), &|| "more words than bytes".into());
+        }
         if let Some(host) = self.calls.host {
             self.length(Call::HostText, file, &want, host.text_length);
         }
@@ -345,6 +407,7 @@ impl Run<'_> {
             self.object(encode(&p));
         }
         self.white_space_in_full(plan.depth);
+        self.line_blocks_alone();
     }
 
     /// One random case of each call.
@@ -357,12 +420,15 @@ impl Run<'_> {
         self.object(words);
         let number = gen::white::case(&mut self.white);
         self.white_space([number]);
+        let file = gen::room::case(&mut self.room);
+        self.room_file(&file);
     }
 }
 
 pub fn run(calls: &Calls, plan: &Plan) -> Table {
-    let (rng, buffers, white) = (Prng::new(plan.seed), Prng::new(!plan.seed), Prng::new(plan.seed.reverse_bits()));
-    let mut run = Run { calls, table: Table::default(), rng, buffers, white };
+    let (rng, buffers) = (Prng::new(plan.seed), Prng::new(!plan.seed));
+    let (white, room) = (Prng::new(plan.seed.reverse_bits()), Prng::new(!plan.seed.reverse_bits()));
+    let mut run = Run { calls, table: Table::default(), rng, buffers, white, room };
     run.fixed(plan);
     run.table.at_random = true;
     for _ in 0..plan.cases {

@@ -5,6 +5,7 @@ pub mod edges;
 pub mod many;
 pub mod object;
 pub mod query;
+pub mod room;
 pub mod short;
 pub mod text;
 pub mod white;

@@ -3,6 +3,7 @@
 
 pub mod binary;
 pub mod query;
+pub mod room;
 pub mod text;
 pub mod text_write;
 pub mod utf8;
