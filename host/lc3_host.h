@@ -18,10 +18,10 @@ struct lc3_position {
     uint64_t column;
 };
 
-/* Does this read as binary? */
+/* Does this read as binary? Of n bytes the object has at most (n - 7) / 2 words, rounded down. */
 struct lc3_measured lc3_binary_length(const uint8_t *bytes, size_t bytes_len);
 
-/* Does this read as text? */
+/* Does this read as text? Of n bytes the object has at most n words. */
 struct lc3_measured lc3_text_length(const uint8_t *bytes, size_t bytes_len);
 
 /* The line and the column of an index into the bytes of a source; past the end the line count and the index. */

@@ -24,13 +24,13 @@ extern "C" {
     fn lc3_get_pos_pair(source: *const u8, source_len: usize, index: u64) -> Position;
 }
 
-/// Does this read as binary?
+/// Does this read as binary? Of n bytes the object has at most (n - 7) / 2 words, rounded down.
 pub fn binary_length(bytes: &[u8]) -> Measured {
     // SAFETY: start and count are those of a slice, which the call reads.
     unsafe { lc3_binary_length(bytes.as_ptr(), bytes.len()) }
 }
 
-/// Does this read as text?
+/// Does this read as text? Of n bytes the object has at most n words.
 pub fn text_length(bytes: &[u8]) -> Measured {
     // SAFETY: as above.
     unsafe { lc3_text_length(bytes.as_ptr(), bytes.len()) }

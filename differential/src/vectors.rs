@@ -10,6 +10,7 @@ use std::collections::{BTreeMap, BTreeSet};
 use std::ops::RangeInclusive;
 
 use crate::gen;
+use crate::marked;
 use crate::numbers::query::{Query, Values};
 use crate::object::encode;
 use crate::parts::{Label, Parts};
@@ -186,8 +187,21 @@ fn files(read: (char, fn(&mut Prng) -> Vec<u8>, fn(&[u8]) -> Answer<Vec<u32>>), 
     accented.print();
 }
 
+/// About P13's bound: six header bytes, 10 with no room; a line block alone with no address and with two, 5 of 5 words and 7 of 7; and
+/// document 01's 77 bytes, 18 of 35.
+fn room_files() -> [Vec<u8>; 4] {
+    let (_, example, _) = marked::example();
+    [example[..6].to_vec(), gen::room::alone(0), gen::room::alone(2), example]
+}
+
 pub fn binary() {
     files(('B', gen::binary::case, reference::read_binary), ('b', Object::write_binary));
+    let mut r = Prng::new(9);
+    for file in room_files() {
+        let mut one = Kept::default();
+        one.fills(&mut r, 'B', (&file, bytes), &reference::read_binary(&file), words);
+        one.print();
+    }
 }
 
 pub fn text() {

@@ -51,3 +51,6 @@ pub mod Counts
 pub mod Totals
 pub mod Rooms
 pub mod BinaryBound
+pub mod Sizes
+pub mod PieceLengths
+pub mod TextBound

@@ -13,7 +13,6 @@ use Rattle.format.specs.ObjectFile.{Block, Label, LineBlock, Relocation,
 use Rattle.format.specs.Records.{Record, block, label, lineBlock, source, relocation, sourceRecords, recordsOf, putRecord, dropStrayRelocations}
 use Rattle.format.specs.Records.{Question, askAll, concluded}
 use Rattle.format.specs.Words.{recordWords, wordsOf}
-use Rattle.format.proofs.ListLaws.{flatMap-length}
 use Rattle.format.proofs.Outcomes.{by-if, Gives, gives-bind, anything}
 use Rattle.format.proofs.Counts.{block-length, label-length, line-length, source-length, relocation-length}
 
@@ -45,12 +44,47 @@ module _ {A : Type 0} (f : A → ℕ) where
   total-few g few [] = omega arith
   total-few g few (x ∷ xs) = omega (arith, few x, total-few g few xs)
 
-  -- the lengths of lists that are joined
-  pub total-length : {B C : Type 0} (g : B → List C) (h : A → B) → ((x : A) → length (g (h x)) ≡ f x) → (xs : List A)
-      → length (flatMap g (map h xs)) ≡ total f xs
-  unfolding flatMap
-  total-length g h same [] = refl
-  total-length g h same (x ∷ xs) = omega (arith, length-append (g (h x)) (flatMap g (map h xs)), same x, total-length g h same xs)
+  pub total-same : (g : A → ℕ) → ((x : A) → f x ≡ g x) → (xs : List A) → total f xs ≡ total g xs
+  total-same g same [] = refl
+  total-same g same (x ∷ xs) = omega (arith, same x, total-same g same xs)
+
+  pub total-append : (xs ys : List A) → total f (xs ++ ys) ≡ total f xs + total f ys
+  total-append [] ys = omega arith
+  total-append (x ∷ xs) ys = omega (arith, total-append xs ys)
+
+  pub total-map : {B : Type 0} (g : B → A) (xs : List B) → total f (map g xs) ≡ total (λ x. f (g x)) xs
+  total-map g [] = refl
+  total-map g (x ∷ xs) = omega (arith, total-map g xs)
+
+-- the length of lists that are joined
+pub total-length : {A B : Type 0} (g : A → List B) (xs : List A) → length (flatMap g xs) ≡ total (λ x. length (g x)) xs
+unfolding flatMap
+total-length g [] = refl
+total-length g (x ∷ xs) = omega (arith, length-append (g x) (flatMap g xs), total-length g xs)
+
+-- the records of an object, part by part
+pub total-records : (f : Record → ℕ) (h : ObjectFile)
+    → total f (recordsOf h)
+    ≡ total (λ b. f (block b)) (h .blocks) + total (λ l. f (label l)) (h .labels) + total (λ l. f (lineBlock l)) (h .lineBlocks)
+    + total f (sourceRecords (h .source)) + total (λ r. f (relocation r)) (h .relocations)
+unfolding recordsOf
+total-records f h =
+    let bs : List Record = map block (h .blocks) in
+    let ls : List Record = map label (h .labels) in
+    let ms : List Record = map lineBlock (h .lineBlocks) in
+    let ss : List Record = sourceRecords (h .source) in
+    let rs : List Record = map relocation (h .relocations) in
+    omega (
+      arith,
+      total-append f (bs ++ ls ++ ms ++ ss) rs,
+      total-append f (bs ++ ls ++ ms) ss,
+      total-append f (bs ++ ls) ms,
+      total-append f bs ls,
+      total-map f block (h .blocks),
+      total-map f label (h .labels),
+      total-map f lineBlock (h .lineBlocks),
+      total-map f relocation (h .relocations),
+    )
 
 -- THE WEIGHT OF AN OBJECT
 
@@ -116,28 +150,21 @@ wordCounts = record {
   ofRelocation = λ r. 1 + (length (r .name) + 2) / 3;
 }
 
-source-counted : (o : Option (List ℕ)) → length (flatMap recordWords (sourceRecords o)) ≡ sourceCount o
-unfolding sourceRecords flatMap
+source-counted : (o : Option (List ℕ)) → total (λ r. length (recordWords r)) (sourceRecords o) ≡ sourceCount o
+unfolding sourceRecords
 source-counted none = refl
-source-counted (some s) = omega (arith, length-append (recordWords (source s)) [], source-length s)
+source-counted (some s) = omega (arith, source-length s)
 
 pub words-counted : (h : ObjectFile) → length (wordsOf h) ≡ weight wordCounts h
-unfolding wordsOf recordsOf
+unfolding wordsOf
 words-counted h =
-    let bs : List Record = map block (h .blocks) in
-    let ls : List Record = map label (h .labels) in
-    let ms : List Record = map lineBlock (h .lineBlocks) in
-    let ss : List Record = sourceRecords (h .source) in
-    let rs : List Record = map relocation (h .relocations) in
     omega (
       arith,
-      flatMap-length recordWords (bs ++ ls ++ ms ++ ss) rs,
-      flatMap-length recordWords (bs ++ ls ++ ms) ss,
-      flatMap-length recordWords (bs ++ ls) ms,
-      flatMap-length recordWords bs ls,
-      total-length (wordCounts .ofBlock) recordWords block block-length (h .blocks),
-      total-length (wordCounts .ofLabel) recordWords label label-length (h .labels),
-      total-length (wordCounts .ofLines) recordWords lineBlock line-length (h .lineBlocks),
+      total-length recordWords (recordsOf h),
+      total-records (λ r. length (recordWords r)) h,
+      total-same (λ b. length (recordWords (block b))) (wordCounts .ofBlock) block-length (h .blocks),
+      total-same (λ l. length (recordWords (label l))) (wordCounts .ofLabel) label-length (h .labels),
+      total-same (λ l. length (recordWords (lineBlock l))) (wordCounts .ofLines) line-length (h .lineBlocks),
       source-counted (h .source),
-      total-length (wordCounts .ofRelocation) recordWords relocation relocation-length (h .relocations),
+      total-same (λ r. length (recordWords (relocation r))) (wordCounts .ofRelocation) relocation-length (h .relocations),
     )

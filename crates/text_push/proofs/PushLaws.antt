@@ -15,7 +15,7 @@ use Rattle.writing.proofs.EachLaws.{drop-at-place}
 use Rattle.writing.proofs.WriteLaws.{filled-fits, written-fits, length-into}
 use Rattle.writing.proofs.Parts.{Emits, emit-one, room-one, emitted}
 use Rattle.encode.specs.Scalar.{scalarBytes}
-use Rattle.text_bound.proofs.Pieces.{encode-few}
+use Rattle.format.proofs.PieceLengths.{encode-few}
 use Rattle.text_push.specs.declared.Held.{Held}
 use Rattle.text_push.specs.Pushes.{fullWord, lastWord, placeAfter, stored, pushed, pushedAll, flushed, Pushes, Stores, Flushes}
 

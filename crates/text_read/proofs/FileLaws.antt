@@ -16,7 +16,7 @@ use Rattle.format.specs.TextReader.{textObject}
 use Rattle.format.specs.Words.{recordWords, wordsOf}
 use Rattle.format.proofs.ListLaws.{flatMap-append, flatMap-map, by-test}
 use Rattle.format.proofs.Outcomes.{gives}
-use Rattle.text_bound.proofs.TextBound.{text-words-few, text-source-few}
+use Rattle.format.proofs.TextBound.{text-words-few, text-source-few}
 use Rattle.text_tables.specs.Debug.{lineView}
 use Rattle.text_source.specs.Stream.{sourceFrom}
 use Rattle.text_blocks.specs.Blocks.{blocksLength}

@@ -8,17 +8,17 @@ use native.Mathlib.Omega.{arith}
 use lib.ListN.{length, length-append, length-drop, take, drop}
 use lib.Dec.{ltb, eqb}
 use borrow.Author.Tests.{eqb-true}
 use Rattle.format.specs.Basics.{ascii, isEmpty, keep, eqs, beginsWith}
 use Rattle.format.specs.Tokens.{tokens}
 use Rattle.format.specs.Utf8.{isBetween, encodeScalar, charAt, whiteSpaceLength, passOver, trimFrom, trimStart, isBlank, trimEnd, trim}
 use Rattle.format.specs.TextReader.{onFirst, lines, keptLines, digitsFrom, withoutPlus, belowLimit, parseNumber, hex2u16, maybeHex2u16}
 use Rattle.format.specs.TextReader.{splitOnce, firstCell, splitn, cellAt}
 use Rattle.format.specs.TextReader.{hexDigits, scalarOf, unicodeEscape, afterBackslash, unescapeAt, unescape}
 use Rattle.format.proofs.LineLaws.{isKept}
 use Rattle.format.proofs.ListLaws.{both, by-test}
 use Rattle.format.proofs.Outcomes.{by-if, Gives, Holds, anything, gives-bind, gives-ask, holds-then}
 use Rattle.format.proofs.Totals.{total}
-use Rattle.text_bound.proofs.Sizes.{bytes}
+use Rattle.format.proofs.Sizes.{bytes}
 
 -- TRIMMING
 

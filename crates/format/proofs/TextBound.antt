@@ -8,27 +8,27 @@ use Prim.Native.Nat.{ℕ, zero, suc, _+_, _-_, _*_, _^_, _≤_}
 use native.Mathlib.Omega.{arith}
 use lib.ListN.{length, length-append, length-map, take, drop}
 use lib.Dec.{leb, eqb}
 use Rattle.format.specs.Basics.{Outcome, given, _>>=_, isSome, isEmpty, ascii, eqs, beginsWith, allSome}
 use Rattle.format.specs.Tokens.{Parts, partsAt, scanTokens, foldOutcome}
 use Rattle.format.specs.Sorted.{atKey}
 use Rattle.format.specs.Utf8.{isUtf8, trim}
 use Rattle.format.specs.ObjectFile.{ObjectFile, blockKey, sourceText}
 use Rattle.format.specs.Records.{emptyObject, labelNamed, textQuestions, concluded}
 use Rattle.format.specs.TextReader.{hex2u16, parseDecimal, maybeHex2u16, splitn, cellAt, sameCells, rowsUnder, blockAt, parseTextGroup}
 use Rattle.format.specs.TextReader.{parseSymbolRow, parseSymbolGroup, parseLinkerRow, parseLinkerGroup, parseLabelRow, parseLabelTable}
 use Rattle.format.specs.TextReader.{parseLineRows, runsFrom, unescape, parseLineTable, isBar, Split, splitAtBar, upToBar, parseDebugGroup}
 use Rattle.format.specs.TextReader.{parseGroup, keptLines, afterMagic, textObject}
 use Rattle.format.specs.Words.{wordsOf}
 use Rattle.format.specs.Calls.{readText, ReadsText}
 use Rattle.format.specs.Bounds.{textRoom, WordsFit, NeverShort}
 use Rattle.format.proofs.Outcomes.{by-if, Gives, Holds, gives, gives-map, gives-bind, gives-need, gives-ask, holds-then}
 use Rattle.format.proofs.WordsOnly.{bind-given, given-same}
 use Rattle.format.proofs.Numbered.{text-above}
 use Rattle.format.proofs.Totals.{total, total-parts, block-adds, label-adds, relocation-adds, concluded-few}
 use Rattle.format.proofs.Rooms.{never-short}
-use Rattle.text_bound.proofs.Sizes.{sizes, size, bytes, words-few, source-bytes-few}
-use Rattle.text_bound.proofs.Pieces.{trim-few, kept-few, number-long, hex-long, maybe-long}
-use Rattle.text_bound.proofs.Pieces.{cells-two, cells-three, unescape-few}
+use Rattle.format.proofs.Sizes.{sizes, size, bytes, words-few, source-bytes-few}
+use Rattle.format.proofs.PieceLengths.{trim-few, kept-few, number-long, hex-long, maybe-long}
+use Rattle.format.proofs.PieceLengths.{cells-two, cells-three, unescape-few}
 
 -- at most n more than the object h
 abbrev Adds : ObjectFile → ℕ → ObjectFile → Type 0

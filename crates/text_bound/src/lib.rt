@@ -1,1 +1,0 @@
-// How many words the object of a text file has at most (proofs/). There is no code here.
