@@ -25,38 +25,38 @@ use Rattle.format.specs.TextReader.{parseGroup, afterMagic, textObject}
 use Rattle.format.specs.Calls.{refusalOf, readBinary, readText}
 
 -- where it is refused, the number is above m
-abbrev pub Above : {A : Type 0} → ℕ → Outcome A → Type 0
-Above m (refused n) = m < n
-Above m (given a) = Unit {0}
+abbrev pub RefusedAbove : {A : Type 0} → ℕ → Outcome A → Type 0
+RefusedAbove m (refused n) = m < n
+RefusedAbove m (given a) = Unit {0}
 
 -- where it is refused, the number is not 0
 abbrev pub Numbered : {A : Type 0} → Outcome A → Type 0
-Numbered o = Above 0 o
+Numbered o = RefusedAbove 0 o
 
 module _ (m : ℕ) {A B : Type 0} where
-  pub numbered-bind : (o : Outcome A) (f : A → Outcome B) → Above m o → ((a : A) → Above m (f a)) → Above m (o >>= f)
+  pub numbered-bind : (o : Outcome A) (f : A → Outcome B) → RefusedAbove m o → ((a : A) → RefusedAbove m (f a)) → RefusedAbove m (o >>= f)
   numbered-bind (refused n) f h k = h
   numbered-bind (given a) f h k = k a
 
-  pub numbered-need : (n : ℕ) (o : Option A) (f : A → Outcome B) → m < n → ((a : A) → Above m (f a)) → Above m (need n o >>= f)
+  pub numbered-need : (n : ℕ) (o : Option A) (f : A → Outcome B) → m < n → ((a : A) → RefusedAbove m (f a)) → RefusedAbove m (need n o >>= f)
   numbered-need n none f h k = h
   numbered-need n (some a) f h k = k a
 
 module _ (m : ℕ) {B : Type 0} where
-  pub numbered-ask : (n : ℕ) (t : Bool) (f : Unit {0} → Outcome B) → m < n → Above m (f tt) → Above m (ask n t >>= f)
+  pub numbered-ask : (n : ℕ) (t : Bool) (f : Unit {0} → Outcome B) → m < n → RefusedAbove m (f tt) → RefusedAbove m (ask n t >>= f)
   numbered-ask n true f h k = k
   numbered-ask n false f h k = h
 
-  pub numbered-if : (t : Bool) (a b : Outcome B) → Above m a → Above m b → Above m (if t then a else b)
+  pub numbered-if : (t : Bool) (a b : Outcome B) → RefusedAbove m a → RefusedAbove m b → RefusedAbove m (if t then a else b)
   numbered-if true a b h k = h
   numbered-if false a b h k = k
 
-  pub above-numbered : (o : Outcome B) → Above m o → Numbered o
+  pub above-numbered : (o : Outcome B) → RefusedAbove m o → Numbered o
   above-numbered (refused n) h = omega arith
   above-numbered (given b) h = tt
 
   -- number 0 is given
-  pub given-by : (o : Outcome B) → Above m o → refusalOf o ≡ 0 → (b : B) × (o ≡ given b)
+  pub given-by : (o : Outcome B) → RefusedAbove m o → refusalOf o ≡ 0 → (b : B) × (o ≡ given b)
   given-by (refused n) h e = absurd (omega (arith, h, e))
   given-by (given b) h e = (b, refl)
 
@@ -66,41 +66,41 @@ module _ {B : Type 0} where
   refused-by (refused m) n e ne = ap refused e
   refused-by (given b) n e ne = absurd (ne (sym e))
 
-module _ (m : ℕ) {A B : Type 0} (one : List A → Outcome (B × ℕ)) (step : (xs : List A) → Above m (one xs)) where
-  pub numbered-tokens : (k : ℕ) (xs : List A) → Above m (tokens one k xs)
+module _ (m : ℕ) {A B : Type 0} (one : List A → Outcome (B × ℕ)) (step : (xs : List A) → RefusedAbove m (one xs)) where
+  pub numbered-tokens : (k : ℕ) (xs : List A) → RefusedAbove m (tokens one k xs)
   unfolding tokens
   numbered-tokens k [] = tt
   numbered-tokens (suc k) (a ∷ xs) = numbered-tokens k xs
   numbered-tokens zero (a ∷ xs) =
       numbered-bind m (one (a ∷ xs)) _ (step (a ∷ xs)) λ t. numbered-bind m (tokens one (t .1) xs) _ (numbered-tokens (t .1) xs) λ ts. tt
 
-module _ (m : ℕ) {A S : Type 0} (one : S → List A → Outcome (S × ℕ)) (step : (s : S) (xs : List A) → Above m (one s xs)) where
-  pub numbered-scan : (s : S) (k : ℕ) (xs : List A) → Above m (scanTokens one s k xs)
+module _ (m : ℕ) {A S : Type 0} (one : S → List A → Outcome (S × ℕ)) (step : (s : S) (xs : List A) → RefusedAbove m (one s xs)) where
+  pub numbered-scan : (s : S) (k : ℕ) (xs : List A) → RefusedAbove m (scanTokens one s k xs)
   unfolding scanTokens
   numbered-scan s k [] = tt
   numbered-scan s (suc k) (a ∷ xs) = numbered-scan s k xs
   numbered-scan s zero (a ∷ xs) = numbered-bind m (one s (a ∷ xs)) _ (step s (a ∷ xs)) λ t. numbered-scan (t .0) (t .1) xs
 
-module _ (m : ℕ) {A S : Type 0} (one : S → A → Outcome S) (step : (s : S) (a : A) → Above m (one s a)) where
-  pub numbered-fold : (s : S) (xs : List A) → Above m (foldOutcome one s xs)
+module _ (m : ℕ) {A S : Type 0} (one : S → A → Outcome S) (step : (s : S) (a : A) → RefusedAbove m (one s a)) where
+  pub numbered-fold : (s : S) (xs : List A) → RefusedAbove m (foldOutcome one s xs)
   unfolding foldOutcome
   numbered-fold s [] = tt
   numbered-fold s (a ∷ xs) = numbered-bind m (one s a) _ (step s a) λ t. numbered-fold t xs
 
 -- the last questions of a reader
-asks : (qs : List Question) (h : ObjectFile) → All (λ q. 9 < q .0) qs → Above 9 (askAll qs h)
+asks : (qs : List Question) (h : ObjectFile) → All (λ q. 9 < q .0) qs → RefusedAbove 9 (askAll qs h)
 unfolding askAll
 asks [] h k = tt
 asks (q ∷ qs) h k = numbered-ask 9 (q .0) (q .1 h) _ (k .0) (asks qs h (k .1))
 
-concludes : (qs : List Question) (h : ObjectFile) → All (λ q. 9 < q .0) qs → Above 9 (concluded qs h)
+concludes : (qs : List Question) (h : ObjectFile) → All (λ q. 9 < q .0) qs → RefusedAbove 9 (concluded qs h)
 unfolding concluded
 concludes qs h k = numbered-bind 9 (askAll qs h) _ (asks qs h k) λ _. tt
 
 -- THE TEXT READER
 
 -- 24, 25
-block-numbered : (h : ObjectFile) (ls : List (List ℕ)) → Above 9 (blockAt h ls)
+block-numbered : (h : ObjectFile) (ls : List (List ℕ)) → RefusedAbove 9 (blockAt h ls)
 unfolding blockAt
 block-numbered h [] = omega arith
 block-numbered h (l ∷ []) = omega arith
@@ -111,16 +111,16 @@ block-numbered h (l ∷ c ∷ ls) =
     (numbered-need 9 24 (allSome maybeHex2u16 (take n ls)) _ (omega arith) λ ws.
     numbered-ask 9 25 (not (isSome (atKey blockKey (a ∷ []) (h .blocks)))) _ (omega arith) tt)
 
-pub text-numbered : (h : ObjectFile) (ls : List (List ℕ)) → Above 9 (parseTextGroup h ls)
+pub text-numbered : (h : ObjectFile) (ls : List (List ℕ)) → RefusedAbove 9 (parseTextGroup h ls)
 unfolding parseTextGroup
 text-numbered h ls = numbered-scan 9 blockAt block-numbered h 0 ls
 
 -- 26 to 30
-numbered-scalar : (o : Option ℕ) → Above 9 (scalarOf o)
+numbered-scalar : (o : Option ℕ) → RefusedAbove 9 (scalarOf o)
 numbered-scalar none = omega arith
 numbered-scalar (some c) = numbered-if 9 (isScalar c) (given c) (refused 30) tt (omega arith)
 
-numbered-unicode : (bs : List ℕ) → Above 9 (unicodeEscape bs)
+numbered-unicode : (bs : List ℕ) → RefusedAbove 9 (unicodeEscape bs)
 unfolding unicodeEscape
 numbered-unicode bs =
     numbered-ask 9 30 (beginsWith (ascii "{") bs) _ (omega arith)
@@ -128,7 +128,7 @@ numbered-unicode bs =
     (numbered-bind 9 (scalarOf (digitsFrom 16 0 (take (hexDigits (drop 1 bs)) (drop 1 bs)))) _
     (numbered-scalar (digitsFrom 16 0 (take (hexDigits (drop 1 bs)) (drop 1 bs)))) λ c. tt))
 
-numbered-backslash : (bs : List ℕ) → Above 9 (afterBackslash bs)
+numbered-backslash : (bs : List ℕ) → RefusedAbove 9 (afterBackslash bs)
 unfolding afterBackslash
 numbered-backslash [] = omega arith
 numbered-backslash (b ∷ bs) =
@@ -140,42 +140,42 @@ numbered-backslash (b ∷ bs) =
     (numbered-if 9 (beginsWith (ascii "\\") (b ∷ bs)) _ _ tt
     (numbered-if 9 (beginsWith (ascii "u") (b ∷ bs)) _ _ (numbered-unicode bs) (omega arith)))))))
 
-numbered-byte : (bs : List ℕ) → Above 9 (unescapeAt bs)
+numbered-byte : (bs : List ℕ) → RefusedAbove 9 (unescapeAt bs)
 unfolding unescapeAt
 numbered-byte [] = omega arith
 numbered-byte (b ∷ bs) = numbered-if 9 (eqb b 0x5C) _ _ (numbered-backslash bs) tt
 
-pub numbered-unescape : (bs : List ℕ) → Above 9 (unescape bs)
+pub numbered-unescape : (bs : List ℕ) → RefusedAbove 9 (unescape bs)
 unfolding unescape
 numbered-unescape bs = numbered-bind 9 (tokens unescapeAt 0 bs) _ (numbered-tokens 9 unescapeAt numbered-byte 0 bs) λ ts. tt
 
-pub rows-numbered : (n : ℕ) (columns ls : List (List ℕ)) → 9 < n → Above 9 (rowsUnder n columns ls)
+pub rows-numbered : (n : ℕ) (columns ls : List (List ℕ)) → 9 < n → RefusedAbove 9 (rowsUnder n columns ls)
 unfolding rowsUnder
 rows-numbered n columns [] h = tt
 rows-numbered n columns (l ∷ ls) h = numbered-ask 9 n (sameCells (map trim (splitn (length columns - 1) l)) columns) _ h tt
 
 -- a table whose rows are put one after the other
 table-numbered :
-    (columns : List (List ℕ)) (one : ObjectFile → List ℕ → Outcome ObjectFile) → ((h : ObjectFile) (l : List ℕ) → Above 9 (one h l))
-    → (h : ObjectFile) (ls : List (List ℕ)) → Above 9 (rowsUnder 26 columns ls >>= λ rows. foldOutcome one h rows)
+    (columns : List (List ℕ)) (one : ObjectFile → List ℕ → Outcome ObjectFile) → ((h : ObjectFile) (l : List ℕ) → RefusedAbove 9 (one h l))
+    → (h : ObjectFile) (ls : List (List ℕ)) → RefusedAbove 9 (rowsUnder 26 columns ls >>= λ rows. foldOutcome one h rows)
 table-numbered columns one row h ls =
     numbered-bind 9 (rowsUnder 26 columns ls) _ (rows-numbered 26 columns ls (omega arith)) λ rows. numbered-fold 9 one row h rows
 
-symbol-row : (h : ObjectFile) (l : List ℕ) → Above 9 (parseSymbolRow h l)
+symbol-row : (h : ObjectFile) (l : List ℕ) → RefusedAbove 9 (parseSymbolRow h l)
 unfolding parseSymbolRow
 symbol-row h l =
     numbered-need 9 26 (hex2u16 (trim (cellAt 0 (splitn 2 l)))) _ (omega arith) λ a.
     numbered-need 9 26 (parseDecimal (2 ^ 8) (trim (cellAt 1 (splitn 2 l)))) _ (omega arith) λ e. tt
 
-linker-row : (h : ObjectFile) (l : List ℕ) → Above 9 (parseLinkerRow h l)
+linker-row : (h : ObjectFile) (l : List ℕ) → RefusedAbove 9 (parseLinkerRow h l)
 unfolding parseLinkerRow
 linker-row h l = numbered-need 9 26 (hex2u16 (trim (cellAt 0 (splitn 1 l)))) _ (omega arith) λ a. tt
 
-label-row : (h : ObjectFile) (l : List ℕ) → Above 9 (parseLabelRow h l)
+label-row : (h : ObjectFile) (l : List ℕ) → RefusedAbove 9 (parseLabelRow h l)
 unfolding parseLabelRow
 label-row h l = numbered-need 9 26 (parseDecimal (2 ^ 64) (trim (cellAt 1 (splitn 1 l)))) _ (omega arith) λ i. tt
 
-line-rows : (i : ℕ) (ls : List (List ℕ)) → Above 9 (parseLineRows i ls)
+line-rows : (i : ℕ) (ls : List (List ℕ)) → RefusedAbove 9 (parseLineRows i ls)
 unfolding parseLineRows
 line-rows i [] = tt
 line-rows i (l ∷ ls) =
@@ -184,11 +184,11 @@ line-rows i (l ∷ ls) =
     (numbered-need 9 28 (maybeHex2u16 (trim (cellAt 1 (splitn 2 l)))) _ (omega arith) λ a.
     numbered-bind 9 (parseLineRows (suc i) ls) _ (line-rows (suc i) ls) λ rows. tt)
 
-label-table : (h : ObjectFile) (ls : List (List ℕ)) → Above 9 (parseLabelTable h ls)
+label-table : (h : ObjectFile) (ls : List (List ℕ)) → RefusedAbove 9 (parseLabelTable h ls)
 unfolding parseLabelTable
 label-table h ls = table-numbered _ parseLabelRow label-row h ls
 
-line-table : (h : ObjectFile) (ls : List (List ℕ)) → Above 9 (parseLineTable h ls)
+line-table : (h : ObjectFile) (ls : List (List ℕ)) → RefusedAbove 9 (parseLineTable h ls)
 unfolding parseLineTable
 line-table h ls =
     numbered-bind 9 (rowsUnder 28 _ ls) _ (rows-numbered 28 _ ls (omega arith)) λ rows.
@@ -198,7 +198,7 @@ line-table h ls =
     (numbered-bind 9 (unescape (flatMap (λ (r : Option ℕ × List ℕ). r .1) parsed)) _
     (numbered-unescape (flatMap (λ (r : Option ℕ × List ℕ). r .1) parsed)) λ s. tt))
 
-debug-group : (h : ObjectFile) (ls : List (List ℕ)) → Above 9 (parseDebugGroup h ls)
+debug-group : (h : ObjectFile) (ls : List (List ℕ)) → RefusedAbove 9 (parseDebugGroup h ls)
 unfolding parseDebugGroup
 debug-group h [] = tt
 debug-group h (l ∷ ls) =
@@ -206,15 +206,15 @@ debug-group h (l ∷ ls) =
     numbered-need 9 27 (upToBar after) _ (omega arith) λ rows.
     numbered-bind 9 (parseLabelTable h (splitAtBar (l ∷ ls) .before)) _ (label-table h (splitAtBar (l ∷ ls) .before)) λ h′. line-table h′ rows
 
-symbol-group : (h : ObjectFile) (ls : List (List ℕ)) → Above 9 (parseSymbolGroup h ls)
+symbol-group : (h : ObjectFile) (ls : List (List ℕ)) → RefusedAbove 9 (parseSymbolGroup h ls)
 unfolding parseSymbolGroup
 symbol-group h ls = table-numbered _ parseSymbolRow symbol-row h ls
 
-linker-group : (h : ObjectFile) (ls : List (List ℕ)) → Above 9 (parseLinkerGroup h ls)
+linker-group : (h : ObjectFile) (ls : List (List ℕ)) → RefusedAbove 9 (parseLinkerGroup h ls)
 unfolding parseLinkerGroup
 linker-group h ls = table-numbered _ parseLinkerRow linker-row h ls
 
-group : (h : ObjectFile) (g : List ℕ × List (List ℕ)) → Above 9 (parseGroup h g)
+group : (h : ObjectFile) (g : List ℕ × List (List ℕ)) → RefusedAbove 9 (parseGroup h g)
 unfolding parseGroup
 group h g =
     numbered-if 9 (eqs (g .0) (ascii ".TEXT")) _ _ (text-numbered h (g .1))
@@ -222,12 +222,12 @@ group h g =
     (numbered-if 9 (eqs (g .0) (ascii ".LINKER_INFO")) _ _ (linker-group h (g .1))
     (numbered-if 9 (eqs (g .0) (ascii ".DEBUG")) _ _ (debug-group h (g .1)) (omega arith))))
 
-after-magic : (ls : List (List ℕ)) → Above 9 (afterMagic ls)
+after-magic : (ls : List (List ℕ)) → RefusedAbove 9 (afterMagic ls)
 unfolding afterMagic
 after-magic [] = omega arith
 after-magic (l ∷ ls) = numbered-ask 9 21 (eqs l (ascii "LC-3 OBJ FILE")) _ (omega arith) tt
 
-text-object : (bs : List ℕ) → Above 9 (textObject bs)
+text-object : (bs : List ℕ) → RefusedAbove 9 (textObject bs)
 unfolding textObject
 text-object bs =
     numbered-ask 9 20 (isUtf8 bs) _ (omega arith)
@@ -237,7 +237,7 @@ text-object bs =
     (numbered-bind 9 (foldOutcome parseGroup emptyObject (parts .groups)) _ (numbered-fold 9 parseGroup group emptyObject (parts .groups)) λ h.
     concludes textQuestions h (omega arith, tt)))
 
-pub text-above : (bs : List ℕ) → Above 9 (readText bs)
+pub text-above : (bs : List ℕ) → RefusedAbove 9 (readText bs)
 unfolding readText
 text-above bs = numbered-bind 9 (textObject bs) _ (text-object bs) λ h. tt
 
@@ -248,35 +248,35 @@ text-read bs = above-numbered 9 (readText bs) (text-above bs)
 
 -- 11 to 14
 module _ (bs : List ℕ) where
-  numbered-0 : Above 9 (blockFrom bs)
+  numbered-0 : RefusedAbove 9 (blockFrom bs)
   unfolding blockFrom
   numbered-0 = numbered-ask 9 12 (hasBytes 4 bs) _ (omega arith) (numbered-ask 9 12 (hasBytes (4 + 3 * numberAt 2 2 bs) bs) _ (omega arith) tt)
 
-  numbered-1 : Above 9 (labelFrom bs)
+  numbered-1 : RefusedAbove 9 (labelFrom bs)
   unfolding labelFrom
   numbered-1 =
       numbered-ask 9 12 (hasBytes 19 bs) _ (omega arith) (numbered-ask 9 12 (hasBytes (19 + numberAt 11 8 bs) bs) _ (omega arith)
       (numbered-ask 9 13 (isUtf8 (bytesAt 19 (numberAt 11 8 bs) bs)) _ (omega arith) tt))
 
-  numbered-2 : Above 9 (linesFrom bs)
+  numbered-2 : RefusedAbove 9 (linesFrom bs)
   unfolding linesFrom
   numbered-2 =
       numbered-ask 9 12 (hasBytes 10 bs) _ (omega arith) (numbered-ask 9 12 (hasBytes (10 + 2 * numberAt 8 2 bs) bs) _ (omega arith)
       (numbered-ask 9 14 (strictlyRise (addressesFrom (bytesAt 10 (2 * numberAt 8 2 bs) bs))) _ (omega arith) tt))
 
-  numbered-3 : Above 9 (sourceFrom bs)
+  numbered-3 : RefusedAbove 9 (sourceFrom bs)
   unfolding sourceFrom
   numbered-3 =
       numbered-ask 9 12 (hasBytes 8 bs) _ (omega arith) (numbered-ask 9 12 (hasBytes (8 + numberAt 0 8 bs) bs) _ (omega arith)
       (numbered-ask 9 13 (isUtf8 (bytesAt 8 (numberAt 0 8 bs) bs)) _ (omega arith) tt))
 
-  numbered-4 : Above 9 (relocationFrom bs)
+  numbered-4 : RefusedAbove 9 (relocationFrom bs)
   unfolding relocationFrom
   numbered-4 =
       numbered-ask 9 12 (hasBytes 10 bs) _ (omega arith) (numbered-ask 9 12 (hasBytes (10 + numberAt 2 8 bs) bs) _ (omega arith)
       (numbered-ask 9 13 (isUtf8 (bytesAt 10 (numberAt 2 8 bs) bs)) _ (omega arith) tt))
 
-record-numbered : (bs : List ℕ) → Above 9 (recordAt bs)
+record-numbered : (bs : List ℕ) → RefusedAbove 9 (recordAt bs)
 unfolding recordAt
 record-numbered [] = omega arith
 record-numbered (k ∷ bs) =
@@ -286,17 +286,17 @@ record-numbered (k ∷ bs) =
     (numbered-if 9 (eqb k 3) _ _ (numbered-3 bs)
     (numbered-if 9 (eqb k 4) _ _ (numbered-4 bs) (omega arith)))))
 
-pub records-numbered : (k : ℕ) (bs : List ℕ) → Above 9 (tokens recordAt k bs)
+pub records-numbered : (k : ℕ) (bs : List ℕ) → RefusedAbove 9 (tokens recordAt k bs)
 records-numbered k bs = numbered-tokens 9 recordAt record-numbered k bs
 
-binary-object : (bs : List ℕ) → Above 9 (binaryObject bs)
+binary-object : (bs : List ℕ) → RefusedAbove 9 (binaryObject bs)
 unfolding binaryObject binaryRecords
 binary-object bs =
     numbered-bind 9 (binaryRecords bs) _
     (numbered-ask 9 10 (beginsWith header bs) _ (omega arith) (records-numbered 0 (drop 7 bs))) λ rs.
     concludes binaryQuestions (gatherRecords emptyObject rs) (omega arith, tt)
 
-pub binary-above : (bs : List ℕ) → Above 9 (readBinary bs)
+pub binary-above : (bs : List ℕ) → RefusedAbove 9 (readBinary bs)
 unfolding readBinary
 binary-above bs = numbered-bind 9 (binaryObject bs) _ (binary-object bs) λ h. tt
 

@@ -32,7 +32,7 @@ use Rattle.text_debug.specs.DebugGroup.{LastBar, FirstRow, lineBlocksIn}
 use Rattle.text_debug.specs.LineRuns.{addressIn}
 use Rattle.text_debug.specs.DebugGroup.{LinesSet, withoutRows, Barred, DebugSettles, DebugChecked}
 use Rattle.text_lines.specs.declared.Passed.the-variants as pa
-use Rattle.format.proofs.Numbered.{Above, refused-by, rows-numbered, numbered-unescape}
+use Rattle.format.proofs.Numbered.{RefusedAbove, refused-by, rows-numbered, numbered-unescape}
 use Rattle.text_debug.proofs.LineTableLaws.{Parsed, row, end, rows-28, source-of, rest, opened}
 
 -- THE LINES UP TO THE LAST
@@ -95,7 +95,7 @@ module _ {R : Type 0} (one : ObjectFile → List ℕ → Outcome ObjectFile) (pa
   kept-rows h none = (refl, omega (arith, few))
   kept-rows h (some rs) = (refl, kept-all h rs)
 
-  kept-under : (h : ObjectFile) (t : Outcome (List (List ℕ))) → Above 9 t
+  kept-under : (h : ObjectFile) (t : Outcome (List (List ℕ))) → RefusedAbove 9 t
       → Keeps h (refusalOf (t >>= λ rows. foldOutcome one h rows)) (t >>= λ rows. foldOutcome one h rows)
   kept-under h (refused n) q = (refl, omega (arith, q))
   kept-under h (given rows) q =
@@ -156,7 +156,7 @@ module _ (h : ObjectFile) where
   Numbers ls (refused n) = 0 < n
   Numbers ls (given h′) = Set ls h′
 
-  unescaped : (ls : List (List ℕ)) (o : Outcome (List ℕ)) → isEmpty ls ≡ false → Above 9 o → unescape (flatMap sourceCell ls) ≡ o
+  unescaped : (ls : List (List ℕ)) (o : Outcome (List ℕ)) → isEmpty ls ≡ false → RefusedAbove 9 o → unescape (flatMap sourceCell ls) ≡ o
       → Numbers ls (o >>= λ s. given (withLines h (lineBlocksIn ls) (some s)))
   unfolding sourceIn
   unescaped ls (refused n) e q f = omega (arith, q)

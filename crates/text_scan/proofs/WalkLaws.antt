@@ -31,7 +31,7 @@ use Rattle.text_debug.specs.declared.DebugGroup.{DebugGroup}
 use Rattle.text_debug.specs.declared.Lines.{Lines}
 use Rattle.text_debug.specs.LineTable.{noLines}
 use Rattle.text_debug.specs.DebugGroup.{DebugSettles, DebugChecked}
-use Rattle.format.proofs.Numbered.{Above, text-numbered}
+use Rattle.format.proofs.Numbered.{RefusedAbove, text-numbered}
 use Rattle.text_debug.proofs.DebugGroupLaws.{Kept, Keeps, table-keeps}
 use Rattle.text_scan.specs.declared.Walked.{Walked}
 use Rattle.text_scan.specs.Walk.{lineBlocksOf, sourceOf, Lined, Agrees, Comes, LinesChecked, GroupChecked, DebugWalked}
@@ -78,7 +78,7 @@ module _ (h₀ : ObjectFile) where
   unfolding parseTextGroup
   text-keeps ls = scan-keeps h₀ 0 ls (refl, refl)
 
-text-comes : (h : ObjectFile) (seen′ : List ℕ) (words′ n : ℕ) (o : Outcome ObjectFile) → Settles o n seen′ words′ → Gives (Same h) o → Above 9 o
+text-comes : (h : ObjectFile) (seen′ : List ℕ) (words′ n : ℕ) (o : Outcome ObjectFile) → Settles o n seen′ words′ → Gives (Same h) o → RefusedAbove 9 o
     → Comes (Stands seen′ words′ h) n o
 text-comes h seen′ words′ n (refused m) s g q = (s, omega (arith, q))
 text-comes h seen′ words′ n (given h′) s g q = (s .0, (s .1, s .2, g .0, g .1))
