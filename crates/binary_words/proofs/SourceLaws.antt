@@ -10,7 +10,7 @@ use lib.Seq.{drop-drop}
 use lib.Dec.{eqb, leb}
 use borrow.Author.Tests.{eqb-true, leb-true, leb-false}
 use Rattle.format.specs.Basics.{if_then_else_, isEmpty, isSome}
-use Rattle.format.specs.Records.{sourceRecords, source}
+use Rattle.format.specs.Records.{sourceRecords}
 use Rattle.format.specs.Words.{recordWords, textWords}
 use Rattle.format.specs.Binary.{numberAt}
 use Rattle.format.proofs.ListLaws.{by-test}

@@ -21,10 +21,9 @@ use Rattle.format.specs.Binary.{numberAt, bytesAt, addressesFrom, blockF
 use Rattle.format.specs.Binary.{recordAt, magic, version, header, recordBytes, binaryRecords, binaryObject}
 use Rattle.format.specs.Calls.{readBinary, Filled, fill, ReadsBinary}
 use Rattle.format.specs.Bounds.{binaryRoom, WordsFit, NeverShort, numbersFrom, lineFile, RoomMet, RoomNeeded}
-use Rattle.format.proofs.Outcomes.{by-if, Gives, gives, gives-map, gives-ask, gives-bind}
-use Rattle.format.proofs.WordsOnly.{bind-given, given-same}
+use Rattle.format.proofs.Outcomes.{by-if, Gives, gives-map, gives-ask, gives-bind}
 use Rattle.format.proofs.Numbered.{binary-above}
-use Rattle.format.proofs.Rooms.{never-short}
+use Rattle.format.proofs.Rooms.{words-fit, never-short}
 use Rattle.format.proofs.BinaryBack.{Writable, sizeOf, size-bytes, records-back}
 use Rattle.format.proofs.Counts.{memories-length, addresses-length}
 use Rattle.format.proofs.Totals.{total, weight, sourceCount, wordCounts, block-adds, label-adds, line-adds, source-adds, relocation-adds}
@@ -135,12 +134,10 @@ object-paid bs =
 -- A record leaves its kind byte over, so that (n - 8) / 2 holds too: for an odd n above 7 that is one word less.
 pub binary-words-fewer : WordsFit readBinary (λ n. (n - 8) / 2)
 unfolding readBinary
-binary-words-fewer bs ws e =
-    let p = bind-given (binaryObject bs) (λ h. given (wordsOf h)) ws e in
-    let h : ObjectFile = p .0 in
-    let few = gives (λ h. 2 * weight wordCounts h ≤ length bs - 8) (binaryObject bs) h (object-paid bs) (p .1) in
-    let same : wordsOf h ≡ ws = given-same (p .2) in
-    omega (arith, few, words-counted h, ap length same)
+binary-words-fewer =
+    words-fit binaryObject (λ n. (n - 8) / 2) λ bs.
+    gives-map (λ h. 2 * weight wordCounts h ≤ length bs - 8) (λ h. length (wordsOf h) ≤ (length bs - 8) / 2)
+    (λ h p. omega (arith, p, words-counted h)) (binaryObject bs) (object-paid bs)
 
 pub binary-words-fit : WordsFit readBinary binaryRoom
 binary-words-fit bs ws e = omega (arith, binary-words-fewer bs ws e)

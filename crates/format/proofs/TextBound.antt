@@ -1,6 +1,6 @@
 -- The object of a text file has at most as many words as the file has bytes, so that a read with this room never gives 3; and its source at
 -- most as many bytes. Each row that is read has at least as many bytes as it adds to the object's size. Assumes nothing.
-use mathlib.Core.Path.{_≡_, ap}
+use mathlib.Core.Path.{_≡_}
 use mathlib.Core.Bool.{Bool, false, not}
 use mathlib.Core.List.{List, [], _∷_, _++_, map, flatMap}
 use mathlib.Core.Option.{Option, none, some}
@@ -22,10 +22,9 @@ use Rattle.format.specs.Words.{wordsOf}
 use Rattle.format.specs.Calls.{readText, ReadsText}
 use Rattle.format.specs.Bounds.{textRoom, WordsFit, NeverShort}
 use Rattle.format.proofs.Outcomes.{by-if, Gives, Holds, gives, gives-map, gives-bind, gives-need, gives-ask, holds-then}
-use Rattle.format.proofs.WordsOnly.{bind-given, given-same}
 use Rattle.format.proofs.Numbered.{text-above}
 use Rattle.format.proofs.Totals.{total, total-parts, block-adds, label-adds, relocation-adds, concluded-few}
-use Rattle.format.proofs.Rooms.{never-short}
+use Rattle.format.proofs.Rooms.{words-fit, never-short}
 use Rattle.format.proofs.Sizes.{sizes, size, bytes, words-few, source-bytes-few}
 use Rattle.format.proofs.PieceLengths.{trim-few, kept-few, number-long, hex-long, maybe-long}
 use Rattle.format.proofs.PieceLengths.{cells-two, cells-three, unescape-few}
@@ -263,10 +262,10 @@ module _ (bs : List ℕ) (h : ObjectFile) (e : textObject bs ≡ given h) where
 
 pub text-words-fit : WordsFit readText textRoom
 unfolding readText
-text-words-fit bs ws e =
-    let p = bind-given (textObject bs) (λ h. given (wordsOf h)) ws e in
-    let same : wordsOf (p .0) ≡ ws = given-same (p .2) in
-    omega (arith, text-words-few bs (p .0) (p .1), ap length same)
+text-words-fit =
+    words-fit textObject textRoom λ bs.
+    gives-map (λ h. size h ≤ length bs) (λ h. length (wordsOf h) ≤ textRoom (length bs)) (λ h p. omega (arith, p, words-few h)) (textObject bs)
+    (text-paid bs)
 
 pub text-never-short : NeverShort ReadsText textRoom
 text-never-short = never-short readText textRoom text-words-fit text-above

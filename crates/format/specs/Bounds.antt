@@ -41,7 +41,7 @@ RoomMet =
     (k : ℕ) → k ≤ 65535
     → (length (lineFile k) ≡ 18 + 2 * k) × (ws : List ℕ) × (readBinary (lineFile k) ≡ given ws) × (length ws ≡ binaryRoom (18 + 2 * k))
 
--- so that with one word less a read gives 3
+-- so that with fewer words a read gives 3
 abbrev pub RoomNeeded : Type 0
 RoomNeeded =
     (k : ℕ) → k ≤ 65535 → (buffer : List ℕ) (r : Filled) → length buffer < binaryRoom (length (lineFile k))

@@ -153,10 +153,10 @@ just-enough =
     let ws : List ℕ = 0x60000000 ∷ 0xC0000003 ∷ 0xC0000000 ∷ 0xC0000000 ∷ 0x80000000 ∷ [] in
     fills-words bytes18 (9 ∷ 9 ∷ 9 ∷ 9 ∷ 9 ∷ []) (record { number = 0; len = 5; buffer = ws })
 
-abbrev pub one-word-less : Case  -- P13, the limit: "never gives 3" from there on alone
+abbrev pub one-word-less : Case  -- P13, the limit: with a word less it "gives 3"
 one-word-less = fills-words bytes18 (9 ∷ 9 ∷ 9 ∷ 9 ∷ []) (record { number = 3; len = 0; buffer = 9 ∷ 9 ∷ 9 ∷ 9 ∷ [] })
 
--- P13, the order: 10 comes before 3, so that below 7 bytes no words are room enough
+-- P13, the order: 10 comes before 3, so that below 7 bytes a buffer without words is enough
 abbrev pub no-room : Case
 no-room = fills-words (0x6F ∷ 0x62 ∷ 0x6A ∷ 0x21 ∷ 0x10 ∷ 0x00 ∷ []) [] (record { number = 10; len = 0; buffer = [] })
 

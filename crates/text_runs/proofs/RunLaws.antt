@@ -16,7 +16,7 @@ use Rattle.format.specs.Records.{lineBlock}
 use Rattle.format.specs.Words.{word, memoryWord, numberWords, recordWords}
 use Rattle.format.proofs.Counts.{number-length, line-length}
 use Rattle.trim.specs.Span.{part}
-use Rattle.writing.specs.Written.{written, Put}
+use Rattle.writing.specs.Written.{Put}
 use Rattle.writing.proofs.Parts.{State, Emits, rest, begin, emit-one, room-one, has-room}
 use Rattle.writing.proofs.WriteLaws.{too-short}
 use Rattle.text_lines.specs.Views.{StepAt}
