@@ -1,27 +1,12 @@
 // The clerk's look at a file on standard input: how it reads in each form, and of the object that it gives the counts of the five parts
 // and whether it is fair. Where the file has more than 65,536 bytes, 3 and a newline are printed; an object of more than 16,384 words is
 // refused with 3.
-ghost use Rattle.inspect.specs.Parts.{PartsCounted};
 use binary_read::read_binary;
 use fair::is_fair;
-use object::kind;
+use part_counts::count_parts;
 use printing::object_room;
 use text_read::read_text;
 use units::Filled;
-
-// How many words there are of each kind. Of a kind that begins a record, these are the records.
-fn count_kinds(ws: &[u32]) -> [u64; 8]
-    ensures { λ r. ⌜ PartsCounted (now (ws .entry)) r ⌝ }
-{
-    let mut counts = [0u64; 8];
-    let mut i = 0;
-    while i < ws.len() {
-        let k = kind(ws[i]) as usize;
-        counts[k] += 1;
-        i += 1;
-    }
-    counts
-}
 
 // A line of a name and a number.
 fn tell_count(name: &[u8], count: u64) {
@@ -44,12 +29,12 @@ fn tell_form(name: &[u8], r: Filled) {
 
 // The counts of the five parts, and whether the object is fair.
 fn tell_object(ws: &[u32]) {
-    let counts = count_kinds(ws);
-    tell_count(b"blocks: ", counts[0]);
-    tell_count(b"labels: ", counts[2]);
-    tell_count(b"line blocks: ", counts[3]);
-    tell_count(b"sources: ", counts[4]);
-    tell_count(b"relocations: ", counts[5]);
+    let counts = count_parts(ws);
+    tell_count(b"blocks: ", counts.blocks);
+    tell_count(b"labels: ", counts.labels);
+    tell_count(b"line blocks: ", counts.line_blocks);
+    tell_count(b"sources: ", counts.sources);
+    tell_count(b"relocations: ", counts.relocations);
     if is_fair(ws).fair {
         io::write_all(1, b"fair: yes\n");
     } else {

@@ -1,7 +1,9 @@
 // Replays a list of answers on standard input, one case to a line, and prints how many lines there were and how many answers differ.
 // A line is `CALL INPUT ARG NUMBER FIRST SECOND` for a query: a letter, the input in hexadecimal, and numbers of 16, 2, 16 and 16
-// hexadecimal digits; `CALL INPUT NUMBER OUTPUT` for a call that fills a buffer. Then prints what the clerk's programs make of some files.
+// hexadecimal digits; with two values more, of 16 digits each, for the lending fee; `CALL INPUT NUMBER OUTPUT` for a call that fills a
+// buffer. Then prints what the clerk's programs make of some files.
 mod conversions;
+mod fees;
 mod files;
 mod line;
 mod queries;
@@ -12,6 +14,7 @@ fn is_right(text: &[u8]) -> bool {
     let end = line::field_end(text, 2);
     match call {
         b'B' | b'b' | b'T' | b't' => files::agrees(text, call, end),
+        b'l' => fees::agrees(text, end),
         _ => queries::agrees(text, call, end),
     }
 }

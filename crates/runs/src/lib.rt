@@ -4,7 +4,8 @@ ghost use Rattle.format.specs.Calls.{checked, queryCountLines, queryRawLineSpan
 ghost use Rattle.format.specs.Calls.{fairAnswer, measured, readBinary, ReadsBinary, WritesBinary, readText, ReadsText, WritesText};
 ghost use Rattle.format.specs.Utf8.{isWhiteSpace};
 ghost use Rattle.format.specs.Words.{objectOf};
-ghost use Rattle.runs.specs.Answers.{valueOf, spanOf, positionOf, fairOf, measuredOf, filledOf};
+ghost use Rattle.tariff.specs.Tariff.{lendingFee};
+ghost use Rattle.runs.specs.Answers.{valueOf, spanOf, positionOf, fairOf, feeOf, measuredOf, filledOf};
 use binary_format::BinaryFormat;
 use text_format::TextFormat;
 use units::Address;
@@ -53,6 +54,16 @@ pub struct Filled {
 pub struct Fair {
     pub number: u8,
     pub fair: bool,
+}
+
+// What lending costs, and its three addends.
+#[repr(C)]
+pub struct Fee {
+    pub number: u8,
+    pub fee: u64,
+    pub base: u64,
+    pub words: u64,
+    pub labels: u64,
 }
 
 // Is the number a White_Space character?
@@ -162,6 +173,21 @@ pub extern "C" fn runs_is_fair(object: &[u32]) -> Fair
     Fair {
         number: r.number,
         fair: r.fair,
+    }
+}
+
+// What lending the object costs a member college, or another one.
+#[no_mangle]
+pub extern "C" fn runs_tariff(object: &[u32], member: bool) -> Fee
+    ensures { λ r. ⌜ feeOf r ≡ lendingFee (now (object .entry)) member ⌝ }
+{
+    let r = tariff::lending_fee(object, member);
+    Fee {
+        number: r.number,
+        fee: r.fee,
+        base: r.base,
+        words: r.words,
+        labels: r.labels,
     }
 }
 

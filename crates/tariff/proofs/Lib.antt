@@ -1,0 +1,2 @@
+pub mod TariffLaws
+pub mod Worked
