@@ -24,6 +24,7 @@ group binary runs_binary_length runs_binary_read runs_binary_write
 group text runs_text_length runs_text_read runs_text_write
 group fair runs_is_fair
 group white_space runs_is_white_space
+group tariff runs_tariff
 group host lc3_binary_length lc3_text_length lc3_get_pos_pair
 if [ -z "$features" ] && [ -f "$RUNS_LIB_DIR/libruns.a" ]; then
     echo "$RUNS_LIB_DIR/libruns.a has no whole group of exports" >&2

@@ -5,6 +5,7 @@
 # A fault that only changes the number of a refusal isn't in the list: the crate says yes or no, and the library's numbers show it.
 # Nor is (n - 8) / 2 in numbers/room.rs, which no file refutes: at even n it is the same number, and at odd n no accepted file has more
 # words. Rounding up is found by the line blocks alone, which must have just so many.
+# The crate has no lending fee: faults in numbers/tariff.rs are found by objects whose fee is known (gen/tariff.rs).
 set -eu
 here=$(cd "$(dirname "$0")" && pwd)
 copy=${MUTANTS_DIR:-$here/target/mutants}
@@ -95,6 +96,33 @@ numbers/room.rs@s,) / 2,) * 2 / 5,
 numbers/room.rs@s/saturating_sub(7)/saturating_sub(7).min(0x2_0000)/
 numbers/room.rs@s/bytes.saturating/(bytes as u16 as usize).saturating/
 numbers/room.rs@s,) / 2,).div_ceil(2),
+numbers/tariff.rs@s/(150, /(149, /
+numbers/tariff.rs@s/4 \* object/5 * object/
+numbers/tariff.rs@s/chunks(256)/chunks(255)/
+numbers/tariff.rs@s/chunks(256)/chunks(257)/
+numbers/tariff.rs@s/chunks(256)/chunks_exact(256)/
+numbers/tariff.rs@s/object.chunks(256).count()/(object.len() \/ 256 + 1)/
+numbers/tariff.rs@s/count() as u64/count() as u16 as u64/
+numbers/tariff.rs@s/p.labels.len() as u64/p.labels.len() as u16 as u64/
+numbers/tariff.rs@s/p.labels.len()/(p.labels.len() + p.relocs.len())/
+numbers/tariff.rs@s/p.labels.len()/p.labels.iter().map(|l| l.name.len()).sum::<usize>()/
+numbers/tariff.rs@s/p.labels.len()/p.labels.iter().filter(|l| !l.external).count()/
+numbers/tariff.rs@s/p.labels.len()/p.labels.iter().filter(|l| !l.name.is_empty()).count()/
+numbers/tariff.rs@s/if member/if !member/
+numbers/tariff.rs@s/if member { reduced(sum) } else { sum }/sum/
+numbers/tariff.rs@s/base + words + labels/base + words/
+numbers/tariff.rs@s/left >= 50/left > 50/
+numbers/tariff.rs@s/left >= 50/left > 50 || (left == 50 \&\& cents % 2 == 1)/
+numbers/tariff.rs@s/left >= 50/left > 0/
+numbers/tariff.rs@s/left >= 50/false/
+numbers/tariff.rs@s/70 \* sum/70 * sum.min(1_000_000)/
+numbers/tariff.rs@s/70 \* sum/30 * sum/
+numbers/tariff.rs@s/16_777_216/16_777_215/
+numbers/tariff.rs@s/16_777_216/16_777_217/
+numbers/tariff.rs@s/> MOST_WORDS/>= MOST_WORDS/
+numbers/tariff.rs@s/parts.ok_or(1)?/parts.ok_or(if object.len() > MOST_WORDS { 38 } else { 1 })?/
+numbers/tariff.rs@s/parts.ok_or(1)?/parts.ok_or(38)?/
+numbers/tariff.rs@s/Err(38)/Err(1)/
 object.rs@s/line_end(l) <= last_line/line_end(l) <= last_line + 1/
 object.rs@s/line_end(a) < u128::from(b.0)/line_end(a) <= u128::from(b.0)/
 object.rs@s/!s.chars().any(white_space)/true/

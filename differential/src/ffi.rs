@@ -48,6 +48,17 @@ pub struct FairAnswer {
     pub fair: u8,
 }
 
+/// Number, what is paid, and the three addends.
+#[repr(C)]
+#[derive(Clone, Copy)]
+pub struct Fee {
+    pub number: u8,
+    pub fee: u64,
+    pub base: u64,
+    pub words: u64,
+    pub labels: u64,
+}
+
 /// The groups that are linked, by name; none where no library is.
 pub const LINKED: &[&str] = &[
     #[cfg(feature = "queries")]
@@ -60,6 +71,8 @@ pub const LINKED: &[&str] = &[
     "fair",
     #[cfg(feature = "white_space")]
     "white_space",
+    #[cfg(feature = "tariff")]
+    "tariff",
     #[cfg(feature = "host")]
     "host",
 ];
@@ -77,6 +90,8 @@ pub fn calls() -> Calls {
         is_fair: Some(fair::is_fair),
         #[cfg(feature = "white_space")]
         is_white_space: Some(white_space::is_white_space),
+        #[cfg(feature = "tariff")]
+        lending_fee: Some(tariff::lending_fee),
         #[cfg(feature = "host")]
         host: Some(host::CALLS),
         ..Calls::default()
@@ -192,6 +207,22 @@ mod white_space {
     pub fn is_white_space(number: u32) -> u8 {
         // SAFETY: the call takes any number, and touches no memory of ours.
         unsafe { runs_is_white_space(number) }
+    }
+}
+
+#[cfg(feature = "tariff")]
+mod tariff {
+    use super::Fee;
+    use crate::numbers::tariff;
+
+    extern "C" {
+        fn runs_tariff(object: *const u32, object_len: usize, member: bool) -> Fee;
+    }
+
+    pub fn lending_fee(object: &[u32], member: bool) -> (u8, tariff::Fee) {
+        // SAFETY: start and count are those of a slice, which the call reads.
+        let Fee { number, fee, base, words, labels } = unsafe { runs_tariff(object.as_ptr(), object.len(), member) };
+        (number, tariff::Fee { fee, base, words, labels })
     }
 }
 

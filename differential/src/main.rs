@@ -6,6 +6,7 @@ use std::time::Instant;
 
 use lc3_differential::gen::Depth;
 use lc3_differential::numbers::query::{Query, Values};
+use lc3_differential::numbers::tariff::Fee;
 use lc3_differential::reference::{self, Answer, Object};
 use lc3_differential::under::{self, Plan};
 use lc3_differential::{ffi, growth, hex, marked, rust, speed, stack, vectors};
@@ -15,6 +16,7 @@ differential run [--cases N] [--seed S] [--short none|quick|full] [--long N] [--
 differential read-binary | read-text [--hex]         a file on standard input, raw or in hex digits
 differential write-binary | write-text               an object's words in hex
 differential count_lines | raw_line_span N | line_span N | get_pos_pair N | get N | find N | is_fair    the same
+differential lending_fee 0|1                         the same; 1: a member
 differential marked                                  document 01's cases marked M
 differential vectors queries | binary | text         the lists for the test programs
 differential speed                                   times of the library's calls beside the crate's, with their bars
@@ -97,6 +99,15 @@ fn query(q: Query) {
     show(Object::new(hex_input(hex::parse_words)).query(q), |(first, second): &Values| format!("{first} {second}"));
 }
 
+/// The fee and its three addends.
+fn lending_fee(member: u64) {
+    if member > 1 {
+        stop("0, or 1 for a member");
+    }
+    let shown = |f: &Fee| format!("{} {} {} {}", f.fee, f.base, f.words, f.labels);
+    show(Object::new(hex_input(hex::parse_words)).lending_fee(member == 1), shown);
+}
+
 fn main() {
     let args: Vec<String> = std::env::args().skip(1).collect();
     let argument = || args.get(1).and_then(|a| a.parse().ok()).unwrap_or_else(|| stop("a number wanted"));
@@ -116,6 +127,7 @@ fn main() {
         "get_pos_pair" => query(Query::GetPosPair(argument())),
         "get" => query(Query::Get(argument())),
         "find" => query(Query::Find(u16::try_from(argument()).unwrap_or_else(|_| stop("an address has 16 bits")))),
+        "lending_fee" => lending_fee(argument()),
         "marked" => exit(i32::from(!marked::print())),
         "vectors" => match args.get(1).map(String::as_str) {
             Some("queries") => vectors::queries(),

@@ -2,6 +2,7 @@
 //! they must say the same, and outside them the crate must do what document 01 says that it does.
 use crate::asm::{access, ObjectFile};
 use crate::numbers::query::{ask, equal_neighbours, get_pos_pair, Query, Values};
+use crate::numbers::tariff::{self, Fee};
 use crate::numbers::utf8::is_white;
 use crate::numbers::{binary, text, text_write, Excluded, Outcome};
 use crate::object::{decode, encode, fair, swapped};
@@ -82,6 +83,19 @@ pub fn is_white_space(number: u32) -> Answer<bool> {
     Answer { number: 0, value: Some(did.unwrap_or(paper)), excluded, crate_did, difference }
 }
 
+/// A lending fee. The crate has no such call.
+fn fee(paper: Result<Fee, u8>, difference: Option<String>) -> Answer<Fee> {
+    match paper {
+        Err(1) => Answer { difference, ..Answer::ill_formed() },
+        _ => Answer { number: paper.err().unwrap_or(0), value: paper.ok(), excluded: None, crate_did: "unasked", difference },
+    }
+}
+
+/// A lending fee that is known without the numbers. Where they are asked, they must say the same.
+pub fn known_fee(known: Result<Fee, u8>, paper: Option<Result<Fee, u8>>) -> Answer<Fee> {
+    fee(known, paper.filter(|paper| *paper != known).map(|paper| format!("known: {known:?} | numbers: {paper:?}")))
+}
+
 /// Words to ask about, with the crate's object of them if they are well formed.
 pub struct Object {
     pub words: Vec<u32>,
@@ -130,6 +144,11 @@ impl Object {
             }
         }
         Answer { number: 0, value: Some(fair), excluded: None, crate_did: "unasked", difference }
+    }
+
+    /// Request P14.
+    pub fn lending_fee(&self, member: bool) -> Answer<Fee> {
+        fee(tariff::lending_fee(&self.words, self.parts(), member), None)
     }
 
     /// The file with its records in the object's order.

@@ -129,10 +129,18 @@ fn form(names: [&'static str; 3], form: Option<Form>, object: &[u32], file: &[u8
     (0..3).map(|i| Time { call: names[i], ours: ours.map(|ns| ns[i]), theirs: Some(theirs[i]) }).collect()
 }
 
+/// The lending fee, and the check that it begins with. The crate has neither; where the fee isn't linked, nothing.
+fn fee(calls: &Calls, object: &[u32]) -> Vec<Time> {
+    let Some(lending_fee) = calls.lending_fee else { return vec![] };
+    let check = calls.queries.map(|q| best(|| (q.check)(black_box(object))));
+    let fee = best(|| lending_fee(black_box(object), true));
+    vec![Time { call: "check", ours: check, theirs: None }, Time { call: "lending fee", ours: Some(fee), theirs: None }]
+}
+
 /// How many times the crate's time ours may be at most.
 fn bar(object: char, call: &str) -> Option<f64> {
     match (object, call) {
-        (_, "binary length" | "text length") => None,
+        (_, "binary length" | "text length" | "check" | "lending fee") => None,
         (_, "binary write") => Some(8.0),
         ('b', "binary read") => Some(2.0),
         _ => Some(1.0),
@@ -146,7 +154,8 @@ pub fn print(calls: &Calls) {
     );
     println!("\n{}", head(["object", "call", "the crate", "ours", "ours / crate", "bar"]));
     for (object, p) in [('a', assignment()), ('b', labels(2_500)), ('c', block())] {
-        for t in forms(calls, &p, &BinaryFormat::serialize(&access::build(&p))) {
+        let files = forms(calls, &p, &BinaryFormat::serialize(&access::build(&p)));
+        for t in files.into_iter().chain(fee(calls, &encode(&p))) {
             let shown = |ns: Option<f64>| ns.map_or("-".into(), time);
             let ratio = t.ours.zip(t.theirs).map(|(ours, theirs)| ours / theirs);
             let bar = bar(object, t.call);

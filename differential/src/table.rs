@@ -26,6 +26,8 @@ pub enum Call {
     TextRead,
     TextWrite,
     IsWhiteSpace,
+    /// Request P14.
+    LendingFee,
     /// The host's.
     HostBinary,
     HostText,
@@ -57,6 +59,7 @@ impl Call {
             Call::TextLength | Call::HostText => &[0, 20, 21, 22, 23, 24, 25, 26, 27, 28, 29, 30, 31],
             Call::TextRead => &[0, 3, 20, 21, 22, 23, 24, 25, 26, 27, 28, 29, 30, 31],
             Call::TextWrite => &[0, 1, 3],
+            Call::LendingFee => &[0, 1, 38],
             Call::IsWhiteSpace | Call::HostPosition => &[0],
         }
     }
@@ -81,6 +84,13 @@ struct Rooms {
     met: u64,
 }
 
+/// Fees that members were given, and those of them whose 70 percent ends on exactly half a cent.
+#[derive(Default)]
+struct Fees {
+    members: u64,
+    halves: u64,
+}
+
 /// How many differences are told, and how many characters of an input or an answer.
 const TOLD: usize = 20;
 const CUT: usize = 1500;
@@ -99,6 +109,7 @@ pub struct Table {
     pub white_spaces: Option<u64>,
     /// Of even length, and of odd.
     rooms: [Rooms; 2],
+    fees: Fees,
     pub differences: u64,
     told: Vec<String>,
 }
@@ -156,6 +167,17 @@ impl Table {
         rooms.met += u64::from(met);
     }
 
+    /// Counts a fee that a member has to be given, by the sum before the reduction.
+    pub fn member(&mut self, sum: u64) {
+        self.fees.members += 1;
+        self.fees.halves += u64::from(7 * sum % 10 == 5);
+    }
+
+    /// How many members' fees of which the call was asked end on half a cent before they are rounded.
+    pub fn halves(&self) -> u64 {
+        self.fees.halves
+    }
+
     /// Counts what an object has that a run should meet.
     pub fn object(&mut self, p: &Parts) {
         let lines = p.source.as_ref().map_or(0, |s| s.iter().filter(|b| **b == b'\n').count() as u128 + 1);
@@ -183,8 +205,8 @@ impl Table {
         }
     }
 
-    /// What keeps this run from showing much: a number not reached, under a quarter of a call's random cases accepted, or request P13's
-    /// bound not met. At odd lengths only the header alone meets it.
+    /// What keeps this run from showing much: a number not reached, under a quarter of a call's random cases accepted, request P13's
+    /// bound not met, or no half a cent of request P14 asked. At odd lengths only the header alone meets the bound.
     pub fn gaps(&self) -> Vec<String> {
         let mut out = vec![];
         for (call, row) in self.random.iter().filter(|(_, row)| !row.numbers.is_empty()) {
@@ -199,6 +221,10 @@ impl Table {
         }
         for (name, _) in LENGTHS.iter().zip(&self.rooms).filter(|(_, rooms)| rooms.met == 0) {
             out.push(format!("BinaryRoom: no file of {name} length has as many words as it may"));
+        }
+        let asked = self.random.get(&Call::LendingFee).is_some_and(|row| !row.numbers.is_empty());
+        if asked && self.fees.halves == 0 {
+            out.push("LendingFee: no member's 70 percent ends on half a cent".into());
         }
         out
     }
@@ -236,9 +262,18 @@ impl Table {
             println!("\nWhite_Space among all numbers below x110000, by the call under test: {yes}");
         }
         self.print_rooms();
+        self.print_fees();
         println!("\ndifferences: {}", self.differences);
         for line in &self.told {
             println!("  {line}");
+        }
+    }
+
+    /// Nothing where the call isn't linked.
+    fn print_fees(&self) {
+        let Fees { members, halves } = self.fees;
+        if members > 0 {
+            println!("\nlending fees of members, and those whose 70 percent ends on half a cent: {members}, {halves}");
         }
     }
 

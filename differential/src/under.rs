@@ -1,10 +1,12 @@
 //! The calls under test, held against the reference: numbers, values, lengths, what is filled and what is left alone.
 use crate::gen;
+use crate::gen::tariff::Known;
 use crate::gen::Depth;
 use crate::hex;
 use crate::marked::{self, Input};
 use crate::numbers::query::{Query, Values};
 use crate::numbers::room;
+use crate::numbers::tariff::{self, Fee};
 use crate::object::encode;
 use crate::prng::Prng;
 use crate::records;
@@ -51,6 +53,8 @@ pub struct Calls {
     pub is_fair: Option<fn(&[u32]) -> (u8, u8)>,
     /// 1 for White_Space, of any number.
     pub is_white_space: Option<fn(u32) -> u8>,
+    /// Number and fee, of an object, for a member or not.
+    pub lending_fee: Option<fn(&[u32], bool) -> (u8, Fee)>,
     pub host: Option<Host>,
 }
 
@@ -105,6 +109,8 @@ struct Run<'a> {
     white: Prng,
     /// For request P13 alone, files and buffers, likewise.
     room: Prng,
+    /// For request P14 alone, likewise.
+    tariff: Prng,
 }
 
 impl Run<'_> {
@@ -285,6 +291,44 @@ impl Run<'_> {
         if let Some(source) = object.parts().and_then(|p| p.source.as_ref()) {
             self.position(source);
         }
+        self.lending_fees(&object);
+    }
+
+    /// Request P14 of any object, for others and for members.
+    fn lending_fees(&mut self, object: &Object) {
+        for member in [false, true] {
+            let input = || format!("{} member {member}", hex::words(&object.words));
+            self.lending_fee(&input, &object.words, member, &object.lending_fee(member));
+        }
+    }
+
+    fn lending_fee(&mut self, input: &dyn Fn() -> String, words: &[u32], member: bool, want: &Answer<Fee>) {
+        let call = Call::LendingFee;
+        self.case(call, input, want);
+        let Some(ask) = self.calls.lending_fee else { return };
+        if let Some(fee) = want.value.filter(|_| member) {
+            self.table.member(fee.base + fee.words + fee.labels);
+        }
+        self.call(call, input, want.number, (want.number, want.value.unwrap_or_default()), ask(words, member));
+    }
+
+    /// An object whose fee is known: ours is held against it, and the numbers where they are asked. A large one is told by its name.
+    fn known_fees(&mut self, known: &Known, numbers: Option<fn(&[u32], bool) -> Result<Fee, u8>>) {
+        let Known { name, words, .. } = known;
+        for member in [false, true] {
+            let input = || format!("{name}, {} .., member {member}", hex::words(&words[..words.len().min(40)]));
+            let want = reference::known_fee(known.fee(member), numbers.map(|ask| ask(words, member)));
+            self.lending_fee(&input, words, member, &want);
+        }
+    }
+
+    /// Request P14 at the ends of its ranges. Of a large object the numbers would make parts of up to 0.2 GB each time; they are asked only
+    /// where they stand in for ours.
+    fn tariff(&mut self) {
+        gen::tariff::edges().for_each(|words| self.lending_fees(&Object::new(words)));
+        if self.calls.lending_fee.is_some() {
+            gen::tariff::large(&mut |known| self.known_fees(known, None));
+        }
     }
 
     fn check_and_fair(&mut self, object: &Object) {
@@ -374,7 +418,8 @@ impl Run<'_> {
         };
     }
 
-    /// Objects too long for a binary file, inputs with many records; the cases marked M, short inputs in full, the large cases, numbers.
+    /// Objects too long for a binary file, inputs with many records, known fees; the cases marked M, short inputs in full, the large cases,
+    /// numbers.
     fn fixed(&mut self, plan: &Plan) {
         for _ in 0..plan.long {
             let p = gen::edges::long_line_block(&mut self.rng);
@@ -388,6 +433,7 @@ impl Run<'_> {
             let words = gen::many::object(&mut self.rng);
             self.object(words);
         }
+        gen::tariff::known().iter().for_each(|known| self.known_fees(known, Some(tariff::ask)));
         if plan.depth == Depth::None {
             return;
         }
@@ -408,6 +454,7 @@ impl Run<'_> {
         }
         self.white_space_in_full(plan.depth);
         self.line_blocks_alone();
+        self.tariff();
     }
 
     /// One random case of each call.
@@ -422,13 +469,16 @@ impl Run<'_> {
         self.white_space([number]);
         let file = gen::room::case(&mut self.room);
         self.room_file(&file);
+        let words = gen::tariff::case(&mut self.tariff);
+        self.lending_fees(&Object::new(words));
     }
 }
 
 pub fn run(calls: &Calls, plan: &Plan) -> Table {
     let (rng, buffers) = (Prng::new(plan.seed), Prng::new(!plan.seed));
     let (white, room) = (Prng::new(plan.seed.reverse_bits()), Prng::new(!plan.seed.reverse_bits()));
-    let mut run = Run { calls, table: Table::default(), rng, buffers, white, room };
+    let tariff = Prng::new(plan.seed.rotate_left(32));
+    let mut run = Run { calls, table: Table::default(), rng, buffers, white, room, tariff };
     run.fixed(plan);
     run.table.at_random = true;
     for _ in 0..plan.cases {
@@ -441,6 +491,7 @@ pub fn run(calls: &Calls, plan: &Plan) -> Table {
 pub mod paper {
     use super::{Calls, Filled, Form, Host, Queries};
     use crate::numbers::query::{ask, get_pos_pair, Query};
+    use crate::numbers::tariff::{self, Fee};
     use crate::numbers::utf8::is_white;
     use crate::numbers::{binary, text, text_write, Outcome};
     use crate::object::{decode, encode, fair};
@@ -472,6 +523,13 @@ pub mod paper {
         }
     }
 
+    fn lending_fee(words: &[u32], member: bool) -> (u8, Fee) {
+        match tariff::ask(words, member) {
+            Ok(fee) => (0, fee),
+            Err(n) => (n, Fee::default()),
+        }
+    }
+
     pub const CALLS: Calls = Calls {
         queries: Some(Queries { check: |w| u8::from(decode(w).is_none()), query }),
         binary: Some(Form {
@@ -486,6 +544,7 @@ pub mod paper {
         }),
         is_fair: Some(|w| decode(w).map_or((1, 0), |p| (0, fair(&p).into()))),
         is_white_space: Some(|n| is_white(n).into()),
+        lending_fee: Some(lending_fee),
         host: Some(Host { binary_length: |f| length(binary::read(f)), text_length: |f| length(text::read(f)), get_pos_pair }),
     };
 }

@@ -3,6 +3,7 @@
 //! Queries: a line is `CALL INPUT ARG NUMBER FIRST SECOND`, fields parted by one space. CALL is a letter: c count_lines,
 //! r raw_line_span, s line_span, p get_pos_pair, g get, f find, k check. INPUT is the object's words, 8 hexadecimal digits each, empty
 //! where it has none. ARG, FIRST and SECOND have 16 digits, NUMBER has 2; a value that a call doesn't have is 0.
+//! Lending fees (request P14), after them: `l INPUT ARG NUMBER FEE BASE WORDS LABELS`, likewise. ARG is 1 for a member, else 0.
 //!
 //! Files: a line is `CALL INPUT NUMBER OUTPUT`. CALL is B binary read, b binary write, T text read, t text write. INPUT and OUTPUT are
 //! bytes, 2 digits each, or words; a refusal has no OUTPUT. A binary file that is written has its records in the object's order.
@@ -12,6 +13,7 @@ use std::ops::RangeInclusive;
 use crate::gen;
 use crate::marked;
 use crate::numbers::query::{Query, Values};
+use crate::numbers::tariff::{self, Fee};
 use crate::object::encode;
 use crate::parts::{Label, Parts};
 use crate::prng::Prng;
@@ -79,6 +81,13 @@ impl Kept {
         }
     }
 
+    fn lending_fee(&mut self, r: &mut Prng, object: &[u32], member: bool, a: &Answer<Fee>) {
+        held(a);
+        let Fee { fee, base, words: started, labels } = a.value.unwrap_or_default();
+        let answer = format!("{:016X} {:02X} {fee:016X} {base:016X} {started:016X} {labels:016X}", u64::from(member), a.number);
+        self.offer(r, 'l', a.number, words(object), answer);
+    }
+
     fn print(&self) {
         let kept = self.0.values().flat_map(|l| l.shortest.iter().chain(&l.others));
         let lines: BTreeSet<&String> = kept.map(|(_, line)| line).collect();
@@ -87,7 +96,7 @@ impl Kept {
 }
 
 fn held<T>(a: &Answer<T>) {
-    assert_eq!(a.difference, None, "the crate and document 01's numbers differ");
+    assert_eq!(a.difference, None, "the reference's sides differ");
 }
 
 /// The list of queries; the same for every run.
@@ -105,6 +114,27 @@ pub fn queries() {
             let a = object.query(q);
             held(&a);
             kept.offer(&mut r, call, a.number, words(&object.words), answer(arg, a.number, a.value.unwrap_or_default()));
+        }
+    }
+    kept.print();
+    lending_fees();
+}
+
+/// The list of lending fees; the same for every run. Those that are known come first, for others and for members.
+fn lending_fees() {
+    let mut r = Prng::new(10);
+    let known = gen::tariff::known();
+    for (known, member) in known.iter().flat_map(|known| [(known, false), (known, true)]) {
+        let mut one = Kept::default();
+        let paper = tariff::ask(&known.words, member);
+        one.lending_fee(&mut r, &known.words, member, &reference::known_fee(known.fee(member), Some(paper)));
+        one.print();
+    }
+    let mut kept = Kept::default();
+    for _ in 0..OBJECTS {
+        let (object, member) = (Object::new(gen::tariff::case(&mut r)), r.once_in(2));
+        if known.iter().all(|known| known.words != object.words) {
+            kept.lending_fee(&mut r, &object.words, member, &object.lending_fee(member));
         }
     }
     kept.print();

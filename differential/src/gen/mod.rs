@@ -7,6 +7,7 @@ pub mod object;
 pub mod query;
 pub mod room;
 pub mod short;
+pub mod tariff;
 pub mod text;
 pub mod white;
 

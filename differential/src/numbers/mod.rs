@@ -4,6 +4,7 @@
 pub mod binary;
 pub mod query;
 pub mod room;
+pub mod tariff;
 pub mod text;
 pub mod text_write;
 pub mod utf8;

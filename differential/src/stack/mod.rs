@@ -95,6 +95,10 @@ impl Measured {
             let white = given(reference::is_white_space(last))?;
             self.call("runs_is_white_space", white.into(), || is_white_space(last))?;
         }
+        if let Some(lending_fee) = calls.lending_fee {
+            let fee = given(object.lending_fee(true))?;
+            self.call("runs_tariff", (0, fee), || lending_fee(words, true))?;
+        }
         Ok(())
     }
 
