@@ -1,9 +1,9 @@
 -- The words of a kind that begins a record are as many as the records. Assumes nothing.
 use mathlib.Core.Path.{_≡_, refl, sym, ap, ap₂, _∙_}
 use mathlib.Core.Bool.{Bool, true, false, _||_}
-use mathlib.Core.List.{List, [], _∷_, _++_, flatMap}
+use mathlib.Core.List.{List, [], _∷_, flatMap}
 use mathlib.Core.Option.{Option, none, some}
-use Prim.Native.Nat.{ℕ, suc, _+_, _*_, _/_, _^_, _≤_, _<_}
+use Prim.Native.Nat.{ℕ, _+_, _*_, _/_, _^_, _≤_, _<_}
 use native.Mathlib.Omega.{arith}
 use native.Mathlib.Numerals.{add-one}
 use native.Mathlib.Nat.{mul-suc}
@@ -22,18 +22,18 @@ use Rattle.format.proofs.Totals.{total, total-append, total-records}
 use Rattle.format.proofs.WordsBack.{groupOf, group-words, group-body}
 use Rattle.format.proofs.WordsTrip.{words-only}
 use Rattle.part_counts.specs.declared.PartCounts.{PartCounts}
-use Rattle.part_counts.specs.Parts.{isKind, ofKind, partCounts, countsOf}
+use Rattle.part_counts.specs.Parts.{indicator, ofKind, partCounts, countsOf}
 
 -- THE LOOP
 
-is-total : (k : ℕ) (ws : List ℕ) → ofKind k ws ≡ total (isKind k) ws
+is-total : (k : ℕ) (ws : List ℕ) → ofKind k ws ≡ total (indicator k) ws
 unfolding ofKind
 is-total k [] = refl
 is-total k (w ∷ ws) = omega (arith, is-total k ws)
 
 -- a word is counted once at most
-one-at-most : (k w : ℕ) → isKind k w ≤ 1
-unfolding isKind
+one-at-most : (k w : ℕ) → indicator k w ≤ 1
+unfolding indicator
 one-at-most k w = by-test (eqb (w / 2 ^ 29) k) (λ t. rw t (omega arith)) (λ t. rw t (omega arith))
 
 -- no more than there are
@@ -50,11 +50,11 @@ module _ (ws : List ℕ) (i k n : ℕ) (c : Counted ws i k n) where
   pub counted-few : n ≤ length ws
   counted-few = omega (arith, c, at-most k ws)
 
-  pub counted-next : i < length ws → (x : ℕ) → x ≡ isKind k (getD ws i 0) → Counted ws (i + 1) k (n + x)
+  pub counted-next : i < length ws → (x : ℕ) → x ≡ indicator k (getD ws i 0) → Counted ws (i + 1) k (n + x)
   unfolding ofKind
   counted-next h x e =
-      let step : ofKind k (drop i ws) ≡ isKind k (getD ws i 0) + ofKind k (drop (i + 1) ws) =
-      ap (ofKind k) (drop-cons ws i 0 h) ∙ ap (λ j. isKind k (getD ws i 0) + ofKind k (drop j ws)) (sym (add-one i)) in
+      let step : ofKind k (drop i ws) ≡ indicator k (getD ws i 0) + ofKind k (drop (i + 1) ws) =
+      ap (ofKind k) (drop-cons ws i 0 h) ∙ ap (λ j. indicator k (getD ws i 0) + ofKind k (drop j ws)) (sym (add-one i)) in
       omega (arith, c, step, e)
 
   pub counted-end : length ws ≤ i → n ≡ ofKind k ws
@@ -78,8 +78,8 @@ same k j = if eqb j k then 1 else 0
 abbrev Begins : ℕ → Type 0
 Begins k = (eqb k 0 || isBetween 2 5 k) ≡ true
 
-body-none : (k : ℕ) → Begins k → (ws : List ℕ) → All (λ w. isHead w ≡ false) ws → total (isKind k) ws ≡ 0
-unfolding isKind isHead
+body-none : (k : ℕ) → Begins k → (ws : List ℕ) → All (λ w. isHead w ≡ false) ws → total (indicator k) ws ≡ 0
+unfolding indicator isHead
 body-none k b [] h = refl
 body-none k b (w ∷ ws) h =
     let other : eqb (w / 2 ^ 29) k ≡ false = ne-eqb (w / 2 ^ 29) k λ e.
@@ -100,17 +100,17 @@ head-kind (source s) h = refl
 head-kind (relocation r) h = let a = h .0 in omega arith
 
 module _ (k : ℕ) (b : Begins k) where
-  of-record : (r : Record) → InWords r → total (isKind k) (recordWords r) ≡ same k (kindOf r)
-  unfolding isKind
+  of-record : (r : Record) → InWords r → total (indicator k) (recordWords r) ≡ same k (kindOf r)
+  unfolding indicator
   of-record r h =
       let rest = body-none k b (groupOf r .1) (group-body r h) in
-      ap (total (isKind k)) (group-words r) ∙ ap₂ (λ x n. same k x + n) (head-kind r h) rest ∙ omega arith
+      ap (total (indicator k)) (group-words r) ∙ ap₂ (λ x n. same k x + n) (head-kind r h) rest ∙ omega arith
 
-  of-records : (rs : List Record) → All InWords rs → total (isKind k) (flatMap recordWords rs) ≡ total (λ r. same k (kindOf r)) rs
+  of-records : (rs : List Record) → All InWords rs → total (indicator k) (flatMap recordWords rs) ≡ total (λ r. same k (kindOf r)) rs
   unfolding flatMap
   of-records [] h = refl
   of-records (r ∷ rs) h =
-      omega (arith, total-append (isKind k) (recordWords r) (flatMap recordWords rs), of-record r (h .0), of-records rs (h .1))
+      omega (arith, total-append (indicator k) (recordWords r) (flatMap recordWords rs), of-record r (h .0), of-records rs (h .1))
 
 -- a sum of equal weights
 alike : {A : Type 0} (n : ℕ) (xs : List A) → total (λ x. n) xs ≡ n * length xs

@@ -9,13 +9,13 @@ use Rattle.format.specs.Records.{sourceRecords}
 use Rattle.part_counts.specs.declared.PartCounts.{PartCounts}
 
 -- 1 for a word of this kind, the top 3 bits, and 0 for another
-unfoldable pub isKind : ℕ → ℕ → ℕ
-isKind kind w = if eqb (w / 2 ^ 29) kind then 1 else 0
+unfoldable pub indicator : ℕ → ℕ → ℕ
+indicator kind w = if eqb (w / 2 ^ 29) kind then 1 else 0
 
 -- how many words are of a kind
 unfoldable pub ofKind : ℕ → List ℕ → ℕ
 ofKind kind [] = 0
-ofKind kind (w ∷ ws) = isKind kind w + ofKind kind ws
+ofKind kind (w ∷ ws) = indicator kind w + ofKind kind ws
 
 -- "0 block", "2 label", "3 line block", "4 source", "5 relocation": how many words begin a record of each kind
 unfoldable pub partCounts : List ℕ → PartCounts

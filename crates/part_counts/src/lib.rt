@@ -1,6 +1,6 @@
 // How many records of each kind an object has.
 ghost use mathlib.Core.Path.{_≡_};
-ghost use Rattle.part_counts.specs.Parts.{isKind, partCounts};
+ghost use Rattle.part_counts.specs.Parts.{indicator, partCounts};
 
 // The counts of the five parts; an object has at most one source.
 pub struct PartCounts {
@@ -12,8 +12,8 @@ pub struct PartCounts {
 }
 
 // 1 for a word of this kind, and 0 for another: a sum of these has no branch.
-fn is_kind(kind: u32, w: u32) -> u64
-    ensures { λ r. ⌜ r ≡ isKind kind w ⌝ }
+fn indicator(kind: u32, w: u32) -> u64
+    ensures { λ r. ⌜ r ≡ indicator kind w ⌝ }
 {
     if object::kind(w) == kind { 1 } else { 0 }
 }
@@ -30,11 +30,11 @@ pub fn count_parts(object: &[u32]) -> PartCounts
     let mut i = 0;
     while i < object.len() {
         let w = object[i];
-        blocks += is_kind(0, w);
-        labels += is_kind(2, w);
-        line_blocks += is_kind(3, w);
-        sources += is_kind(4, w);
-        relocations += is_kind(5, w);
+        blocks += indicator(0, w);
+        labels += indicator(2, w);
+        line_blocks += indicator(3, w);
+        sources += indicator(4, w);
+        relocations += indicator(5, w);
         i += 1;
     }
     PartCounts {

@@ -10,7 +10,7 @@ use Rattle.format.specs.Basics.{given, All, open-Basics}
 use Rattle.format.specs.Digits.{valueOf, open-Digits}
 use Rattle.format.specs.Tokens.{open-Tokens}
 use Rattle.format.specs.Sorted.{open-Sorted}
-use Rattle.format.specs.Utf8.{isUtf8, open-Utf8}
+use Rattle.format.specs.Utf8.{open-Utf8}
 use Rattle.format.specs.ObjectFile.{ObjectFile, consistent, namesOf, sourceText, apart, open-ObjectFile}
 use Rattle.format.specs.Records.{recordsOf, sourceRecords, open-Records}
 use Rattle.format.specs.Words.{textWords, recordWords, wordsOf, objectOf, open-Words}

@@ -1,7 +1,6 @@
 // The lending tariff (document 02, P14): what lending an object costs, in cents.
 ghost use mathlib.Core.Path.{_≡_};
 ghost use Prim.Native.Nat.{_≤_};
-ghost use Rattle.format.specs.Basics.{given};
 ghost use Rattle.tariff.specs.Tariff.{addends, payable, refusedFee, feeOf, lendingFee};
 use part_counts::count_parts;
 

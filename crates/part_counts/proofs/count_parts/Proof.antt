@@ -5,7 +5,7 @@ use mathlib.Core.List.{List}
 use Prim.Native.Nat.{ℕ, _+_, _-_, _≤_}
 use lib.ListN.{length, getD}
 use denote.Ref.{now}
-use Rattle.part_counts.specs.Parts.{isKind, ofKind, partCounts}
+use Rattle.part_counts.specs.Parts.{indicator, ofKind, partCounts}
 use Rattle.part_counts.proofs.PartLaws.{Counted, counted-few, counted-next, counted-end, same-counts}
 use Rattle.part_counts.proofs.count_parts.Statement.{statement}
 use Rattle.part_counts.proofs.count_parts.Tie as tie
@@ -29,7 +29,7 @@ module _ (c : tie.In-loop Inv-loop μ-loop) where
   abbrev i : ℕ
   i = c .before .loop .i
 
-  module _ (k n x : ℕ) (before : Counted ws i k n) (e : x ≡ isKind k (getD ws i 0)) where
+  module _ (k n x : ℕ) (before : Counted ws i k n) (e : x ≡ indicator k (getD ws i 0)) where
     more : Counted ws (i + 1) k (n + x)
     more = counted-next ws i k n before (c .loop-test .taken) x e
 
@@ -45,11 +45,11 @@ loop-again c =
     let p = b .before .before in
     let v = p .before .loop .inv in (
       omega arith,
-      more p 0 _ _ (v .1) (b .is-kind .ensures),
-      more p 2 _ _ (v .2) (l .is-kind2 .ensures),
-      more p 3 _ _ (v .3) (m .is-kind3 .ensures),
-      more p 4 _ _ (v .4) (f .is-kind4 .ensures),
-      more p 5 _ _ (v .5) (c .is-kind5 .ensures),
+      more p 0 _ _ (v .1) (b .indicator .ensures),
+      more p 2 _ _ (v .2) (l .indicator2 .ensures),
+      more p 3 _ _ (v .3) (m .indicator3 .ensures),
+      more p 4 _ _ (v .4) (f .indicator4 .ensures),
+      more p 5 _ _ (v .5) (c .indicator5 .ensures),
     )
 
 returns : tie.Need-returns Inv-loop μ-loop
@@ -72,15 +72,15 @@ count-parts-spec =
     (λ c. search needs)
     (λ c. search needs)
     (λ c κs. search needs)
-    (λ c. let p = c .before .before in omega (arith, fits p 0 _ _ (p .before .loop .inv .1) (c .is-kind .ensures)))
+    (λ c. let p = c .before .before in omega (arith, fits p 0 _ _ (p .before .loop .inv .1) (c .indicator .ensures)))
     (λ c κs. search needs)
-    (λ c. let p = c .before .before .before in omega (arith, fits p 2 _ _ (p .before .loop .inv .2) (c .is-kind2 .ensures)))
+    (λ c. let p = c .before .before .before in omega (arith, fits p 2 _ _ (p .before .loop .inv .2) (c .indicator2 .ensures)))
     (λ c κs. search needs)
-    (λ c. let p = c .before .before .before .before in omega (arith, fits p 3 _ _ (p .before .loop .inv .3) (c .is-kind3 .ensures)))
+    (λ c. let p = c .before .before .before .before in omega (arith, fits p 3 _ _ (p .before .loop .inv .3) (c .indicator3 .ensures)))
     (λ c κs. search needs)
-    (λ c. let p = c .before .before .before .before .before in omega (arith, fits p 4 _ _ (p .before .loop .inv .4) (c .is-kind4 .ensures)))
+    (λ c. let p = c .before .before .before .before .before in omega (arith, fits p 4 _ _ (p .before .loop .inv .4) (c .indicator4 .ensures)))
     (λ c κs. search needs)
-    (λ c. let p = c .before .before .before .before .before .before in omega (arith, fits p 5 _ _ (p .before .loop .inv .5) (c .is-kind5 .ensures)))
+    (λ c. let p = c .before .before .before .before .before .before in omega (arith, fits p 5 _ _ (p .before .loop .inv .5) (c .indicator5 .ensures)))
     (λ c. search needs)
     (λ c. search needs)
     loop-again

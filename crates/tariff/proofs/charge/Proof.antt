@@ -1,7 +1,6 @@
 use borrow.Author.Needs.{needs}
 use mathlib.Core.Path.{ap}
 use Prim.Native.Nat.{ℕ, _+_, _*_, _/_}
-use Rattle.tariff.specs.declared.Fee.{Fee}
 use Rattle.tariff.specs.Tariff.{addends, feeOf}
 use Rattle.tariff.proofs.charge.Statement.{statement}
 use Rattle.tariff.proofs.charge.Tie as tie
