@@ -91,7 +91,7 @@ fn files(calls: &Calls, p: &Parts) -> Vec<Time> {
     forms(calls, p, &[&file[..7], &list.concat()].concat())
 }
 
-/// `check`, `is_fair` and the queries, which ask for what lies last.
+/// `check`, `is_fair`, `lending_fee` and the queries, which ask for what lies last.
 fn queries(calls: &Calls, p: &Parts) -> Vec<Time> {
     assert!(fair(p), "all is looked at");
     let (object, o) = (encode(p), access::build(p));
@@ -107,7 +107,9 @@ fn queries(calls: &Calls, p: &Parts) -> Vec<Time> {
     ];
     let check = calls.queries.map(|q| best(|| (q.check)(black_box(&object))));
     let is_fair = calls.is_fair.map(|ask| best(|| ask(black_box(&object))));
-    let mut out = vec![Time { call: "check", ours: check, theirs: None }, Time { call: "is_fair", ours: is_fair, theirs: None }];
+    let lending_fee = calls.lending_fee.map(|ask| best(|| ask(black_box(&object), true)));
+    let alone = [("check", check), ("is_fair", is_fair), ("lending_fee", lending_fee)];
+    let mut out: Vec<Time> = alone.into_iter().map(|(call, ours)| Time { call, ours, theirs: None }).collect();
     out.extend(asks.map(|(call, q)| Time {
         call,
         ours: calls.queries.map(|ours| best(|| (ours.query)(black_box(&object), q))),
@@ -159,7 +161,7 @@ fn notes(call: &str) -> [&'static str; 2] {
     let objects = "Objects: a quarter labels, a quarter line blocks, half source.";
     let labels = "The labels lie in the file by address; their names then rise, or are random.";
     match call {
-        "check" | "is_fair" => [objects, "The crate has no such call."],
+        "check" | "is_fair" | "lending_fee" => [objects, "The crate has no such call."],
         "binary length" | "text length" => [labels, "The crate has no such call: its deserialize stands beside ours."],
         "binary read" | "text read" => [labels, "Ours fills a lent buffer, sorted and without a heap; the crate makes maps."],
         "binary write" | "text write" => ["By address, the names of the labels rise, or are random.", "Ours checks the object first."],

@@ -23,7 +23,7 @@ unfoldable pub payable : Bool → ℕ → ℕ
 payable true sum = (70 * sum + 50) / 100
 payable false sum = sum
 
--- "38, 'has the holding at most 16,777,216 words?', asked after 1", which is that it is well formed
+-- "38, 'has the holding at most 16,777,216 words?', asked after 1": 1 is `objectOf`'s, "Is it well formed?"
 unfoldable pub charges : List ℕ → Outcome Addends
 charges ws = do
   h ← objectOf ws
@@ -44,11 +44,12 @@ feeOf member a = record {
 unfoldable pub refusedFee : ℕ → Fee
 refusedFee n = record { number = n; fee = 0; base = 0; words = 0; labels = 0 }
 
+-- what the call hands back of each outcome
 unfoldable pub feeAnswer : Bool → Outcome Addends → Fee
 feeAnswer member (refused n) = refusedFee n
 feeAnswer member (given a) = feeOf member a
 
--- what lending these words costs a member college, or another one
+-- "Lending is charged per holding in cents": what lending these words costs a member college, or another one
 unfoldable pub lendingFee : List ℕ → Bool → Fee
 lendingFee ws member = feeAnswer member (charges ws)
 

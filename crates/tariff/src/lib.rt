@@ -39,7 +39,7 @@ fn payable(sum: u64, member: bool) -> u64
 
 // "150, plus 4 for each started 256 words of the holding, plus 1 per label", of so many words and labels.
 fn charge(words: u64, labels: u64, member: bool) -> Fee
-    requires { ⌜ (words ≤ 16777216) × (labels ≤ words) ⌝ }
+    requires { ⌜ (words ≤ 16_777_216) × (labels ≤ words) ⌝ }
     ensures { λ r. ⌜ r ≡ feeOf member (addends words labels) ⌝ }
 {
     let started = 4 * ((words + 255) / 256);
@@ -61,7 +61,7 @@ pub fn lending_fee(object: &[u32], member: bool) -> Fee
         return refused(number);
     }
     let words = object.len() as u64;
-    if 16777216 < words {
+    if 16_777_216 < words {
         return refused(38);
     }
     let counts = count_parts(object);
