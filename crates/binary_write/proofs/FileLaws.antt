@@ -1,5 +1,5 @@
 -- What a binary write comes to, by the numbers of the check and of the measuring. Assumes nothing.
-use mathlib.Core.Path.{_≡_, refl, sym, ap, ap₂, subst, _∙_}
+use mathlib.Core.Path.{_≡_, sym, ap, ap₂, subst, _∙_}
 use mathlib.Core.Bool.{Bool, true}
 use mathlib.Core.List.{List, [], _++_, flatMap}
 use Prim.Native.Nat.{ℕ, _+_, _≤_}
@@ -12,9 +12,10 @@ use Rattle.format.specs.ObjectFile.{ObjectFile}
 use Rattle.format.specs.Records.{recordsOf, placed}
 use Rattle.format.specs.Words.{objectOf}
 use Rattle.format.specs.Binary.{recordBytes, countsFit}
-use Rattle.format.specs.Calls.{refusalOf, checked, fill, inOrder, Reordered, OrdersOf}
+use Rattle.format.specs.Calls.{checked, fill, inOrder, Reordered, OrdersOf}
 use Rattle.format.proofs.ListLaws.{by-test, unchanged}
 use Rattle.format.proofs.WordsOnly.{given-same}
+use Rattle.object.proofs.Formed.{not-formed}
 use Rattle.units.specs.Filled.{filledOf, handedBack}
 use Rattle.units.specs.declared.Filled.{Filled}
 use Rattle.units.proofs.FilledLaws.{ends-refused, ends-short}
@@ -26,25 +27,17 @@ use Rattle.binary_measure.proofs.WalkLaws.{object-is, in-order, counts-placed}
 
 -- words that are not well formed
 module _ (front ws buffer : List ℕ) (n : ℕ) (e : n ≡ checked ws) (some : n ≡ 0 → ⊥) where
-  not-formed : objectOf ws ≡ refused n
-  unfolding checked
-  not-formed = go (objectOf ws) refl
-    where
-      go : (o : Outcome ObjectFile) → objectOf ws ≡ o → objectOf ws ≡ refused n
-      go (refused m) q = q ∙ ap refused (sym (e ∙ ap refusalOf q))
-      go (given h) q = absurd (some (e ∙ ap refusalOf q))
-
   pub refused-1 : (r : Filled) → r ≡ handedBack n 0 → WritesAfter front ws buffer (filledOf r buffer)
   unfolding fileAfter
   refused-1 r h =
       let never : OrdersOf ws [] [] = λ o q. let z : _≡_ {A = ℕ} 0 1 = clashing q in absurd (omega arith) in
-      ([], [], never, ap (λ x. filledOf x buffer) h ∙ ends-refused n buffer ∙ sym (ap (λ o. fill (o >>= rest) buffer) not-formed))
+      ([], [], never, ap (λ x. filledOf x buffer) h ∙ ends-refused n buffer ∙ sym (ap (λ o. fill (o >>= rest) buffer) (not-formed ws n e some)))
     where
       rest : ObjectFile → Outcome (List ℕ)
       rest o = ask 2 (countsFit o) >>= λ _. given (front ++ flatMap recordBytes (recordsOf (inOrder o [] [])))
 
       clashing : {o : ObjectFile} → objectOf ws ≡ given o → _≡_ {A = ℕ} 0 1
-      clashing q = let p : refused n ≡ given _ = sym not-formed ∙ q in cc
+      clashing q = let p : refused n ≡ given _ = sym (not-formed ws n e some) ∙ q in cc
 
 -- words that are well formed
 module _ (front ws buffer : List ℕ) (z : checked ws ≡ 0) where

@@ -10,7 +10,7 @@ use Rattle.format.specs.Sorted.{rises}
 use Rattle.format.specs.ObjectFile.{ObjectFile, consistent}
 use Rattle.format.specs.Records.{Record, recordKey, placed}
 use Rattle.format.specs.Words.{isHead, recordFrom, recordsFrom, objectOf}
-use Rattle.format.specs.Calls.{checked}
+use Rattle.format.specs.Calls.{refusalOf, checked}
 use Rattle.object.specs.Bodies.{bodyAt, groupsAt}
 use Rattle.format.proofs.WordsOnly.{bind-given, ask-given, given-same}
 use Rattle.object.proofs.Tests.{clash}
@@ -68,3 +68,12 @@ formed ws z = go (objectOf ws) refl
     go : (o : Outcome ObjectFile) → objectOf ws ≡ o → Formed ws
     go (refused n) e = absurd (omega (arith, z, refusal-of ws ∙ ap (λ o. cond (isGiven o) 0 1) e))
     go (given h) e = record { object = h; is = e }
+
+-- and words that are none, by theirs
+pub not-formed : (ws : List ℕ) (n : ℕ) → n ≡ checked ws → (n ≡ 0 → ⊥) → objectOf ws ≡ refused n
+unfolding checked
+not-formed ws n e nz = go (objectOf ws) refl
+  where
+    go : (o : Outcome ObjectFile) → objectOf ws ≡ o → objectOf ws ≡ refused n
+    go (refused m) q = q ∙ ap refused (sym (e ∙ ap refusalOf q))
+    go (given h) q = absurd (nz (e ∙ ap refusalOf q))

@@ -37,7 +37,7 @@ unfolding indicator
 one-at-most k w = by-test (eqb (w / 2 ^ 29) k) (λ t. rw t (omega arith)) (λ t. rw t (omega arith))
 
 -- no more than there are
-pub at-most : (k : ℕ) (ws : List ℕ) → ofKind k ws ≤ length ws
+at-most : (k : ℕ) (ws : List ℕ) → ofKind k ws ≤ length ws
 unfolding ofKind
 at-most k [] = omega arith
 at-most k (w ∷ ws) = omega (arith, at-most k ws, one-at-most k w)

@@ -7,8 +7,9 @@ use Rattle.format.specs.Basics.{Outcome, refused, given, _>>=_}
 use Rattle.format.specs.ObjectFile.{ObjectFile}
 use Rattle.format.specs.Words.{objectOf}
 use Rattle.format.specs.Source.{Span, Position, newlines, lineCount, rawLineSpan, trimmed, lineSpan, getPosPair}
-use Rattle.format.specs.Calls.{refusalOf, checked, sourceIn, valueAnswer, spanAnswer, positionAnswer, queryCountLines}
+use Rattle.format.specs.Calls.{checked, sourceIn, valueAnswer, spanAnswer, positionAnswer, queryCountLines}
 use Rattle.format.specs.Calls.{queryRawLineSpan, queryLineSpan, queryPosPair}
+use Rattle.object.proofs.Formed.{not-formed}
 use native.Mathlib.Numerals.{add-one}
 
 -- the source of an object, as bytes
@@ -16,12 +17,8 @@ abbrev pub sourceOf : List ℕ → Outcome (List ℕ)
 sourceOf ws = sourceIn ws >>= λ x. given (x .1)
 
 pub source-number : (ws : List ℕ) (n : ℕ) → n ≡ checked ws → (n ≡ 0 → ⊥) → refused n ≡ sourceOf ws
-unfolding checked sourceIn
-source-number ws n e nz = go (objectOf ws) refl
-  where
-    go : (o : Outcome ObjectFile) → objectOf ws ≡ o → refused n ≡ sourceOf ws
-    go (refused m) q = ap refused (e ∙ ap refusalOf q) ∙ sym (rw q)
-    go (given h) q = absurd (nz (e ∙ ap refusalOf q))
+unfolding sourceIn
+source-number ws n e nz = sym (rw (not-formed ws n e nz))
 
 pub source-none : (ws : List ℕ) (h : ObjectFile) → objectOf ws ≡ given h → h .source ≡ none → refused 4 ≡ sourceOf ws
 unfolding sourceIn

@@ -1,18 +1,18 @@
 -- What lending costs by the number of the check, the length and the count of labels; and what the tariff's words say beside its
 -- definition. Assumes nothing.
-use mathlib.Core.Path.{_≡_, refl, sym, ap, _∙_}
+use mathlib.Core.Path.{_≡_, sym}
 use mathlib.Core.Bool.{Bool, true}
 use mathlib.Core.List.{List}
 use Prim.Native.Nat.{ℕ, _+_, _*_, _≤_, _<_}
 use native.Mathlib.Omega.{arith}
 use lib.ListN.{length}
-use lib.Dec.{leb}
 use borrow.Author.Tests.{le-leb, lt-leb}
-use Rattle.format.specs.Basics.{Outcome, refused, given, _>>=_, ask}
+use Rattle.format.specs.Basics.{given}
 use Rattle.format.specs.ObjectFile.{ObjectFile}
 use Rattle.format.specs.Words.{objectOf}
-use Rattle.format.specs.Calls.{refusalOf, checked}
-use Rattle.tariff.specs.Tariff.{Addends, addends, payable, charges, feeOf, refusedFee, feeAnswer, lendingFee}
+use Rattle.format.specs.Calls.{checked}
+use Rattle.object.proofs.Formed.{not-formed}
+use Rattle.tariff.specs.Tariff.{addends, payable, charges, feeOf, refusedFee, feeAnswer, lendingFee}
 
 -- "for each started 256 words": as many as cover all words, and no fewer do
 pub started : (words labels n : ℕ) → words ≤ 256 * n → 256 * n < words + 256 → addends words labels .words ≡ 4 * n
@@ -32,15 +32,8 @@ nearest-only sum fee a b = omega arith
 module _ (ws : List ℕ) (member : Bool) where
   -- words that are not well formed, however many
   pub fee-ill-formed : (n : ℕ) → n ≡ checked ws → (n ≡ 0 → ⊥) → refusedFee n ≡ lendingFee ws member
-  unfolding checked charges feeAnswer lendingFee
-  fee-ill-formed n e bad = go (objectOf ws) refl
-    where
-      rest : ObjectFile → Outcome Addends
-      rest h = ask 38 (leb (length ws) 16777216) >>= λ _. given (addends (length ws) (length (h .labels)))
-
-      go : (o : Outcome ObjectFile) → objectOf ws ≡ o → refusedFee n ≡ feeAnswer member (objectOf ws >>= rest)
-      go (refused m) q = ap refusedFee (e ∙ ap refusalOf q) ∙ sym (ap (λ o. feeAnswer member (o >>= rest)) q)
-      go (given h) q = absurd (bad (e ∙ ap refusalOf q))
+  unfolding charges feeAnswer lendingFee
+  fee-ill-formed n e bad = sym (rw (not-formed ws n e bad))
 
   module _ (h : ObjectFile) (q : objectOf ws ≡ given h) where
     -- too many words

@@ -1,21 +1,20 @@
 -- What a text write comes to, by the numbers of the check and of the measuring. Assumes nothing.
-use mathlib.Core.Path.{_≡_, refl, sym, ap, _∙_}
+use mathlib.Core.Path.{_≡_, sym, ap, _∙_}
 use mathlib.Core.List.{List}
 use mathlib.Core.Option.{none, some}
 use Prim.Native.Nat.{ℕ, _≤_}
 use lib.ListN.{length}
-use Rattle.format.specs.Basics.{Outcome, refused, given, _>>=_, givenOr}
+use Rattle.format.specs.Basics.{Outcome, given, _>>=_, givenOr}
 use Rattle.format.specs.ObjectFile.{ObjectFile}
 use Rattle.format.specs.Records.{emptyObject}
-use Rattle.format.specs.Words.{objectOf}
 use Rattle.format.specs.TextWriter.{textFile}
-use Rattle.format.specs.Calls.{refusalOf, checked, fill, writeText}
+use Rattle.format.specs.Calls.{checked, fill, writeText}
 use Rattle.units.specs.Filled.{filledOf, handedBack}
 use Rattle.units.specs.declared.Filled.{Filled}
 use Rattle.units.proofs.FilledLaws.{ends-refused, ends-short}
 use Rattle.writing.specs.Written.{Put}
 use Rattle.writing.proofs.WriteLaws.{put-fills}
-use Rattle.object.proofs.Formed.{formed}
+use Rattle.object.proofs.Formed.{formed, not-formed}
 use Rattle.measuring.specs.Room.{lessPart}
 use Rattle.measuring.proofs.RoomLaws.{fits, short}
 use Rattle.text_write.specs.Groups.{fileText}
@@ -27,15 +26,10 @@ file-fits ws buffer left e = fits (length buffer) (length (fileText ws)) e .0
 module _ (ws buffer : List ℕ) (r : Filled) where
   -- words that are not well formed
   pub file-refused : (n : ℕ) → n ≡ checked ws → (n ≡ 0 → ⊥) → r ≡ handedBack n 0 → filledOf r buffer ≡ fill (writeText ws) buffer
-  unfolding checked writeText
-  file-refused n e bad h = ap (λ x. filledOf x buffer) h ∙ ends-refused n buffer ∙ go (objectOf ws) refl
-    where
-      rest : ObjectFile → Outcome (List ℕ)
-      rest o = given (textFile o)
-
-      go : (o : Outcome ObjectFile) → objectOf ws ≡ o → fill (refused n) buffer ≡ fill (objectOf ws >>= rest) buffer
-      go (refused m) q = ap (λ k. fill (refused k) buffer) (e ∙ ap refusalOf q) ∙ sym (ap (λ o. fill (o >>= rest) buffer) q)
-      go (given o) q = absurd (bad (e ∙ ap refusalOf q))
+  unfolding writeText
+  file-refused n e bad h =
+      ap (λ x. filledOf x buffer) h ∙ ends-refused n buffer
+      ∙ sym (ap (λ (o : Outcome ObjectFile). fill (o >>= λ f. given (textFile f)) buffer) (not-formed ws n e bad))
 
   -- words that are well formed
   module _ (z : checked ws ≡ 0) where
