@@ -8,11 +8,11 @@ use native.Mathlib.Nat.{pow-suc, pow-zero, div-lt-iff-lt-mul, mod-lt}
 use native.Mathlib.Omega.{arith}
 use lib.ListN.{length}
 use lib.Dec.{ltb, eqb}
-use borrow.Author.Tests.{ltb-true, ltb-false, lt-ltb, le-leb, lt-leb, ne-eqb}
+use borrow.Author.Tests.{ltb-true, ltb-false, lt-ltb, le-ltb, le-leb, lt-leb, ne-eqb}
 use Rattle.format.specs.Basics.{if_then_else_, isEmpty, ascii, eqs, All}
 use Rattle.format.specs.Digits.{digitsOf}
 use Rattle.format.specs.TextWriter.{lowerDigit, upperDigit, numeral, hex4, decimal, memoryText}
-use Rattle.format.specs.TextReader.{digitValue, digitsFrom, withoutPlus, parseNumber, hex2u16, parseDecimal, maybeHex2u16}
+use Rattle.format.specs.TextReader.{digitValue, digitsFrom, parseNumber, hex2u16, parseDecimal, maybeHex2u16}
 use Rattle.format.proofs.NumeralLaws.{numeral-back}
 use Rattle.format.proofs.Ranges.{Word16}
 
@@ -49,12 +49,12 @@ pub lower-numeric : (d : ℕ) → d < 16 → Numeric (lowerDigit d)
 lower-numeric d hd = digit-numeric 87 d (omega arith) (omega arith) hd
 
 four-digits :
-    (a b c d x y z w : ℕ) → Numeric a → digitValue 16 a ≡ some x → digitValue 16 b ≡ some y → digitValue 16 c ≡ some z → digitValue 16 d ≡ some w
+    (a b c d x y z w : ℕ) → digitValue 16 a ≡ some x → digitValue 16 b ≡ some y → digitValue 16 c ≡ some z → digitValue 16 d ≡ some w
     → ((0 * 16 + x) * 16 + y) * 16 + z < 2 ^ 12 → w < 16
     → hex2u16 (a ∷ b ∷ c ∷ d ∷ []) ≡ some ((((0 * 16 + x) * 16 + y) * 16 + z) * 16 + w)
-unfolding hex2u16 parseNumber withoutPlus isEmpty digitsFrom
-four-digits a b c d x y z w n e f g h l m =
-    rw (ne-eqb a 0x2B (λ q. omega (arith, n .0)), e, f, g, h, lt-ltb ((((0 * 16 + x) * 16 + y) * 16 + z) * 16 + w) (2 ^ 16) (omega arith))
+unfolding hex2u16 parseNumber isEmpty digitsFrom
+four-digits a b c d x y z w e f g h l m =
+    rw (e, f, g, h, lt-ltb ((((0 * 16 + x) * 16 + y) * 16 + z) * 16 + w) (2 ^ 16) (omega arith))
 
 pub hex-back : (v : ℕ) → v < 2 ^ 16 → hex2u16 (hex4 v) ≡ some v
 unfolding hex4 digitsOf
@@ -64,7 +64,7 @@ hex-back v h =
     let z : ℕ = v / 16 % 16 in
     let w : ℕ = v % 16 in
     let e : (((0 * 16 + x) * 16 + y) * 16 + z) * 16 + w ≡ v = omega arith in
-    four-digits (upperDigit x) (upperDigit y) (upperDigit z) (upperDigit w) x y z w (upper-numeric x (omega arith)) (upper-digit x (omega arith)) (upper-digit y (omega arith)) (upper-digit z (omega arith)) (upper-digit w (omega arith)) (omega arith) (omega arith)
+    four-digits (upperDigit x) (upperDigit y) (upperDigit z) (upperDigit w) x y z w (upper-digit x (omega arith)) (upper-digit y (omega arith)) (upper-digit z (omega arith)) (upper-digit w (omega arith)) (omega arith) (omega arith)
     ∙ ap (λ (n : ℕ). some n) e
 
 pub hex-numeric : (v : ℕ) → All Numeric (hex4 v)
@@ -108,12 +108,16 @@ pub full-of : (ds : List ℕ) → 1 ≤ length ds → Full ds
 full-of [] h = absurd (omega arith)
 full-of (d ∷ ds) h = tt
 
--- a numeral without a sign, of a number below the limit
-pub number-in :
-    (base limit n : ℕ) (ds : List ℕ) → All Numeric ds → Full ds → digitsFrom base 0 ds ≡ some n → n < limit → parseNumber base limit ds ≡ some n
-unfolding parseNumber withoutPlus isEmpty
-number-in base limit n [] a f e l = absurd f
-number-in base limit n (b ∷ bs) a f e l = rw (ne-eqb b 0x2B (λ q. omega (arith, a .0)), e, lt-ltb n limit l)
+-- a numeral of a number below the limit
+pub number-in : (base limit n : ℕ) (ds : List ℕ) → Full ds → digitsFrom base 0 ds ≡ some n → n < limit → parseNumber base limit ds ≡ some n
+unfolding parseNumber isEmpty
+number-in base limit n [] f e l = absurd f
+number-in base limit n (b ∷ bs) f e l = rw (e, lt-ltb n limit l)
+
+-- "Hex and decimal cells with a leading `+` are now refused" (P8)
+pub plus-refused : (base limit : ℕ) (bs : List ℕ) → base ≤ 16 → parseNumber base limit (0x2B ∷ bs) ≡ none
+unfolding parseNumber isEmpty digitsFrom digitValue
+plus-refused base limit bs h = rw (le-ltb 16 base h)
 
 pub decimal-numeric : (n : ℕ) → n < 2 ^ 64 → All Numeric (decimal n) × Full (decimal n)
 unfolding decimal
@@ -125,7 +129,7 @@ pub decimal-back : (limit n : ℕ) → n < 2 ^ 64 → n < limit → parseDecimal
 unfolding decimal digitsFrom
 decimal-back limit n h l =
     let d = decimal-numeric n h in
-    number-in 10 limit n (decimal n) (d .0) (d .1) (numeral-back 10 (omega arith) (omega arith) 19 n [] (omega arith)) l
+    number-in 10 limit n (decimal n) (d .1) (numeral-back 10 (omega arith) (omega arith) 19 n [] (omega arith)) l
 
 hex-not-unknown : (v : ℕ) → eqs (hex4 v) (ascii "????") ≡ false
 unfolding hex4 digitsOf eqs ascii

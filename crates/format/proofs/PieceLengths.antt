@@ -11,7 +11,7 @@ use borrow.Author.Tests.{eqb-true}
 use Rattle.format.specs.Basics.{ascii, isEmpty, keep, eqs, beginsWith}
 use Rattle.format.specs.Tokens.{tokens}
 use Rattle.format.specs.Utf8.{isBetween, encodeScalar, charAt, whiteSpaceLength, passOver, trimFrom, trimStart, isBlank, trimEnd, trim}
-use Rattle.format.specs.TextReader.{onFirst, lines, keptLines, digitsFrom, withoutPlus, belowLimit, parseNumber, hex2u16, maybeHex2u16}
+use Rattle.format.specs.TextReader.{onFirst, lines, keptLines, digitsFrom, belowLimit, parseNumber, hex2u16, maybeHex2u16}
 use Rattle.format.specs.TextReader.{splitOnce, firstCell, splitn, cellAt}
 use Rattle.format.specs.TextReader.{hexDigits, scalarOf, unicodeEscape, afterBackslash, unescapeAt, unescape}
 use Rattle.format.proofs.LineLaws.{isKept}
@@ -87,11 +87,9 @@ eqs-long (x ∷ xs) (y ∷ ys) e = ap suc (eqs-long xs ys (both (eqb x y) (eqs x
 
 -- a number that is read has a byte, one in hex four
 pub number-long : (base limit : ℕ) (bs : List ℕ) → Holds (λ _. 1 ≤ length bs) (parseNumber base limit bs)
-unfolding parseNumber withoutPlus isEmpty
+unfolding parseNumber isEmpty
 number-long base limit [] = tt
-number-long base limit (b ∷ bs) =
-    by-if (Holds (λ _. 1 ≤ suc (length bs))) (isEmpty (withoutPlus (b ∷ bs))) _ _ (λ _. tt)
-    (λ _. go (belowLimit limit (digitsFrom base 0 (withoutPlus (b ∷ bs)))))
+number-long base limit (b ∷ bs) = go (belowLimit limit (digitsFrom base 0 (b ∷ bs)))
   where
     go : (o : Option ℕ) → Holds (λ _. 1 ≤ suc (length bs)) o
     go none = tt

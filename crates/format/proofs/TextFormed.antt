@@ -14,7 +14,7 @@ use Rattle.format.specs.Sorted.{order, atKey}
 use Rattle.format.specs.Utf8.{isUtf8, trim}
 use Rattle.format.specs.ObjectFile.{Label, ObjectFile, LineBlock, blockKey, labelKey, lineKey, lineEnd, neverFall, apart}
 use Rattle.format.specs.Records.{block, label, relocation, putRecord, emptyObject, labelNamed, textQuestions, askAll}
-use Rattle.format.specs.TextReader.{belowLimit, digitsFrom, withoutPlus, parseNumber, hex2u16, parseDecimal, maybeHex2u16, splitn, cellAt, sameCells, rowsUnder, blockAt, parseTextGroup, parseSymbolRow, parseSymbolGroup, parseLinkerRow, parseLinkerGroup, parseLabelRow, parseLabelTable, parseLineRows, runsFrom, unescape, parseLineTable, isBar, Split, splitAtBar, upToBar, parseDebugGroup, parseGroup, keptLines, afterMagic, textObject}
+use Rattle.format.specs.TextReader.{belowLimit, digitsFrom, parseNumber, hex2u16, parseDecimal, maybeHex2u16, splitn, cellAt, sameCells, rowsUnder, blockAt, parseTextGroup, parseSymbolRow, parseSymbolGroup, parseLinkerRow, parseLinkerGroup, parseLabelRow, parseLabelTable, parseLineRows, runsFrom, unescape, parseLineTable, isBar, Split, splitAtBar, upToBar, parseDebugGroup, parseGroup, keptLines, afterMagic, textObject}
 use Rattle.format.specs.Words.{objectOf}
 use Rattle.format.specs.Calls.{readText}
 use Rattle.format.proofs.ListLaws.{all-map, all-append, all-images}
@@ -34,7 +34,7 @@ limit-below limit (some n) = by-if (Holds (λ n. n < limit)) (ltb n limit) _ _ (
 number-below : (base limit : ℕ) (bs : List ℕ) → Holds (λ n. n < limit) (parseNumber base limit bs)
 unfolding parseNumber
 number-below base limit bs =
-    by-if (Holds (λ n. n < limit)) (isEmpty (withoutPlus bs)) _ _ (λ _. tt) (λ _. limit-below limit (digitsFrom base 0 (withoutPlus bs)))
+    by-if (Holds (λ n. n < limit)) (isEmpty bs) _ _ (λ _. tt) (λ _. limit-below limit (digitsFrom base 0 bs))
 
 hex-below : (bs : List ℕ) → Holds In16 (hex2u16 bs)
 unfolding hex2u16

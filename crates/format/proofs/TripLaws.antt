@@ -154,16 +154,17 @@ words-text : (bs : List ℕ) (h : ObjectFile) → textObject bs ≡ given h → 
 unfolding readText
 words-text bs h e = rw e
 
+-- what is written of a fair object is read as it
+pub text-back : (ws : List ℕ) (h : ObjectFile) → Stands ws h → readText (textFile h) ≡ given (wordsOf h)
+text-back ws h s = words-text (textFile h) h (text-trip h (s .well) (s .range) (s .fair) (few-lines h (words-few ws h s)))
+
 pub text-step : FormStep text
 text-step = record {
   promise = λ ws h s buffer w p. record {
     file = textFile h;
     written = p ∙ ap (λ (x : Outcome (List ℕ)). fill x buffer) (bytes-text ws h (read-back ws h s));
     size = ap length (sym (file-of text ws h s));
-    back = λ room r q.
-        q
-        ∙ ap (λ (x : Outcome (List ℕ)). fill x room)
-        (words-text (textFile h) h (text-trip h (s .well) (s .range) (s .fair) (few-lines h (words-few ws h s))));
+    back = λ room r q. q ∙ ap (λ (x : Outcome (List ℕ)). fill x room) (text-back ws h s);
   };
   kept = λ ws h s. record { words = refl; well = s .well; range = s .range; fair = s .fair; size = words-few ws h s };
   words = λ ws h s. ap length (s .words);

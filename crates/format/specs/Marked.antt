@@ -109,9 +109,9 @@ abbrev pub flag-01 : Case
 flag-01 =
     reads-binary (header7 ++ (0x00 ∷ 0x00 ∷ 0x30 ∷ 0x01 ∷ 0x00 ∷ 0x01 ∷ 0x34 ∷ 0x12 ∷ [])) (given (0x00003000 ∷ 0x20000000 ∷ []))
 
--- "`+0FF`"
+-- "`+0FF`", and of P8 "The marked `+0FF` case becomes a no."
 abbrev pub plus-0FF : Case
-plus-0FF = reads-text (ascii "LC-3 OBJ FILE\n.TEXT\n+0FF\n0") (given (0x000000FF ∷ []))
+plus-0FF = reads-text (ascii "LC-3 OBJ FILE\n.TEXT\n+0FF\n0") (refused 24)
 
 -- "one `=` line (27)"
 abbrev pub one-bar : Case
@@ -160,12 +160,38 @@ one-word-less = fills-words bytes18 (9 ∷ 9 ∷ 9 ∷ 9 ∷ []) (record { numbe
 abbrev pub no-room : Case
 no-room = fills-words (0x6F ∷ 0x62 ∷ 0x6A ∷ 0x21 ∷ 0x10 ∷ 0x00 ∷ []) [] (record { number = 10; len = 0; buffer = [] })
 
+-- P8, the order: a block's cells are asked before its address is looked for, 24 before 25
+abbrev pub plus-in-a-block-twice : Case
+plus-in-a-block-twice = reads-text (ascii "LC-3 OBJ FILE\n.TEXT\n3000\n0\n3000\n+0") (refused 24)
+
+-- P8, the order: 27 before the label table's 26
+abbrev pub plus-without-bars : Case
+plus-without-bars = reads-text (ascii "LC-3 OBJ FILE\n.DEBUG\nLABEL | INDEX\nA | +5") (refused 27)
+
+-- P8, the order: a second line table's rows are asked before whether there may be any, 28 before 29
+abbrev pub plus-in-a-second-table : Case
+plus-in-a-second-table =
+    let table : List ℕ = ascii "\n.DEBUG\n=\nLINE | ADDR | SOURCE\n" in
+    reads-text (ascii "LC-3 OBJ FILE" ++ table ++ ascii "0 | ????\n=" ++ table ++ ascii "+0 | ????\n=") (refused 28)
+
+-- P8, what is no number cell: a name, as it was; and "Leading zeros stay welcome", 30 of them too
+abbrev pub plus-in-a-name : Case
+plus-in-a-name =
+    reads-text (ascii "LC-3 OBJ FILE\n.DEBUG\nLABEL | INDEX\n+A | 0000000000000000000000000000005\n=\n=")
+    (given (0x40000000 ∷ 0xC0000005 ∷ 0xC0000000 ∷ 0xC0000000 ∷ 0xE200412B ∷ []))
+
+-- P8, what is no number cell: a line of the source, as it was
+abbrev pub plus-in-the-source : Case
+plus-in-the-source =
+    reads-text (ascii "LC-3 OBJ FILE\n.DEBUG\n=\nLINE | ADDR | SOURCE\n00 | ???? | +1\n=") (given (0x80000000 ∷ 0xE200312B ∷ []))
+
 -- THE TABLE
 abbrev pub marked : List Case
 marked =
     words-to-bytes ∷ bytes-to-words ∷ printing ∷ header-alone ∷ six-header-bytes ∷ equal-addresses-binary ∷ equal-addresses-text
     ∷ block-twice-binary ∷ block-twice-text ∷ flag-01 ∷ plus-0FF ∷ one-bar ∷ lines-1-and-3 ∷ lines-1-and-2 ∷ white-space ∷ just-enough
-    ∷ one-word-less ∷ no-room ∷ []
+    ∷ one-word-less ∷ no-room ∷ plus-in-a-block-twice ∷ plus-without-bars ∷ plus-in-a-second-table ∷ plus-in-a-name
+    ∷ plus-in-the-source ∷ []
 
 abbrev pub MarkedHold : Type 0  -- "gathered in a table that one proposition covers"
 MarkedHold = All Holds marked

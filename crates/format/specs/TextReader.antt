@@ -45,23 +45,19 @@ unfoldable pub digitsFrom : ℕ → ℕ → List ℕ → Option ℕ
 digitsFrom base n [] = some n
 digitsFrom base n (b ∷ bs) = andThen (digitValue base b) λ d. digitsFrom base (n * base + d) bs
 
-unfoldable pub withoutPlus : List ℕ → List ℕ  -- "may carry `+`"
-withoutPlus [] = []
-withoutPlus (b ∷ bs) = if eqb b 0x2B then bs else b ∷ bs
-
 abbrev pub belowLimit : ℕ → Option ℕ → Option ℕ  -- "must fit"
 belowLimit limit none = none
 belowLimit limit (some n) = if ltb n limit then some n else none
 
--- as `from_str_radix` and `parse`: one `+` may come first, then at least one digit; "must fit"
+-- at least one digit, and digits alone: "Hex and decimal cells with a leading `+` are now refused" (P8); "must fit"
 unfoldable pub parseNumber : ℕ → ℕ → List ℕ → Option ℕ
-parseNumber base limit bs = let ds = withoutPlus bs in if isEmpty ds then none else belowLimit limit (digitsFrom base 0 ds)
+parseNumber base limit bs = if isEmpty bs then none else belowLimit limit (digitsFrom base 0 bs)
 
--- "Hex is four bytes by `from_str_radix`, so `+0FF` reads as x00FF"
+-- "Hex is four bytes"
 unfoldable pub hex2u16 : List ℕ → Option ℕ
 hex2u16 bs = if eqb (length bs) 4 then parseNumber 16 (2 ^ 16) bs else none
 
--- "decimals may carry `+` and leading zeros, and must fit"
+-- "decimals may carry .. leading zeros, and must fit"
 abbrev pub parseDecimal : ℕ → List ℕ → Option ℕ
 parseDecimal limit bs = parseNumber 10 limit bs
 
@@ -277,7 +273,7 @@ textObject bs = do
   concluded textQuestions h
 
 unfoldable pub open-TextReader : Unit {0}
-unfolding onFirst lines keptLines digitValue digitsFrom withoutPlus parseNumber hex2u16 maybeHex2u16 splitOnce splitn sameCells rowsUnder
+unfolding onFirst lines keptLines digitValue digitsFrom parseNumber hex2u16 maybeHex2u16 splitOnce splitn sameCells rowsUnder
     blockAt parseTextGroup parseSymbolRow parseSymbolGroup parseLinkerRow parseLinkerGroup parseLabelRow parseLabelTable parseLineRows
     runsFrom hexDigits unicodeEscape afterBackslash unescapeAt unescape parseLineTable splitAtBar upToBar parseDebugGroup parseGroup
     afterMagic textObject

@@ -4,32 +4,20 @@ use mathlib.Core.Path.{_≡_, refl, sym, ap, _∙_}
 use mathlib.Core.Bool.{true, false}
 use mathlib.Core.List.{List, [], _∷_}
 use mathlib.Core.Option.{Option, none, some}
-use Prim.Native.Nat.{ℕ, _+_, _-_, _*_, _/_, _^_, _≤_, _<_}
+use Prim.Native.Nat.{ℕ, _+_, _-_, _*_, _%_, _^_, _≤_, _<_}
 use native.Mathlib.Omega.{arith}
-use native.Mathlib.Nat.{div-lt-iff-lt-mul, mul-le-mul-left, mul-one, pow-suc, pow-le-pow-right}
+use native.Mathlib.Nat.{mul-le-mul-left, mul-one, pow-suc, pow-le-pow-right}
 use native.Mathlib.Numerals.{add-one}
 use lib.ListN.{length, drop, getD, drop-of-length-le}
-use lib.Dec.{ltb, eqb}
-use borrow.Author.Tests.{lt-ltb, le-ltb, eq-eqb, ne-eqb, ltb-true, ltb-false, eqb-true, eqb-false}
+use lib.Dec.{leb, ltb, eqb}
+use borrow.Author.Tests.{leb-true, lt-ltb, le-ltb, eq-eqb, ne-eqb, ltb-true, ltb-false, eqb-true, eqb-false}
 use Rattle.format.specs.Basics.{andThen, isEmpty, eqs, ascii}
-use Rattle.format.specs.TextReader.{digitValue, digitsFrom, withoutPlus, belowLimit, parseNumber, hex2u16, maybeHex2u16}
+use Rattle.format.specs.TextReader.{digitValue, digitsFrom, belowLimit, parseNumber, hex2u16, maybeHex2u16}
 use Rattle.text_cells.specs.Cells.{digitOr16}
-use Rattle.text_lines.proofs.TestLaws.{by-test, front, within-yes}
-
-pub plus-none : (s : List ℕ) → length s ≡ 0 → drop 0 s ≡ withoutPlus s
-unfolding withoutPlus
-plus-none [] h = refl
-plus-none (b ∷ bs) h = absurd (omega arith)
-
-pub plus-yes : (s : List ℕ) → 0 < length s → getD s 0 0 ≡ 0x2B → drop 1 s ≡ withoutPlus s
-unfolding withoutPlus
-plus-yes [] h e = absurd (omega arith)
-plus-yes (b ∷ bs) h e = rw (eq-eqb b 0x2B e)
-
-pub plus-no : (s : List ℕ) → 0 < length s → (getD s 0 0 ≡ 0x2B → ⊥) → drop 0 s ≡ withoutPlus s
-unfolding withoutPlus
-plus-no [] h e = refl
-plus-no (b ∷ bs) h e = rw (ne-eqb b 0x2B e)
+use Rattle.format.specs.Utf8.{isBetween}
+use Rattle.format.proofs.ListLaws.{both}
+use Rattle.format.proofs.Outcomes.{by-if}
+use Rattle.text_lines.proofs.TestLaws.{by-test, front, within-yes, within-low, within-high}
 
 -- a digit
 digit-no : (base b : ℕ) → base ≤ digitOr16 b → digitValue base b ≡ none
@@ -66,21 +54,6 @@ from-over limit base p (b ∷ bs) n h = go (digitValue base b) (λ d. from-over 
     go none r = refl
     go (some d) r = r d
 
--- the test before the product is made
-module _ (base max v d : ℕ) where
-  pub past : max < d → max + 1 ≤ v * base + d
-  past h = omega arith
-
-module _ (base max v d : ℕ) (p : 0 < base) where
-  pub over : (max - d) / base < v → max + 1 ≤ v * base + d
-  over h = let e : max - d < v * base = div-lt-iff-lt-mul p .0 h in omega arith
-
-  pub fits : d ≤ max → v ≤ (max - d) / base → v * base + d ≤ max
-  fits k h =
-      by-test (ltb (max - d) (v * base))
-      (λ t. let e : (max - d) / base < v = div-lt-iff-lt-mul p .1 (ltb-true (max - d) (v * base) t) in absurd (omega arith))
-      (λ t. let e : v * base ≤ max - d = ltb-false (max - d) (v * base) t in omega arith)
-
 -- a digit that is none, or makes too much
 pub number-stop : (base max v : ℕ) (s : List ℕ) (i : ℕ) → 0 < base → i < length s
     → (digitOr16 (getD s i 0) < base → max + 1 ≤ v * base + digitOr16 (getD s i 0)) → belowLimit (max + 1) (digitsFrom base v (drop i s)) ≡ none
@@ -93,37 +66,60 @@ number-stop base max v s i p h k =
 pub below-some : (limit v : ℕ) → v < limit → belowLimit limit (some v) ≡ some v
 below-some limit v h = simp (lt-ltb v limit h)
 
+pub below-none : (limit v : ℕ) → limit ≤ v → belowLimit limit (some v) ≡ none
+below-none limit v h = simp (le-ltb v limit h)
+
 -- the number of a cell: none without a digit
-pub number-none : (base limit : ℕ) (s : List ℕ) (i : ℕ) → drop i s ≡ withoutPlus s → i ≡ length s → none ≡ parseNumber base limit s
+pub number-none : (base limit : ℕ) (s : List ℕ) → length s ≡ 0 → none ≡ parseNumber base limit s
 unfolding parseNumber isEmpty
-number-none base limit s i e h = rw (← e, drop-of-length-le s {i = i} (omega arith))
+number-none base limit [] h = refl
+number-none base limit (b ∷ bs) h = absurd (omega arith)
 
-pub number-from : (base limit : ℕ) (s : List ℕ) (i : ℕ) → drop i s ≡ withoutPlus s → i < length s → belowLimit limit (digitsFrom base 0 (drop i s)) ≡ parseNumber base limit s
+pub number-from : (base limit : ℕ) (s : List ℕ) → 0 < length s → belowLimit limit (digitsFrom base 0 s) ≡ parseNumber base limit s
 unfolding parseNumber isEmpty
-number-from base limit s i e h = rw (← e, front 0 s i h)
+number-from base limit [] h = absurd (omega arith)
+number-from base limit (b ∷ bs) h = refl
 
--- decimal digits alone
-module _ (v : ℕ) (s : List ℕ) (i : ℕ) where
-  pub decimal-on : i < length s → 48 ≤ getD s i 0 → getD s i 0 ≤ 57 → digitsFrom 10 (v * 10 + (getD s i 0 - 48)) (drop (i + 1) s) ≡ digitsFrom 10 v (drop i s)
-  unfolding digitOr16
-  decimal-on h l u =
-      let d : digitOr16 (getD s i 0) ≡ getD s i 0 - 48 = simp (within-yes 48 57 (getD s i 0) l u) in
+pub digits-alone : (base : ℕ) (s : List ℕ) (v limit : ℕ) → 0 < length s → digitsFrom base 0 s ≡ some v → parseNumber base limit s ≡ belowLimit limit (some v)
+digits-alone base s v limit h e = sym (number-from base limit s h) ∙ ap (belowLimit limit) e
+
+-- decimal digits
+low-none : (b : ℕ) → b < 48 → 10 ≤ digitOr16 b
+unfolding digitOr16
+low-none b h = simp (within-low 48 57 b h, within-low 65 70 b (omega arith), within-low 97 102 b (omega arith)) (omega arith)
+
+high-none : (b : ℕ) → 57 < b → 10 ≤ digitOr16 b
+unfolding digitOr16
+high-none b h =
+    rw (within-high 48 57 b h)
+    (by-if (λ (d : ℕ). 10 ≤ d) (isBetween 65 70 b) _ _ (λ t. let l = leb-true 65 b (both (leb 65 b) (leb b 70) t .0) in omega arith)
+    (λ _. by-if (λ (d : ℕ). 10 ≤ d) (isBetween 97 102 b) _ _ (λ t. let l = leb-true 97 b (both (leb 97 b) (leb b 102) t .0) in omega arith) (λ _. omega arith)))
+
+decimal-digit : (b : ℕ) → 48 ≤ b → b ≤ 57 → digitOr16 b ≡ b % 16
+unfolding digitOr16
+decimal-digit b l u = let e : b - 48 ≡ b % 16 = omega arith in simp (within-yes 48 57 b l u) e
+
+module _ (s : List ℕ) (v i : ℕ) (h : i < length s) where
+  pub decimal-on :
+      48 ≤ getD s i 0 → getD s i 0 ≤ 57 → digitsFrom 10 (v * 10 + getD s i 0 % 16) (drop (i + 1) s) ≡ digitsFrom 10 v (drop i s)
+  decimal-on l u =
+      let d = decimal-digit (getD s i 0) l u in
       ap (λ (x : ℕ). digitsFrom 10 (v * 10 + x) (drop (i + 1) s)) (sym d) ∙ sym (from-on 10 v s i h (omega (arith, d)))
 
-pub digits-alone : (base : ℕ) → digitValue base 0x2B ≡ none → (s : List ℕ) (v limit : ℕ) → 0 < length s → digitsFrom base 0 s ≡ some v
-    → parseNumber base limit s ≡ belowLimit limit (some v)
-unfolding parseNumber isEmpty withoutPlus digitsFrom
-digits-alone base p [] v limit h e = absurd (omega arith)
-digits-alone base p (b ∷ bs) v limit h e =
-    by-test (eqb b 0x2B)
-    (λ t. let y : digitsFrom base 0 (0x2B ∷ bs) ≡ none = rw p in
-    let z : none ≡ some v = sym y ∙ sym (ap (λ (x : ℕ). digitsFrom base 0 (x ∷ bs)) (eqb-true b 0x2B t)) ∙ e in
-    let w : _≡_ {A = ℕ} 0 1 = cc in absurd (omega arith))
-    (λ t. simp t (ap (belowLimit limit) e))
+  module _ (max : ℕ) (e : digitsFrom 10 v (drop i s) ≡ digitsFrom 10 0 s) where
+    stop : (digitOr16 (getD s i 0) < 10 → max + 1 ≤ v * 10 + digitOr16 (getD s i 0)) → none ≡ parseNumber 10 (max + 1) s
+    stop k =
+        sym (number-stop 10 max v s i (omega arith) h k) ∙ ap (belowLimit (max + 1)) e ∙ number-from 10 (max + 1) s (omega arith)
 
-pub decimal-alone : (s : List ℕ) (v limit : ℕ) → 0 < length s → digitsFrom 10 0 s ≡ some v → parseNumber 10 limit s ≡ belowLimit limit (some v)
-unfolding digitValue
-decimal-alone = digits-alone 10 refl
+    pub decimal-low : getD s i 0 < 48 → none ≡ parseNumber 10 (max + 1) s
+    decimal-low l = stop (λ k. absurd (omega (arith, low-none (getD s i 0) l, k)))
+
+    pub decimal-high : 57 < getD s i 0 → none ≡ parseNumber 10 (max + 1) s
+    decimal-high l = stop (λ k. absurd (omega (arith, high-none (getD s i 0) l, k)))
+
+    -- more than 64 bits
+    pub decimal-over : 48 ≤ getD s i 0 → getD s i 0 ≤ 57 → max + 1 ≤ v * 10 + getD s i 0 % 16 → none ≡ parseNumber 10 (max + 1) s
+    decimal-over l u o = stop (λ k. omega (arith, decimal-digit (getD s i 0) l u, o))
 
 pub hex-no : (s : List ℕ) → (length s ≡ 4 → ⊥) → none ≡ hex2u16 s
 unfolding hex2u16
@@ -144,9 +140,11 @@ pub hex-room-on : (i v d : ℕ) → v + 2 ≤ 2 * 16 ^ i → d ≤ 16 → v * 16
 hex-room-on i v d h l = let p : 16 ^ (i + 1) ≡ 16 ^ i * 16 = rw add-one (pow-suc 16 i) in rw p (omega arith)
 
 pub hex-four : (s : List ℕ) (v : ℕ) → length s ≡ 4 → v < 16 ^ 4 → digitsFrom 16 v (drop 4 s) ≡ digitsFrom 16 0 s → some v ≡ hex2u16 s
-unfolding digitValue
 hex-four s v l h e =
-    sym (digits-alone 16 refl s v 65536 (omega arith) (sym e ∙ from-end 16 v s 4 (omega arith)) ∙ below-some 65536 v h) ∙ hex-yes s l
+    sym (digits-alone 16 s v 65536 (omega arith) (sym e ∙ from-end 16 v s 4 (omega arith)) ∙ below-some 65536 v h) ∙ hex-yes s l
+
+pub hex-bad : (s : List ℕ) → length s ≡ 4 → digitsFrom 16 0 s ≡ none → none ≡ hex2u16 s
+hex-bad s l e = sym (ap (belowLimit 65536) e) ∙ number-from 16 65536 s (omega arith) ∙ hex-yes s l
 
 -- a number that was read is below the limit
 below-small : (limit v : ℕ) (o : Option ℕ) → belowLimit limit o ≡ some v → v < limit
@@ -159,9 +157,9 @@ below-small limit v (some n) e =
 pub number-small : (base limit : ℕ) (s : List ℕ) (v : ℕ) → parseNumber base limit s ≡ some v → v < limit
 unfolding parseNumber
 number-small base limit s v e =
-    by-test (isEmpty (withoutPlus s))
+    by-test (isEmpty s)
     (λ t. let q : none ≡ some v = simp t at e in let z : _≡_ {A = ℕ} 0 1 = cc in absurd (omega arith))
-    (λ t. let q : belowLimit limit (digitsFrom base 0 (withoutPlus s)) ≡ some v = simp t at e in below-small limit v (digitsFrom base 0 (withoutPlus s)) q)
+    (λ t. let q : belowLimit limit (digitsFrom base 0 s) ≡ some v = simp t at e in below-small limit v (digitsFrom base 0 s) q)
 
 pub hex-small : (s : List ℕ) (v : ℕ) → some v ≡ hex2u16 s → v < 65536
 hex-small s v e =

@@ -4,11 +4,11 @@ use mathlib.Core.Path.{_≡_}
 use mathlib.Core.Bool.{Bool}
 use mathlib.Core.List.{List, [], _∷_}
 use mathlib.Core.Option.{Option, none, some}
-use Prim.Native.Nat.{ℕ, _+_, _-_, _*_, _≤_, _<_}
+use Prim.Native.Nat.{ℕ, _+_, _-_, _≤_}
 use lib.ListN.{length, take, drop}
 use Rattle.format.specs.Basics.{if_then_else_, beginsWith}
 use Rattle.format.specs.Utf8.{isBetween}
-use Rattle.format.specs.TextReader.{splitOnce, parseDecimal, belowLimit}
+use Rattle.format.specs.TextReader.{splitOnce}
 use Rattle.text_cells.specs.declared.Number.{Number}
 use Rattle.text_cells.specs.declared.Number.the-variants as nu
 use Rattle.text_cells.specs.declared.Entry.{Entry}
@@ -23,16 +23,6 @@ digitOr16 b = if isBetween 48 57 b then b - 48 else if isBetween 65 70 b then b 
 abbrev pub numberRead : Number → Option ℕ
 numberRead (nu.Value v) = some v
 numberRead nu.Nothing = none
-
--- a value with one more digit of a base, at most `max`; or it is no digit, or makes more
-abbrev pub NextValue : ℕ → ℕ → ℕ → ℕ → Number → Type 0
-NextValue base max v d (nu.Value n) = (d < base) × (n ≡ v * base + d) × (n ≤ max)
-NextValue base max v d nu.Nothing = d < base → max + 1 ≤ v * base + d
-
--- a cell is decimal digits alone, of this value; of other cells nothing is said
-abbrev pub DigitsAlone : List ℕ → Number → Type 0
-DigitsAlone s (nu.Value v) = (limit : ℕ) → parseDecimal limit s ≡ belowLimit limit (some v)
-DigitsAlone s nu.Nothing = Unit {0}
 
 abbrev pub entryOf : Entry → Option (Option ℕ)
 entryOf (en.Value v) = some (some v)

@@ -10,9 +10,9 @@ ghost use Prim.Native.Nat.{_+_, _-_, _≤_, _<_};
 ghost use lib.ListN.{length, take, drop, getD};
 ghost use Rattle.format.specs.Basics.{eqs};
 ghost use Rattle.format.specs.Utf8.{trim};
-ghost use Rattle.format.specs.TextReader.{splitOnce, splitn, parseNumber, parseDecimal, hex2u16, maybeHex2u16, withoutPlus};
+ghost use Rattle.format.specs.TextReader.{splitOnce, splitn, parseDecimal, hex2u16, maybeHex2u16};
 ghost use Rattle.trim.specs.Span.{Spans};
-ghost use Rattle.text_cells.specs.Cells.{barAt, digitOr16, numberRead, entryOf, NextValue, DigitsAlone, Cut};
+ghost use Rattle.text_cells.specs.Cells.{barAt, digitOr16, numberRead, entryOf, Cut};
 
 // What a cell says.
 pub enum Number {
@@ -80,60 +80,9 @@ fn hex_digit(b: u8) -> u64
     }
 }
 
-// Past a `+`.
-fn after_plus(s: &[u8]) -> usize
-    ensures { λ r. ⌜ (r ≤ length (now (s .entry))) × (drop r (now (s .entry)) ≡ withoutPlus (now (s .entry))) ⌝ }
-{
-    if s.len() == 0 {
-        return 0;
-    }
-    if s[0] == 0x2B {
-        return 1;
-    }
-    0
-}
-
-// A value with one more digit of a base, if it is one and the value is at most `max`.
-fn next_value(v: u64, d: u64, base: u64, max: u64) -> Number
-    requires { ⌜ 0 < base ⌝ }
-    ensures { λ r. ⌜ NextValue base max v d r ⌝ }
-{
-    if base <= d {
-        return Number::Nothing;
-    }
-    if max < d {
-        return Number::Nothing;
-    }
-    if (max - d) / base < v {
-        return Number::Nothing;
-    }
-    Number::Value(v * base + d)
-}
-
-// A number in a base that is at most `max`.
-fn read_number(s: &[u8], base: u64, max: u64) -> Number
-    requires { ⌜ (0 < base) × (base ≤ 16) ⌝ }
-    ensures { λ r. ⌜ numberRead r ≡ parseNumber base (max + 1) (now (s .entry)) ⌝ }
-{
-    let mut i = after_plus(s);
-    if i == s.len() {
-        return Number::Nothing;
-    }
-    let mut v = 0;
-    while i < s.len() {
-        let d = digit(s[i]);
-        let Number::Value(n) = next_value(v, d, base, max) else {
-            return Number::Nothing;
-        };
-        v = n;
-        i += 1;
-    }
-    Number::Value(v)
-}
-
-// The number that a cell says by decimal digits alone, where the sums fit; of other cells nothing is said.
-fn plain_decimal(s: &[u8]) -> Number
-    ensures { λ r. ⌜ DigitsAlone (now (s .entry)) r ⌝ }
+// A decimal number that is at most `max`: digits alone, with leading zeros or without.
+pub fn decimal(s: &[u8], max: u64) -> Number
+    ensures { λ r. ⌜ numberRead r ≡ parseDecimal (max + 1) (now (s .entry)) ⌝ }
 {
     if s.len() == 0 {
         return Number::Nothing;
@@ -148,29 +97,24 @@ fn plain_decimal(s: &[u8]) -> Number
         if 0x39 < b {
             return Number::Nothing;
         }
-        if 1844674407370955160 < v {
+        // Past 64 bits it is past any `max`, whatever follows.
+        if 1844674407370955161 < v {
             return Number::Nothing;
         }
-        v = v * 10 + (b - 0x30) as u64;
+        let d = (b % 16) as u64;
+        if 18446744073709551615 - d < v * 10 {
+            return Number::Nothing;
+        }
+        v = v * 10 + d;
         i += 1;
     }
-    Number::Value(v)
-}
-
-// A decimal number that is at most `max`.
-pub fn decimal(s: &[u8], max: u64) -> Number
-    ensures { λ r. ⌜ numberRead r ≡ parseDecimal (max + 1) (now (s .entry)) ⌝ }
-{
-    let Number::Value(v) = plain_decimal(s) else {
-        return read_number(s, 10, max);
-    };
     if max < v {
         return Number::Nothing;
     }
     Number::Value(v)
 }
 
-// Four hexadecimal digits, or three after a `+`: the former without a branch that a digit decides.
+// Four hexadecimal digits, without a branch that a digit decides.
 pub fn hex2u16(s: &[u8]) -> Number
     ensures { λ r. ⌜ numberRead r ≡ hex2u16 (now (s .entry)) ⌝ }
 {
@@ -189,7 +133,7 @@ pub fn hex2u16(s: &[u8]) -> Number
     if bad == 0 {
         return Number::Value(v);
     }
-    read_number(s, 16, 0xFFFF)
+    Number::Nothing
 }
 
 const UNKNOWN: [u8; 4] = [0x3F, 0x3F, 0x3F, 0x3F];

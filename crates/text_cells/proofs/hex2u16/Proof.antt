@@ -2,24 +2,29 @@
 use borrow.Author.Needs.{needs}
 use native.Mathlib.Omega.{arith}
 use mathlib.Core.Path.{_≡_, refl, sym, ap, _∙_}
+use mathlib.Core.Option.{none}
 use Prim.Native.Nat.{ℕ, _+_, _-_, _*_, _^_, _≤_, _<_}
 use denote.Ref.{now}
 use lib.ListN.{length, drop, getD}
+use lib.Dec.{eqb}
+use borrow.Author.Tests.{eqb-true, eqb-false}
 use Rattle.format.specs.TextReader.{digitsFrom}
+use Rattle.text_lines.proofs.TestLaws.{by-test}
 use Rattle.text_cells.specs.Cells.{digitOr16}
-use Rattle.text_cells.proofs.NumberLaws.{hex-no, hex-yes, hex-bound, hex-small-on, hex-room-on, hex-four, from-on}
+use Rattle.text_cells.proofs.NumberLaws.{hex-no, hex-bad, hex-bound, hex-small-on, hex-room-on, hex-four, from-on, from-bad}
 use Rattle.text_cells.proofs.hex2u16.Statement.{statement}
 use Rattle.text_cells.proofs.hex2u16.Tie as tie
 
 abbrev Inv-loop : tie.InvT-loop
 Inv-loop s v₀ bad₀ i₀ v bad i =
     (i ≤ 4) × (bad ≤ i) × (v + 2 ≤ 2 * 16 ^ i) × (bad ≡ 0 → (v < 16 ^ i) × (digitsFrom 16 v (drop i s) ≡ digitsFrom 16 0 s))
+    × (0 < bad → digitsFrom 16 0 s ≡ none)
 
 abbrev μ-loop : tie.MeasureT-loop
 μ-loop s v₀ bad₀ i₀ v bad i = 4 - i
 
 loop-holds : tie.Need-loop-holds Inv-loop μ-loop
-loop-holds c = (omega arith, omega arith, omega arith, λ e. (omega arith, refl))
+loop-holds c = (omega arith, omega arith, omega arith, λ e. (omega arith, refl), λ e. absurd (omega arith))
 
 room : (c : tie.After-hex-digit Inv-loop μ-loop) → (c .before .before .before .loop .v ≤ 131070) × (c .hex-digit .result ≤ 16)
 room c =
@@ -48,6 +53,11 @@ loop-again c =
             ap (λ (x : ℕ). digitsFrom 16 (l .v * 16 + x) (drop (l .i + 1) s)) q
                 ∙ sym (from-on 16 (l .v) s (l .i) (omega (arith, t)) (omega (arith, q))) ∙ p .1,
           ),
+      λ e.
+          by-test (eqb (l .bad) 0)
+          (λ z. let h : 16 ≤ d = omega (arith, eqb-true (l .bad) 0 z) in
+          sym (l .inv .3 (eqb-true (l .bad) 0 z) .1) ∙ from-bad 16 (l .v) s (l .i) (omega (arith, t)) (omega (arith, q)))
+          (λ z. l .inv .4 (let k = eqb-false (l .bad) 0 z in omega arith)),
     )
 
 returns-2 : tie.Need-returns-2 Inv-loop μ-loop
@@ -60,11 +70,13 @@ returns-2 c =
     hex-four s (l .v) (k .before .if1 .left) (p .0) (p .1)
 
 returns-3 : tie.Need-returns-3 Inv-loop μ-loop
-returns-3 c = c .read-number .ensures ∙ hex-yes _ (c .before .before .before .before .if1 .left)
+returns-3 c =
+    let k = c .before .before in
+    hex-bad _ (k .before .if1 .left) (k .loop .inv .4 (omega (arith, c .if2 .left)))
 
 pub hex2u16-spec : {M : Type 1} → statement M
 hex2u16-spec =
     tie.close
     (tie.spec Inv-loop μ-loop (λ c. hex-no _ (c .if1 .taken)) loop-holds (λ c. omega (arith, c .before .before .before .if1 .left)) (λ c κs. search needs)
     (λ c. omega (arith, c .before .before .before .loop .inv .1, room c .1)) (λ c. omega (arith, room c .0)) (λ c. omega (arith, room c .0, room c .1)) (λ c. omega (arith, c .before .before .loop-test .taken))
-    (λ c. omega (arith, c .before .before .loop-test .taken)) loop-again returns-2 (λ c κs. (omega arith, omega arith)) returns-3)
+    (λ c. omega (arith, c .before .before .loop-test .taken)) loop-again returns-2 returns-3)
