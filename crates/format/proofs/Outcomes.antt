@@ -1,4 +1,5 @@
--- What holds of an outcome if something is given, question by question, and what a walk keeps that each of its steps keeps.
+-- What holds of an outcome if something is given, question by question, by which numbers it is refused, and what a walk keeps that each of
+-- its steps keeps.
 -- Assumes nothing.
 use mathlib.Core.Path.{_≡_, refl}
 use mathlib.Core.Bool.{Bool, true, false}
@@ -34,10 +35,22 @@ pub gives-map : {A : Type 0} (P Q : A → Type 0) → ((a : A) → P a → Q a) 
 gives-map P Q k (refused n) h = tt
 gives-map P Q k (given a) h = k a h
 
+-- what holds in any case
+pub held : {A : Type 0} {P : Type 0} (o : Option A) → P → Holds (λ _. P) o
+held none p = tt
+held (some a) p = p
+
+pub anyhow : {A : Type 0} {P : Type 0} (o : Outcome A) → P → Gives (λ _. P) o
+anyhow (refused n) p = tt
+anyhow (given a) p = p
+
+pub itself : {A : Type 0} (o : Option A) → Holds (λ a. o ≡ some a) o
+itself none = tt
+itself (some a) = refl
+
 -- of what is given, nothing need be known
 pub anything : {A : Type 0} (o : Outcome A) → Gives (λ _. Unit {0}) o
-anything (refused n) = tt
-anything (given a) = tt
+anything o = anyhow o tt
 
 module _ {A B : Type 0} (Q : B → Type 0) where
   pub gives-bind : (P : A → Type 0) (o : Outcome A) (f : A → Outcome B) → Gives P o → ((a : A) → P a → Gives Q (f a)) → Gives Q (o >>= f)
@@ -57,6 +70,31 @@ module _ {B : Type 0} (Q : B → Type 0) where
   pub gives-ask : (n : ℕ) (t : Bool) (o : Outcome B) → (t ≡ true → Gives Q o) → Gives Q (ask n t >>= λ _. o)
   gives-ask n true o k = k refl
   gives-ask n false o k = tt
+
+-- it is refused by such a number, or else it is so
+abbrev pub Ends : {A : Type 0} → (ℕ → Type 0) → Type 0 → Outcome A → Type 0
+Ends R P (refused n) = R n
+Ends R P (given a) = P
+
+module _ (R : ℕ → Type 0) (P : Type 0) {A B : Type 0} where
+  pub ends-bind : (Q : Type 0) (o : Outcome A) (f : A → Outcome B) → Ends R Q o → ((a : A) → Q → Ends R P (f a)) → Ends R P (o >>= f)
+  ends-bind Q (refused n) f h k = h
+  ends-bind Q (given a) f h k = k a h
+
+  pub ends-need :
+      (Q : A → Type 0) (n : ℕ) (o : Option A) (f : A → Outcome B) → R n → Holds Q o → ((a : A) → Q a → Ends R P (f a))
+      → Ends R P (need n o >>= f)
+  ends-need Q n none f r h k = r
+  ends-need Q n (some a) f r h k = k a h
+
+module _ (R : ℕ → Type 0) (P : Type 0) {B : Type 0} where
+  pub ends-ask : (n : ℕ) (t : Bool) (o : Outcome B) → R n → Ends R P o → Ends R P (ask n t >>= λ _. o)
+  ends-ask n true o r h = h
+  ends-ask n false o r h = r
+
+  pub ends-map : (Q : Type 0) → (Q → P) → (o : Outcome B) → Ends R Q o → Ends R P o
+  ends-map Q k (refused n) h = h
+  ends-map Q k (given b) h = k h
 
 -- What a walk keeps. The number counts the elements that are still to be passed over: what holds of the rest may speak of it.
 module _ {A B : Type 0} (one : List A → Outcome (B × ℕ)) (P : B → Type 0) (Rest : ℕ → List A → Type 0)

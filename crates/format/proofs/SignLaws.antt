@@ -26,7 +26,8 @@ use Rattle.format.specs.Calls.{readText, writeText}
 use Rattle.format.specs.Signs.{isUnsigned, columnCells, symbolCells, linkerCells, labelCells, lineCells, blockCells, debugCells}
 use Rattle.format.specs.Signs.{numberCells, textCells, NoSignRead, SignRefused, NoSignWritten, ZerosWelcome}
 use Rattle.format.proofs.ListLaws.{by-test, both, all-append, every-all}
-use Rattle.format.proofs.Outcomes.{by-if, Gives, Holds, gives, gives-map, gives-bind, gives-need, gives-ask, holds-then}
+use Rattle.format.proofs.Outcomes.{by-if, Gives, Holds, Ends, held, anyhow, itself, gives, gives-map, gives-bind, gives-need, gives-ask}
+use Rattle.format.proofs.Outcomes.{holds-then, ends-bind, ends-need, ends-ask, ends-map}
 use Rattle.format.proofs.WordsOnly.{bind-given, given-same}
 use Rattle.format.proofs.NumeralBack.{Numeric, plus-refused, hex-numeric, decimal-numeric, entry-numeric}
 use Rattle.format.proofs.TripLaws.{stands, text-back}
@@ -35,19 +36,6 @@ abbrev Unsigned : List ℕ → Type 0
 Unsigned c = isUnsigned c ≡ true
 
 -- NUMBERS
-
--- what holds whatever may be missing, and whatever is given
-held : {A : Type 0} {P : Type 0} (o : Option A) → P → Holds (λ _. P) o
-held none p = tt
-held (some a) p = p
-
-anyhow : {A : Type 0} {P : Type 0} (o : Outcome A) → P → Gives (λ _. P) o
-anyhow (refused n) p = tt
-anyhow (given a) p = p
-
-itself : {A : Type 0} (o : Option A) → Holds (λ a. o ≡ some a) o
-itself none = tt
-itself (some a) = refl
 
 unsigned-empty : Unsigned []
 unfolding beginsWith ascii
@@ -94,31 +82,6 @@ entries-unsigned (l ∷ ls) =
     holds-then (λ _. All Unsigned (l ∷ ls)) (λ _. All Unsigned ls) (allSome maybeHex2u16 ls) _ (entries-unsigned ls) λ ws q. (p, q)
 
 -- BY WHICH NUMBER
-
--- it is refused by such a number, or else it is so
-abbrev Ends : {A : Type 0} → (ℕ → Type 0) → Type 0 → Outcome A → Type 0
-Ends R P (refused n) = R n
-Ends R P (given a) = P
-
-module _ (R : ℕ → Type 0) (P : Type 0) {A B : Type 0} where
-  ends-bind : (Q : Type 0) (o : Outcome A) (f : A → Outcome B) → Ends R Q o → ((a : A) → Q → Ends R P (f a)) → Ends R P (o >>= f)
-  ends-bind Q (refused n) f h k = h
-  ends-bind Q (given a) f h k = k a h
-
-  ends-need :
-      (Q : A → Type 0) (n : ℕ) (o : Option A) (f : A → Outcome B) → R n → Holds Q o → ((a : A) → Q a → Ends R P (f a))
-      → Ends R P (need n o >>= f)
-  ends-need Q n none f r h k = r
-  ends-need Q n (some a) f r h k = k a h
-
-module _ (R : ℕ → Type 0) (P : Type 0) {B : Type 0} where
-  ends-ask : (n : ℕ) (t : Bool) (o : Outcome B) → R n → Ends R P o → Ends R P (ask n t >>= λ _. o)
-  ends-ask n true o r h = h
-  ends-ask n false o r h = r
-
-  ends-map : (Q : Type 0) → (Q → P) → (o : Outcome B) → Ends R Q o → Ends R P o
-  ends-map Q k (refused n) h = h
-  ends-map Q k (given b) h = k h
 
 never : (cells : List (List ℕ)) → All Unsigned cells → every isUnsigned cells ≡ false → ⊥
 never cells p f = let e = every-all isUnsigned cells p in let q : true ≡ false = sym e ∙ f in let z : _≡_ {A = ℕ} 0 1 = cc in omega arith
