@@ -23,7 +23,7 @@ returns-2 : tie.Need-returns-2 Inv-loop μ-loop
 returns-2 c =
     let k = c .before .before in
     let l = k .before in
-    decimal-low _ (l .loop .v) (l .loop .i) (k .loop-test .taken) (start l .args .max) (l .loop .inv .1) (c .if2 .taken)
+    decimal-low _ (l .loop .v) (l .loop .i) (k .loop-test .taken) (start l .args .max) (l .loop .inv .1) (omega (arith, c .if2 .taken))
 
 returns-3 : tie.Need-returns-3 Inv-loop μ-loop
 returns-3 c =

@@ -66,7 +66,7 @@ returns-2 c =
     let l = k .loop in
     let s = now (k .before .before .before .args .s) in
     let e : l .i ≡ 4 = omega (arith, l .inv .0, c .before .loop-test .left) in
-    let p = rw e at (l .inv .3 (c .if2 .taken)) in
+    let p = rw e at (l .inv .3 (omega (arith, c .if2 .taken))) in
     hex-four s (l .v) (k .before .if1 .left) (p .0) (p .1)
 
 returns-3 : tie.Need-returns-3 Inv-loop μ-loop
