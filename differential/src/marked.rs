@@ -1,4 +1,4 @@
-//! Document 01's example and the cases that it marks M, each through the crate and through the numbers.
+//! Document 01's example and the cases that it marks M, and request P8's, each through the crate and through the numbers.
 use crate::hex;
 use crate::reference::{read_binary, read_text, Answer, Object};
 
@@ -48,7 +48,19 @@ fn outcome<T>(a: Answer<Vec<T>>, show: fn(&[T]) -> String) -> Outcome {
     (a.number, a.crate_did, a.value.map(|v| show(&v)))
 }
 
-/// Each case with its name and what document 01 says of it.
+/// Request P8: the case of document 01 that becomes a no, and in which order a `+` is asked for. The crate goes by document 01 alone.
+fn plus_signs() -> [(&'static str, Input, Outcome); 4] {
+    let text = |s: &str| ReadText(format!("LC-3 OBJ FILE\n{s}").into_bytes());
+    let table = |line: &str| format!(".DEBUG\n=\nLINE | ADDR | SOURCE\n{line} | ???? | \n=\n");
+    [
+        ("+0FF", text(".TEXT\n+0FF\n1\n+0FF\n"), (24, "gave", None)),
+        ("+ in the count of a block that stands already: not 25", text(".TEXT\n3000\n0\n3000\n+0\n"), (24, "refused", None)),
+        ("+ in a debug label row, no bars: not 26", text(".DEBUG\nLABEL | INDEX\nA | +5\n"), (27, "refused", None)),
+        ("+ as LINE in a second table with rows: not 29", text(&(table("0") + &table("+0"))), (28, "gave", None)),
+    ]
+}
+
+/// Each case with its name and what document 01, or request P8, says of it.
 pub fn cases() -> Vec<(&'static str, Input, Outcome)> {
     let words = |s: &str| hex::parse_words(s).unwrap();
     let gives = |s: &str| (0, "gave", Some(s.split_whitespace().collect::<String>()));
@@ -61,7 +73,7 @@ pub fn cases() -> Vec<(&'static str, Input, Outcome)> {
     let two_blocks = "60000000 C0000001 C0000000 C0000000 20013000 20013001 60000000 C0000003 C0000000 C0000000 20013002 80000000";
     let equal_rows = debug("0 | 3000 | \\n\n1 | 3000 | \\n\n2 | ???? | \n");
     let equal_words = "60000000 C0000000 C0000000 C0000000 20013000 20013000 80000000 E2000A0A";
-    vec![
+    let mut out = vec![
         ("18 words write 77 bytes", WriteBinary(words(WORDS)), gives(BINARY)),
         ("77 bytes read, the relocation swapped", ReadBinary(hex::parse_bytes(BINARY).unwrap()), gives(&read_back)),
         ("the text of what the 77 bytes read as", WriteText(words(&read_back)), gives(&hex::bytes(PRINTED.as_bytes()))),
@@ -73,14 +85,15 @@ pub fn cases() -> Vec<(&'static str, Input, Outcome)> {
         ("a block twice, binary: last wins", binary("00 0030 0100 FF1111  00 0030 0100 FF2222"), gives("00003000 20012222")),
         ("a block twice, text", text("LC-3 OBJ FILE\n.TEXT\n3000\n1\n1111\n3000\n1\n2222\n"), refused(25)),
         ("flag 01 means uninitialised", binary("00 0030 0100 013412"), gives("00003000 20000000")),
-        ("+0FF reads as x00FF", text("LC-3 OBJ FILE\n.TEXT\n+0FF\n1\n+0FF\n"), gives("000000FF 200100FF")),
         ("one = line", text("LC-3 OBJ FILE\n.DEBUG\n=\n"), (27, "panicked", None)),
         ("first line 1 count 2 before first line 3", binary(&(line_1.clone() + &line_3)), gives(two_blocks)),
         ("first line 1 count 2 before first line 2", binary(&(line_1 + &line_2)), refused(15)),
-    ]
+    ];
+    out.extend(plus_signs());
+    out
 }
 
-/// Prints each case and whether all came as document 01 says.
+/// Prints each case and whether all came as the documents say.
 pub fn print() -> bool {
     let mut all = true;
     for (name, input, said) in cases() {
@@ -93,7 +106,7 @@ pub fn print() -> bool {
         all &= came == said;
         println!("{} {name}: {came:?}", if came == said { "as said" } else { "DIFFERS" });
         if came != said {
-            println!("        document 01: {said:?}");
+            println!("        the documents: {said:?}");
         }
     }
     all

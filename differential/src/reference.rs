@@ -1,4 +1,4 @@
-//! What a call must answer. Two sides are asked, the crate and document 01's numbers, and held against each other: in the runs
+//! What a call must answer. Two sides are asked, the crate and the numbers, and held against each other: in the runs
 //! they must say the same, and outside them the crate must do what document 01 says that it does.
 use crate::asm::{access, ObjectFile};
 use crate::numbers::query::{ask, equal_neighbours, get_pos_pair, Query, Values};
@@ -13,9 +13,9 @@ use crate::rust::{self, Did};
 /// An answer that a call under test is held against.
 #[derive(Debug, Clone, PartialEq, Eq)]
 pub struct Answer<T> {
-    /// Document 01's.
+    /// Document 01's, or a request's.
     pub number: u8,
-    /// The crate's in the runs, document 01's outside them; None for a refusal.
+    /// The crate's in the runs, the numbers' outside them; None for a refusal.
     pub value: Option<T>,
     /// Why the case isn't in the runs.
     pub excluded: Option<Excluded>,
@@ -59,8 +59,23 @@ pub fn read_binary(file: &[u8]) -> Answer<Vec<u32>> {
     read(binary::read(file), rust::read_binary(file))
 }
 
+/// A text read, by request P8. Where a `+` decides, the crate is held against document 01's own rule, as strictly as any text in the runs.
 pub fn read_text(file: &[u8]) -> Answer<Vec<u32>> {
-    read(text::read(file), rust::read_text(file))
+    let (paper, did) = (text::read(file), rust::read_text(file));
+    if paper.excluded() != Some(Excluded::PlusSign) {
+        return read(paper, did);
+    }
+    let document = read(text::read_with_signs(file), did);
+    Answer { number: paper.number(), value: None, excluded: paper.excluded(), ..document }
+}
+
+/// A text read whose answer is known without the numbers, and whether a `+` decides it. Both sides must say the same.
+pub fn known_text(file: &[u8], known: &Result<Vec<u32>, u8>, decides: bool) -> Answer<Vec<u32>> {
+    let Answer { number, value, excluded, crate_did, difference } = read_text(file);
+    let read = (value.ok_or(number), excluded);
+    let known = (known.clone(), decides.then_some(Excluded::PlusSign));
+    let difference = difference.or((read != known).then(|| format!("known: {known:?} | numbers: {read:?}")));
+    Answer { number: known.0.as_ref().err().copied().unwrap_or(0), value: known.0.ok(), excluded, crate_did, difference }
 }
 
 /// `get_pos_pair` on source bytes, which never refuses. The crate's sources are UTF-8.

@@ -1,6 +1,7 @@
 //! What a run saw: calls by number, excluded cases by reason, what the objects had, and the differences.
 use std::collections::BTreeMap;
 
+use crate::gen::plus::Cell;
 use crate::numbers::query::Query;
 use crate::numbers::Excluded;
 use crate::object::{fair, line_end, swapped};
@@ -24,6 +25,8 @@ pub enum Call {
     BinaryWrite,
     TextLength,
     TextRead,
+    /// Text reads and both lengths, of texts with a `+` whose answer is known: request P8.
+    PlusSign,
     TextWrite,
     IsWhiteSpace,
     /// Request P14.
@@ -58,6 +61,7 @@ impl Call {
             Call::BinaryWrite => &[0, 1, 2, 3],
             Call::TextLength | Call::HostText => &[0, 20, 21, 22, 23, 24, 25, 26, 27, 28, 29, 30, 31],
             Call::TextRead => &[0, 3, 20, 21, 22, 23, 24, 25, 26, 27, 28, 29, 30, 31],
+            Call::PlusSign => &[0, 24, 26, 28],
             Call::TextWrite => &[0, 1, 3],
             Call::LendingFee => &[0, 1, 38],
             Call::IsWhiteSpace | Call::HostPosition => &[0],
@@ -110,6 +114,8 @@ pub struct Table {
     /// Of even length, and of odd.
     rooms: [Rooms; 2],
     fees: Fees,
+    /// Texts in which a `+` decides, by the kind of its cell.
+    plus: BTreeMap<Cell, u64>,
     pub differences: u64,
     told: Vec<String>,
 }
@@ -178,6 +184,11 @@ impl Table {
         self.fees.halves
     }
 
+    /// Counts a text in which a `+` decides, by its cell.
+    pub fn plus(&mut self, cell: Cell) {
+        *self.plus.entry(cell).or_default() += 1;
+    }
+
     /// Counts what an object has that a run should meet.
     pub fn object(&mut self, p: &Parts) {
         let lines = p.source.as_ref().map_or(0, |s| s.iter().filter(|b| **b == b'\n').count() as u128 + 1);
@@ -206,7 +217,8 @@ impl Table {
     }
 
     /// What keeps this run from showing much: a number not reached, under a quarter of a call's random cases accepted, request P13's
-    /// bound not met, or no half a cent of request P14 asked. At odd lengths only the header alone meets the bound.
+    /// bound not met, no half a cent of request P14 asked, or a kind of number cell in which no `+` decides. At odd lengths only the header
+    /// alone meets the bound.
     pub fn gaps(&self) -> Vec<String> {
         let mut out = vec![];
         for (call, row) in self.random.iter().filter(|(_, row)| !row.numbers.is_empty()) {
@@ -226,6 +238,9 @@ impl Table {
         if asked && self.fees.halves == 0 {
             out.push("LendingFee: no member's 70 percent ends on half a cent".into());
         }
+        for cell in Cell::ALL.iter().filter(|cell| !self.plus.contains_key(cell)) {
+            out.push(format!("PlusSign: no text in which a `+` decides in {cell:?}"));
+        }
         out
     }
 
@@ -244,16 +259,7 @@ impl Table {
             }
             println!();
         }
-        println!("cases that document 01 keeps out of the runs, compared with its numbers alone");
-        let mut excluded: BTreeMap<(Call, Excluded, &str), u64> = BTreeMap::new();
-        for (call, row) in self.fixed.iter().chain(&self.random) {
-            for ((why, did), k) in &row.excluded {
-                *excluded.entry((*call, *why, did)).or_default() += k;
-            }
-        }
-        for ((call, why, did), k) in excluded {
-            println!("  {call:?}, {why:?}, the crate {did}: {k}");
-        }
+        self.print_excluded();
         println!("\nobjects by what they have");
         for (name, k) in &self.objects {
             println!("  {name}: {k}");
@@ -263,9 +269,23 @@ impl Table {
         }
         self.print_rooms();
         self.print_fees();
+        self.print_plus();
         println!("\ndifferences: {}", self.differences);
         for line in &self.told {
             println!("  {line}");
+        }
+    }
+
+    fn print_excluded(&self) {
+        println!("cases that document 01 or request P8 keeps out of the runs, compared with the numbers alone");
+        let mut excluded: BTreeMap<(Call, Excluded, &str), u64> = BTreeMap::new();
+        for (call, row) in self.fixed.iter().chain(&self.random) {
+            for ((why, did), k) in &row.excluded {
+                *excluded.entry((*call, *why, did)).or_default() += k;
+            }
+        }
+        for ((call, why, did), k) in excluded {
+            println!("  {call:?}, {why:?}, the crate {did}: {k}");
         }
     }
 
@@ -275,6 +295,11 @@ impl Table {
         if members > 0 {
             println!("\nlending fees of members, and those whose 70 percent ends on half a cent: {members}, {halves}");
         }
+    }
+
+    fn print_plus(&self) {
+        let kinds: Vec<String> = Cell::ALL.iter().map(|cell| format!("{cell:?}: {}", self.plus.get(cell).unwrap_or(&0))).collect();
+        println!("\ntexts in which a `+` decides, by its cell: {}", kinds.join(", "));
     }
 
     fn print_rooms(&self) {

@@ -1,5 +1,6 @@
 //! The calls under test, held against the reference: numbers, values, lengths, what is filled and what is left alone.
 use crate::gen;
+use crate::gen::plus;
 use crate::gen::tariff::Known;
 use crate::gen::Depth;
 use crate::hex;
@@ -7,6 +8,7 @@ use crate::marked::{self, Input};
 use crate::numbers::query::{Query, Values};
 use crate::numbers::room;
 use crate::numbers::tariff::{self, Fee};
+use crate::numbers::Excluded;
 use crate::object::encode;
 use crate::prng::Prng;
 use crate::records;
@@ -99,6 +101,16 @@ fn before<T: Element>(room: usize, salt: u64) -> Vec<T> {
     (0..room + 2 * AROUND).map(|i| T::of(odd.wrapping_mul(2 * i as u64 + 1) >> 40)).collect()
 }
 
+/// How much room a filling call is given: none, one too little, just enough and more; where it is refused, none and some.
+fn rooms<T>(value: &Option<Vec<T>>, some: usize) -> Vec<usize> {
+    match value {
+        None => vec![0, some],
+        Some(v) if v.is_empty() => vec![0, some],
+        Some(v) if v.len() == 1 => vec![0, 1, 1 + some],
+        Some(v) => vec![0, v.len() - 1, v.len(), v.len() + some],
+    }
+}
+
 struct Run<'a> {
     calls: &'a Calls,
     table: Table,
@@ -111,6 +123,8 @@ struct Run<'a> {
     room: Prng,
     /// For request P14 alone, likewise.
     tariff: Prng,
+    /// For request P8 alone, texts and buffers, likewise.
+    plus: Prng,
 }
 
 impl Run<'_> {
@@ -140,7 +154,7 @@ impl Run<'_> {
         }
     }
 
-    /// A filling call, with no room, one too little, just enough and more; a refusal, with no room and some.
+    /// A filling call, with several buffers.
     fn fills<T: Element>(
         &mut self,
         call: Call,
@@ -150,13 +164,7 @@ impl Run<'_> {
         order: &dyn Fn(&[T]) -> Vec<T>,
     ) {
         let some = 1 + self.buffers.below(40);
-        let rooms = match &want.value {
-            None => vec![0, some],
-            Some(v) if v.is_empty() => vec![0, some],
-            Some(v) if v.len() == 1 => vec![0, 1, 1 + some],
-            Some(v) => vec![0, v.len() - 1, v.len(), v.len() + some],
-        };
-        for room in rooms {
+        for room in rooms(&want.value, some) {
             let before = before(room, self.buffers.next());
             self.fills_one(call, input, want, ask, order, before);
         }
@@ -263,6 +271,28 @@ impl Run<'_> {
         }
         if let Some(host) = self.calls.host {
             self.length(Call::HostText, file, &want, host.text_length);
+        }
+    }
+
+    /// A text with a `+`, whose answer is known (request P8): both of the reference's sides and all three calls are held against it. It is
+    /// counted by itself, so that the other calls' cases are what they are without it.
+    fn plus_sign(&mut self, known: &plus::Known) {
+        let (call, file) = (Call::PlusSign, &known.file[..]);
+        let (some, salt) = (1 + self.plus.below(40), self.plus.next()); // drawn also where nothing is linked: the cases stay the same
+        let want = reference::known_text(file, &known.answer, known.decides.is_some());
+        let input = |asked: &str| format!("{asked} of {} ({:?})", hex::bytes(file), known.place);
+        self.case(call, &|| input("the answer"), &want);
+        if let Some(cell) = known.decides.filter(|_| want.excluded == Some(Excluded::PlusSign)) {
+            self.table.plus(cell);
+        }
+        let told = (want.number, want.value.as_ref().map_or(0, Vec::len));
+        if let Some(host) = self.calls.host {
+            self.call(call, &|| input("the host's length"), told.0, told, (host.text_length)(file));
+        }
+        let Some(form) = self.calls.text else { return };
+        self.call(call, &|| input("the length"), told.0, told, (form.length)(file));
+        for room in rooms(&want.value, some) {
+            self.fills_one(call, &|| input("a read"), &want, &|out| (form.read)(file, out), &|w| w.to_vec(), before(room, salt));
         }
     }
 
@@ -418,8 +448,8 @@ impl Run<'_> {
         };
     }
 
-    /// Objects too long for a binary file, inputs with many records, known fees; the cases marked M, short inputs in full, the large cases,
-    /// numbers.
+    /// Objects too long for a binary file, inputs with many records, known fees, known texts with a `+`; the cases marked M, short inputs
+    /// in full, the large cases, numbers.
     fn fixed(&mut self, plan: &Plan) {
         for _ in 0..plan.long {
             let p = gen::edges::long_line_block(&mut self.rng);
@@ -434,6 +464,7 @@ impl Run<'_> {
             self.object(words);
         }
         gen::tariff::known().iter().for_each(|known| self.known_fees(known, Some(tariff::ask)));
+        plus::known().iter().for_each(|known| self.plus_sign(known));
         if plan.depth == Depth::None {
             return;
         }
@@ -471,14 +502,16 @@ impl Run<'_> {
         self.room_file(&file);
         let words = gen::tariff::case(&mut self.tariff);
         self.lending_fees(&Object::new(words));
+        let known = plus::case(&mut self.plus);
+        self.plus_sign(&known);
     }
 }
 
 pub fn run(calls: &Calls, plan: &Plan) -> Table {
     let (rng, buffers) = (Prng::new(plan.seed), Prng::new(!plan.seed));
     let (white, room) = (Prng::new(plan.seed.reverse_bits()), Prng::new(!plan.seed.reverse_bits()));
-    let tariff = Prng::new(plan.seed.rotate_left(32));
-    let mut run = Run { calls, table: Table::default(), rng, buffers, white, room, tariff };
+    let (tariff, plus) = (Prng::new(plan.seed.rotate_left(32)), Prng::new(!plan.seed.rotate_left(32)));
+    let mut run = Run { calls, table: Table::default(), rng, buffers, white, room, tariff, plus };
     run.fixed(plan);
     run.table.at_random = true;
     for _ in 0..plan.cases {

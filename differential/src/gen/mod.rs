@@ -1,9 +1,10 @@
-//! Cases: random well formed objects, the files of such, damaged copies, short inputs in full, and numbers.
+//! Cases: random well formed objects, the files of such, damaged copies, texts with a `+`, short inputs in full, and numbers.
 
 pub mod binary;
 pub mod edges;
 pub mod many;
 pub mod object;
+pub mod plus;
 pub mod query;
 pub mod room;
 pub mod short;

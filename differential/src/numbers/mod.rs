@@ -1,4 +1,4 @@
-//! Document 01's calls, written from the document and not from the Rust: over bytes, without the
+//! Document 01's calls, as the requests change them, written from the documents and not from the Rust: over bytes, without the
 //! crate's helpers or the standard library's text functions. Each gives its number, or its answer.
 
 pub mod binary;
@@ -9,7 +9,7 @@ pub mod text;
 pub mod text_write;
 pub mod utf8;
 
-/// What a call gives by document 01.
+/// What a call gives by document 01 and the requests.
 #[derive(Debug, Clone, PartialEq, Eq)]
 pub enum Outcome<T> {
     Given(T),
@@ -17,7 +17,7 @@ pub enum Outcome<T> {
     Refused(u8, Option<Excluded>),
 }
 
-/// Why document 01 keeps a case out of the runs.
+/// Why document 01, or a request, keeps a case out of the runs.
 #[derive(Debug, Clone, Copy, PartialEq, Eq, PartialOrd, Ord)]
 pub enum Excluded {
     /// 27 for a single `=` line: the crate panics.
@@ -38,6 +38,8 @@ pub enum Excluded {
     NotScalar,
     /// `find` of an address that a block has more than once: the crate may name another of them.
     EqualNeighbours,
+    /// Request P8, where a `+` in a number decides: the crate still goes by document 01's own rule, which says otherwise.
+    PlusSign,
 }
 
 impl<T> Outcome<T> {

@@ -1,4 +1,4 @@
-//! Document 01, "Text form", reading: 20 to 31.
+//! Document 01, "Text form", reading: 20 to 31; and request P8, which takes the `+` out of numbers.
 use super::utf8::{is_utf8, trim};
 use super::{Excluded, Outcome};
 use crate::parts::Parts;
@@ -25,9 +25,21 @@ fn split_lines(s: &[u8]) -> Vec<Line<'_>> {
     out
 }
 
-/// A run of digits, with a `+` before it or not, at most `max`.
-fn digits(s: Line, radix: u128, max: u128) -> Option<u64> {
-    let s = s.strip_prefix(b"+").unwrap_or(s);
+/// Whether one `+` may come first in a number.
+#[derive(Clone, Copy)]
+enum Signs {
+    /// Document 01, and so the crate.
+    Taken,
+    /// Request P8.
+    Refused,
+}
+
+/// A run of digits, at most `max`, with any zeros before it.
+fn digits(s: Line, radix: u128, max: u128, signs: Signs) -> Option<u64> {
+    let s = match signs {
+        Signs::Taken => s.strip_prefix(b"+").unwrap_or(s),
+        Signs::Refused => s, // a `+` is no digit
+    };
     if s.is_empty() {
         return None;
     }
@@ -51,19 +63,19 @@ fn digits(s: Line, radix: u128, max: u128) -> Option<u64> {
 }
 
 /// Four bytes of hex.
-fn hex(s: Line) -> Option<u16> {
+fn hex(s: Line, signs: Signs) -> Option<u16> {
     if s.len() != 4 {
         return None;
     }
-    digits(s, 16, 0xFFFF).map(|v| v as u16)
+    digits(s, 16, 0xFFFF, signs).map(|v| v as u16)
 }
 
 /// Four bytes of hex, or `????`.
-fn maybe_hex(s: Line) -> Option<Option<u16>> {
+fn maybe_hex(s: Line, signs: Signs) -> Option<Option<u16>> {
     if s == b"????" {
         return Some(None);
     }
-    hex(s).map(Some)
+    hex(s, signs).map(Some)
 }
 
 /// At most `n` cells: the first ` | ` from the left ends a cell, the last cell has the rest.
@@ -97,14 +109,14 @@ fn rows<'a>(lines: &[Line<'a>], columns: &[&str]) -> Option<Vec<Vec<Line<'a>>>> 
     )
 }
 
-fn text_group(lines: &[Line], p: &mut Parts) -> Result<(), u8> {
+fn text_group(lines: &[Line], p: &mut Parts, signs: Signs) -> Result<(), u8> {
     let mut at = 0;
     while at < lines.len() {
-        let addr = hex(lines[at]).ok_or(24)?;
-        let count = lines.get(at + 1).and_then(|l| digits(l, 10, 0xFFFF)).ok_or(24)? as usize;
+        let addr = hex(lines[at], signs).ok_or(24)?;
+        let count = lines.get(at + 1).and_then(|l| digits(l, 10, 0xFFFF, signs)).ok_or(24)? as usize;
         at += 2;
         let entries = lines.get(at..at + count).ok_or(24)?;
-        let data = entries.iter().map(|l| maybe_hex(l)).collect::<Option<Vec<_>>>().ok_or(24)?;
+        let data = entries.iter().map(|l| maybe_hex(l, signs)).collect::<Option<Vec<_>>>().ok_or(24)?;
         at += count;
         if p.blocks.iter().any(|(a, _)| *a == addr) {
             return Err(25);
@@ -114,11 +126,11 @@ fn text_group(lines: &[Line], p: &mut Parts) -> Result<(), u8> {
     Ok(())
 }
 
-fn symbol_group(lines: &[Line], p: &mut Parts) -> Option<()> {
+fn symbol_group(lines: &[Line], p: &mut Parts, signs: Signs) -> Option<()> {
     let mut read = vec![];
     for cells in rows(lines, &["ADDR", "EXT", "LABEL"])? {
-        let addr = hex(trim(cells[0]))?;
-        let external = digits(trim(cells[1]), 10, 0xFF)? != 0;
+        let addr = hex(trim(cells[0]), signs)?;
+        let external = digits(trim(cells[1]), 10, 0xFF, signs)? != 0;
         read.push((addr, external, trim(cells[2])));
     }
     for (addr, external, name) in read {
@@ -129,35 +141,35 @@ fn symbol_group(lines: &[Line], p: &mut Parts) -> Option<()> {
     Some(())
 }
 
-fn linker_group(lines: &[Line], p: &mut Parts) -> Option<()> {
+fn linker_group(lines: &[Line], p: &mut Parts, signs: Signs) -> Option<()> {
     for cells in rows(lines, &["ADDR", "LABEL"])? {
-        Parts::put(&mut p.relocs, hex(trim(cells[0]))?, trim(cells[1]).to_vec());
+        Parts::put(&mut p.relocs, hex(trim(cells[0]), signs)?, trim(cells[1]).to_vec());
     }
     Some(())
 }
 
-fn debug_labels(lines: &[Line], p: &mut Parts) -> Option<()> {
+fn debug_labels(lines: &[Line], p: &mut Parts, signs: Signs) -> Option<()> {
     for cells in rows(lines, &["LABEL", "INDEX"])? {
-        let index = digits(trim(cells[1]), 10, u128::from(u64::MAX))?;
+        let index = digits(trim(cells[1]), 10, u128::from(u64::MAX), signs)?;
         p.label_mut(trim(cells[0])).start = index;
     }
     Some(())
 }
 
 /// A line table's addresses and its joined SOURCE cells.
-fn line_table(lines: &[Line]) -> Option<(Vec<Option<u16>>, Vec<u8>)> {
+fn line_table(lines: &[Line], signs: Signs) -> Option<(Vec<Option<u16>>, Vec<u8>)> {
     let (mut addrs, mut source) = (vec![], vec![]);
     for (i, cells) in rows(lines, &["LINE", "ADDR", "SOURCE"])?.into_iter().enumerate() {
-        if digits(trim(cells[0]), 10, u128::from(u64::MAX))? != i as u64 {
+        if digits(trim(cells[0]), 10, u128::from(u64::MAX), signs)? != i as u64 {
             return None;
         }
-        addrs.push(maybe_hex(trim(cells[1]))?);
+        addrs.push(maybe_hex(trim(cells[1]), signs)?);
         source.extend(cells[2]);
     }
     Some((addrs, source))
 }
 
-/// The six escapes, and `\u{1 to 6 hex digits}` of a scalar value.
+/// The six escapes, and `\u{1 to 6 hex digits}` of a scalar value, which never took a `+`.
 fn unescape(s: &[u8]) -> Option<Vec<u8>> {
     let mut out = vec![];
     let mut at = 0;
@@ -180,10 +192,10 @@ fn unescape(s: &[u8]) -> Option<Vec<u8>> {
                 }
                 let len = s[at + 3..].iter().position(|b| *b == b'}')?;
                 let inner = &s[at + 3..at + 3 + len];
-                if !(1..=6).contains(&len) || inner[0] == b'+' {
+                if !(1..=6).contains(&len) {
                     return None;
                 }
-                let v = digits(inner, 16, 0x10FFFF)? as u32;
+                let v = digits(inner, 16, 0x10FFFF, Signs::Refused)? as u32;
                 let c = char::from_u32(v)?;
                 out.extend(c.to_string().as_bytes());
                 at += len + 4;
@@ -205,7 +217,7 @@ struct State {
 }
 
 /// 27, 26, 28, 29, 30.
-fn debug_group(lines: &[Line], st: &mut State) -> Result<(), (u8, Option<Excluded>)> {
+fn debug_group(lines: &[Line], st: &mut State, signs: Signs) -> Result<(), (u8, Option<Excluded>)> {
     let Some(last) = lines.last() else { return Ok(()) };
     let Some(divider) = lines.iter().position(|l| l.starts_with(b"=")) else { return Err((27, None)) };
     if !last.starts_with(b"=") {
@@ -214,8 +226,8 @@ fn debug_group(lines: &[Line], st: &mut State) -> Result<(), (u8, Option<Exclude
     if divider + 1 == lines.len() {
         return Err((27, Some(Excluded::OneDivider)));
     }
-    debug_labels(&lines[..divider], &mut st.parts).ok_or((26, None))?;
-    let (addrs, source) = line_table(&lines[divider + 1..lines.len() - 1]).ok_or((28, None))?;
+    debug_labels(&lines[..divider], &mut st.parts, signs).ok_or((26, None))?;
+    let (addrs, source) = line_table(&lines[divider + 1..lines.len() - 1], signs).ok_or((28, None))?;
     if addrs.is_empty() {
         return Ok(());
     }
@@ -241,7 +253,7 @@ fn runs(addrs: &[Option<u16>]) -> Vec<(u64, Vec<u16>)> {
     out
 }
 
-fn read_groups(file: &[u8]) -> Result<Parts, (u8, Option<Excluded>)> {
+fn read_groups(file: &[u8], signs: Signs) -> Result<Parts, (u8, Option<Excluded>)> {
     if !is_utf8(file) {
         return Err((20, Some(Excluded::NotUtf8)));
     }
@@ -262,10 +274,10 @@ fn read_groups(file: &[u8]) -> Result<Parts, (u8, Option<Excluded>)> {
     for group in groups {
         let body = &group[1..];
         match group[0] {
-            b".TEXT" => text_group(body, &mut st.parts).map_err(|n| (n, None))?,
-            b".SYMBOL" => symbol_group(body, &mut st.parts).ok_or((26, None))?,
-            b".LINKER_INFO" => linker_group(body, &mut st.parts).ok_or((26, None))?,
-            b".DEBUG" => debug_group(body, &mut st)?,
+            b".TEXT" => text_group(body, &mut st.parts, signs).map_err(|n| (n, None))?,
+            b".SYMBOL" => symbol_group(body, &mut st.parts, signs).ok_or((26, None))?,
+            b".LINKER_INFO" => linker_group(body, &mut st.parts, signs).ok_or((26, None))?,
+            b".DEBUG" => debug_group(body, &mut st, signs)?,
             _ => return Err((23, None)),
         }
     }
@@ -280,10 +292,25 @@ fn read_groups(file: &[u8]) -> Result<Parts, (u8, Option<Excluded>)> {
     Ok(p)
 }
 
-/// Text read.
-pub fn read(file: &[u8]) -> Outcome<Parts> {
-    match read_groups(file) {
+fn read_by(file: &[u8], signs: Signs) -> Outcome<Parts> {
+    match read_groups(file, signs) {
         Ok(p) => Outcome::Given(p),
         Err((n, excluded)) => Outcome::Refused(n, excluded),
+    }
+}
+
+/// Text read by document 01's own rule, which the crate still has: one `+` may come first in a number.
+pub fn read_with_signs(file: &[u8]) -> Outcome<Parts> {
+    read_by(file, Signs::Taken)
+}
+
+/// Text read, by request P8: no `+` in a number. Where that decides, so that document 01's own rule says otherwise, the text isn't in the
+/// runs.
+pub fn read(file: &[u8]) -> Outcome<Parts> {
+    let read = read_by(file, Signs::Refused);
+    let decides = read.number() != 0 && file.contains(&b'+') && read_with_signs(file) != read;
+    match decides {
+        true => Outcome::Refused(read.number(), Some(Excluded::PlusSign)),
+        false => read,
     }
 }
