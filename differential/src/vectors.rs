@@ -72,8 +72,16 @@ impl Kept {
         }
     }
 
-    /// A call that fills a buffer, where it is in the runs, or refused: a number is document 01's, also where the crate isn't asked.
-    fn fills<T, U>(&mut self, r: &mut Prng, call: char, (input, show): (&[T], fn(&[T]) -> String), a: &Answer<Vec<U>>, out: fn(&[U]) -> String) {
+    /// A call that fills a buffer, where it is in the runs, or refused: a number is the documents', also where the crate isn't asked or
+    /// goes by another rule.
+    fn fills<T, U>(
+        &mut self,
+        r: &mut Prng,
+        call: char,
+        (input, show): (&[T], fn(&[T]) -> String),
+        a: &Answer<Vec<U>>,
+        out: fn(&[U]) -> String,
+    ) {
         held(a);
         if a.excluded.is_none() || a.number != 0 {
             let filled = a.value.as_deref().map(out).unwrap_or_default();
@@ -174,6 +182,48 @@ const SENTENCES: [&str; 18] = [
     ".LINKER_INFO\nADDR | LABEL\n3000 | A\n.DEBUG\n=\nLINE | ADDR | SOURCE\n0 | ????\n=\n",
 ];
 
+/// Groups of texts about request P8: a `+` in each kind of number cell; in which order it is asked for; where it does nothing, in a name or
+/// in a SOURCE cell; where document 01's own rule refuses too; blanks around it, which `.TEXT` lines keep; and zeros before a number.
+const PLUS_SIGNS: [&str; 37] = [
+    ".TEXT\n+0FF\n0\n",
+    ".TEXT\n3000\n+0\n",
+    ".TEXT\n3000\n+1\n1234\n",
+    ".TEXT\n3000\n1\n+0FF\n",
+    ".SYMBOL\nADDR | EXT | LABEL\n+0FF | 0 | A\n",
+    ".SYMBOL\nADDR | EXT | LABEL\n3000 | +0 | A\n",
+    ".LINKER_INFO\nADDR | LABEL\n+0FF | A\n",
+    ".DEBUG\nLABEL | INDEX\nA | +5\n=\n=\n",
+    ".DEBUG\n=\nLINE | ADDR | SOURCE\n+0 | ????\n=\n",
+    ".DEBUG\n=\nLINE | ADDR | SOURCE\n0 | +0FF\n1 | ????\n=\n",
+    ".TEXT\n3000\n0\n3000\n+0\n",
+    ".DEBUG\nLABEL | INDEX\nA | +5\n",
+    ".DEBUG\n=\nLINE | ADDR | SOURCE\n0 | ????\n=\n.DEBUG\n=\nLINE | ADDR | SOURCE\n+0 | ????\n=\n",
+    ".SYMBOL\nADDR | EXT | LABEL\n3000 | 1 | +A\n",
+    ".DEBUG\nLABEL | INDEX\n+A | 5\n=\n=\n",
+    ".SYMBOL\nADDR | EXT | LABEL\n3000 | 0 | A\n.LINKER_INFO\nADDR | LABEL\n3001 | +A\n",
+    ".DEBUG\n=\nLINE | ADDR | SOURCE\n0 | ???? | +1\n=\n",
+    "#+0FF\n.TEXT\n3000\n1\n# +1\n00FF\n",
+    ".DEBUG\n=\nLINE | ADDR | SOURCE\n0 | ???? | \\u{+41}\n=\n",
+    ".TEXT\n+\n0\n",
+    ".TEXT\n3000\n+\n",
+    ".TEXT\n+3000\n0\n",
+    ".TEXT\n0+FF\n0\n",
+    ".TEXT\n++FF\n0\n",
+    ".DEBUG\nLABEL | INDEX\nA | +\n=\n=\n",
+    ".DEBUG\nLABEL | INDEX\nA | ++5\n=\n=\n",
+    ".DEBUG\nLABEL | INDEX\nA | 5+\n=\n=\n",
+    ".DEBUG\nLABEL | INDEX\nA |  +5 \n=\n=\n",
+    ".DEBUG\n=\nLINE | ADDR | SOURCE\n +0  |  ???? \n=\n",
+    ".SYMBOL\nADDR | EXT | LABEL\n +0FF | 0 | A\n",
+    ".TEXT\n +0FF\n0\n",
+    ".TEXT\n+0FF \n0\n",
+    ".TEXT\n3000\n +1\n1234\n",
+    ".TEXT\n3000\n000000000000000000000000000001\n00FF\n",
+    ".DEBUG\nLABEL | INDEX\nA | 000000000000000000000000000005\n=\n=\n",
+    ".DEBUG\nLABEL | INDEX\nA | 000018446744073709551615\n=\n=\n",
+    ".DEBUG\nLABEL | INDEX\nA | 000018446744073709551616\n=\n=\n",
+];
+
 /// Unicode's 25 White_Space characters (P6) and what stands beside each, with x180E, x200B and xFEFF.
 const BESIDE_WHITE_SPACE: [RangeInclusive<u32>; 12] = [
     0x8..=0xE,
@@ -243,7 +293,8 @@ pub fn text() {
         sentences.fills(&mut r, 'T', (&file, bytes), &reference::read_text(&file), words);
     }
     sentences.print();
-    for text in white_space_texts() {
+    let plus_signs = PLUS_SIGNS.iter().map(|groups| format!("LC-3 OBJ FILE\n{groups}"));
+    for text in white_space_texts().chain(plus_signs) {
         let mut one = Kept::default();
         one.fills(&mut r, 'T', (text.as_bytes(), bytes), &reference::read_text(text.as_bytes()), words);
         one.print();
