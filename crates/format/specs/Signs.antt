@@ -5,7 +5,7 @@ use mathlib.Core.Bool.{Bool, true, false, not}
 use mathlib.Core.List.{List, [], _∷_, _++_, map, flatMap}
 use mathlib.Core.Option.{Option, Option·getD}
 use Prim.Native.Nat.{ℕ, _^_, _≤_, _<_}
-use lib.ListN.{length, take, drop, replicate}
+use lib.ListN.{take, drop, replicate}
 use Rattle.format.specs.Basics.{refused, given, andThen, if_then_else_, ascii, isEmpty, every, eqs, beginsWith}
 use Rattle.format.specs.Tokens.{partsAt}
 use Rattle.format.specs.Utf8.{trim}
