@@ -12,12 +12,13 @@ work=$(mktemp -d)
 trap 'rm -r "$work"' EXIT
 status=0
 
-# Document 01's object in both forms, its first six bytes, nothing, and its source.
+# Document 01's object in both forms, its first six bytes, nothing, its source, and a text with a `+` before a number (document 02, P8).
 cp "$repository/crates/bin2text/stdin" "$work/binary"
 cp "$repository/crates/bin2text/stdout" "$work/text"
 head -c 6 "$work/binary" > "$work/six"
 : > "$work/empty"
 printf 'a\nb\n' > "$work/source"
+printf 'LC-3 OBJ FILE\n.TEXT\n+0FF\n0\n' > "$work/plus"
 
 compare() { # NAME: runs the program of this name
     if "$work/$1" "$work/binary" "$work/text" "$work/six" "$work/empty" | diff "$here/answers" -; then

@@ -182,9 +182,10 @@ const SENTENCES: [&str; 18] = [
     ".LINKER_INFO\nADDR | LABEL\n3000 | A\n.DEBUG\n=\nLINE | ADDR | SOURCE\n0 | ????\n=\n",
 ];
 
-/// Groups of texts about request P8: a `+` in each kind of number cell; in which order it is asked for; where it does nothing, in a name or
-/// in a SOURCE cell; where document 01's own rule refuses too; blanks around it, which `.TEXT` lines keep; and zeros before a number.
-const PLUS_SIGNS: [&str; 37] = [
+/// Groups of texts about request P8: a `+` in each kind of number cell; the same in rows as they are written, which a reader may know by
+/// their columns; in which order it is asked for; where it does nothing, in a name or in a SOURCE cell; where document 01's own rule refuses
+/// too; blanks around it, which `.TEXT` lines keep; and zeros before a number.
+const PLUS_SIGNS: [&str; 46] = [
     ".TEXT\n+0FF\n0\n",
     ".TEXT\n3000\n+0\n",
     ".TEXT\n3000\n+1\n1234\n",
@@ -195,6 +196,15 @@ const PLUS_SIGNS: [&str; 37] = [
     ".DEBUG\nLABEL | INDEX\nA | +5\n=\n=\n",
     ".DEBUG\n=\nLINE | ADDR | SOURCE\n+0 | ????\n=\n",
     ".DEBUG\n=\nLINE | ADDR | SOURCE\n0 | +0FF\n1 | ????\n=\n",
+    ".TEXT\n3000\n3\n1234\n+0FF\n????\n",
+    ".TEXT\n3000\n1\n1234\n+001\n0\n",
+    ".SYMBOL\nADDR | EXT | LABEL\n3001 |   0 | A\n+0FF |   0 | B\n",
+    ".SYMBOL\nADDR | EXT | LABEL\n3001 |   0 | A\n3002 |  +1 | B\n",
+    ".LINKER_INFO\nADDR | LABEL\n3001 | A\n+0FF | B\n",
+    ".DEBUG\nLABEL | INDEX\nA     |     5\nB     |    +6\n====================\n====================\n",
+    ".DEBUG\n====================\nLINE | ADDR | SOURCE\n   0 | ???? | a\\n\n  +1 | 3000 | b\\n\n   2 | ???? | \n====================\n",
+    ".DEBUG\n====================\nLINE | ADDR | SOURCE\n   0 | ???? | a\\n\n   1 | +0FF | b\\n\n   2 | ???? | \n====================\n",
+    ".DEBUG\n====================\nLINE | ADDR | SOURCE\n   0 | ???? | +\\n\n   1 | 3000 | +1\\n\n   2 | ???? | \n====================\n",
     ".TEXT\n3000\n0\n3000\n+0\n",
     ".DEBUG\nLABEL | INDEX\nA | +5\n",
     ".DEBUG\n=\nLINE | ADDR | SOURCE\n0 | ????\n=\n.DEBUG\n=\nLINE | ADDR | SOURCE\n+0 | ????\n=\n",
