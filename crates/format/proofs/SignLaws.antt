@@ -18,7 +18,7 @@ use Rattle.format.specs.ObjectFile.{ObjectFile, blockKey}
 use Rattle.format.specs.Records.{emptyObject, textQuestions, concluded}
 use Rattle.format.specs.Words.{wordsOf}
 use Rattle.format.specs.TextWriter.{textFile}
-use Rattle.format.specs.TextReader.{digitValue, digitsFrom, parseNumber, parseDecimal, hex2u16, maybeHex2u16, splitn, cellAt, sameCells}
+use Rattle.format.specs.TextReader.{digitValue, digitsFrom, parseNumber, parseDecimal, hex2u16, maybeHex2u16, splitn, sameCells}
 use Rattle.format.specs.TextReader.{rowsUnder, blockAt, parseTextGroup, parseSymbolRow, parseSymbolGroup, parseLinkerRow, parseLinkerGroup}
 use Rattle.format.specs.TextReader.{parseLabelRow, parseLabelTable, parseLineRows, parseLineTable, splitAtBar, upToBar}
 use Rattle.format.specs.TextReader.{parseDebugGroup, parseGroup, keptLines, afterMagic, textObject}
@@ -30,6 +30,7 @@ use Rattle.format.proofs.Outcomes.{by-if, Gives, Holds, Ends, held, any
 use Rattle.format.proofs.Outcomes.{holds-then, ends-bind, ends-need, ends-ask, ends-map}
 use Rattle.format.proofs.WordsOnly.{bind-given, given-same}
 use Rattle.format.proofs.NumeralBack.{Numeric, plus-refused, hex-numeric, decimal-numeric, entry-numeric}
+use Rattle.format.proofs.TextFormed.{cell}
 use Rattle.format.proofs.TripLaws.{stands, text-back}
 
 abbrev Unsigned : List ℕ → Type 0
@@ -115,10 +116,7 @@ module _ {B : Type 0} (m : ℕ) where
 
 -- TABLES
 
--- a cell of a row, and the first two of three
-abbrev cell : ℕ → ℕ → List ℕ → List ℕ
-cell k i l = trim (cellAt i (splitn k l))
-
+-- the first two cells of three
 abbrev firstTwo : List ℕ → List (List ℕ)
 firstTwo l = cell 2 0 l ∷ cell 2 1 l ∷ []
 

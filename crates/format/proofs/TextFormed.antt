@@ -133,7 +133,7 @@ named-below n ls h =
     (atKey labelKey n ls) (λ _. (omega arith, omega arith)) (λ l _ p. (p .0, p .1)) (atKey-all labelKey (λ l. Sound Any (label l)) n ls h)
 
 -- rows: a trimmed cell is a text
-abbrev cell : ℕ → ℕ → List ℕ → List ℕ
+abbrev pub cell : ℕ → ℕ → List ℕ → List ℕ
 cell k i l = trim (cellAt i (splitn k l))
 
 module _ (h : ObjectFile) (l : List ℕ) (k : TextKept h) (x : Text l) where

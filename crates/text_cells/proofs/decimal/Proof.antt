@@ -1,10 +1,10 @@
 -- The digits left, after those that gave the value, say what all of them do. Assumes nothing.
 use native.Mathlib.Omega.{arith}
 use mathlib.Core.Path.{_≡_, refl, sym, _∙_}
-use mathlib.Core.Option.{some}
-use Prim.Native.Nat.{ℕ, _+_, _-_, _≤_}
+use mathlib.Core.Option.{none, some}
+use Prim.Native.Nat.{ℕ, _+_, _-_, _*_, _%_, _≤_}
 use denote.Ref.{now}
-use lib.ListN.{length, drop}
+use lib.ListN.{length, drop, getD}
 use Rattle.format.specs.TextReader.{digitsFrom, belowLimit, parseDecimal}
 use Rattle.text_cells.proofs.NumberLaws.{number-none, decimal-on, decimal-low, decimal-high, decimal-over, digits-alone, from-end, below-some, below-none}
 use Rattle.text_cells.proofs.decimal.Statement.{statement}
@@ -31,21 +31,19 @@ returns-3 c =
     let l = k .before in
     decimal-high _ (l .loop .v) (l .loop .i) (k .loop-test .taken) (start l .args .max) (l .loop .inv .1) (c .if3 .taken)
 
-returns-4 : tie.Need-returns-4 Inv-loop μ-loop
-returns-4 c =
-    let e = c .before in
+-- a digit that makes more than 64 bits
+over : (e : tie.Else3 Inv-loop μ-loop) → let l = e .before .before .before .before in let a = start l .args in
+    a .max + 1 ≤ l .loop .v * 10 + getD (now (a .s)) (l .loop .i) 0 % 16 → none ≡ parseDecimal (a .max + 1) (now (a .s))
+over e =
     let k = e .before .before .before in
     let l = k .before in
-    let m = start l .fits .max in
-    decimal-over _ (l .loop .v) (l .loop .i) (k .loop-test .taken) (start l .args .max) (l .loop .inv .1) (e .before .if2 .left) (e .if3 .left) (omega (arith, m, c .if4 .taken))
+    decimal-over _ (l .loop .v) (l .loop .i) (k .loop-test .taken) (start l .args .max) (l .loop .inv .1) (e .before .if2 .left) (e .if3 .left)
+
+returns-4 : tie.Need-returns-4 Inv-loop μ-loop
+returns-4 c = over (c .before) (let m = start (c .before .before .before .before .before) .fits .max in omega (arith, m, c .if4 .taken))
 
 returns-5 : tie.Need-returns-5 Inv-loop μ-loop
-returns-5 c =
-    let e = c .before .before in
-    let k = e .before .before .before in
-    let l = k .before in
-    let m = start l .fits .max in
-    decimal-over _ (l .loop .v) (l .loop .i) (k .loop-test .taken) (start l .args .max) (l .loop .inv .1) (e .before .if2 .left) (e .if3 .left) (omega (arith, m, c .if5 .taken))
+returns-5 c = over (c .before .before) (let m = start (c .before .before .before .before .before .before) .fits .max in omega (arith, m, c .if5 .taken))
 
 loop-again : tie.Need-loop-again Inv-loop μ-loop
 loop-again c =
