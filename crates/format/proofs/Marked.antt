@@ -20,11 +20,12 @@ use Rattle.format.specs.Binary.{open-Binary}
 use Rattle.format.specs.TextWriter.{open-TextWriter}
 use Rattle.format.specs.TextReader.{open-TextReader}
 use Rattle.format.specs.Calls.{Reordered, none-left, same-first, swap, chained, Filled, fill, writeBinary, WritesBinary, open-Calls}
+use Rattle.format.specs.Signs.{open-Signs}
 use Rattle.format.specs.Marked.{writeInOrder, MarkedHold, words18, bytes77}
 
 pub marked-hold : MarkedHold
-unfolding writeInOrder open-Basics open-Digits open-Tokens open-Sorted open-Utf8 open-ObjectFile open-Records open-Words open-Source open-Binary open-TextWriter open-TextReader open-Calls
-marked-hold = (refl, (refl, (refl, (refl, (refl, (refl, (refl, (refl, (refl, (refl, (refl, (refl, (refl, (refl, (refl, (refl, (refl, (refl, (refl, (refl, (refl, (refl, (refl, tt)))))))))))))))))))))))
+unfolding writeInOrder open-Basics open-Digits open-Tokens open-Sorted open-Utf8 open-ObjectFile open-Records open-Words open-Source open-Binary open-TextWriter open-TextReader open-Calls open-Signs
+marked-hold = (refl, (refl, (refl, (refl, (refl, (refl, (refl, (refl, (refl, (refl, (refl, (refl, (refl, (refl, (refl, (refl, (refl, (refl, (refl, (refl, (refl, (refl, (refl, (refl, tt))))))))))))))))))))))))
 
 -- a list of none, and a list of one, has one order
 no-order : {A : Type 0} {xs ys : List A} → Reordered xs ys → xs ≡ [] → ys ≡ []

@@ -7,6 +7,7 @@ use Rattle.format.specs.Basics.{Outcome, refused, given, _>>=_, ascii, k
 use Rattle.format.specs.Utf8.{isWhiteSpace}
 use Rattle.format.specs.Words.{objectOf}
 use Rattle.format.specs.Calls.{Filled, writeBinary, readBinary, readText, ReadsBinary, bin2text}
+use Rattle.format.specs.Signs.{textCells}
 
 -- a call on an input, and its answer
 pub data Case : Type 0 where
@@ -16,6 +17,7 @@ pub data Case : Type 0 where
   fills-words : List ℕ → List ℕ → Filled → Case
   prints : List ℕ → List ℕ → Case
   white-space-of : List ℕ → List ℕ → Case
+  number-cells-of : List ℕ → List (List ℕ) → Case
 
 -- binary write with labels and relocations in the object's own order: the only one where there is one of each
 unfoldable pub writeInOrder : List ℕ → Outcome (List ℕ)
@@ -29,6 +31,7 @@ Holds (reads-text bs o) = readText bs ≡ o
 Holds (fills-words bs buffer r) = ReadsBinary bs buffer r
 Holds (prints bs out) = bin2text 65536 16384 65536 bs ≡ out
 Holds (white-space-of cs ws) = keep isWhiteSpace cs ≡ ws
+Holds (number-cells-of bs cs) = textCells bs ≡ cs
 
 -- the 18 words of "A holding in three dresses", with their relocation word
 abbrev pub words18 : ℕ → List ℕ
@@ -185,13 +188,20 @@ abbrev pub plus-in-the-source : Case
 plus-in-the-source =
     reads-text (ascii "LC-3 OBJ FILE\n.DEBUG\n=\nLINE | ADDR | SOURCE\n00 | ???? | +1\n=") (given (0x80000000 ∷ 0xE200312B ∷ []))
 
+-- P8, which cells are number cells, as no law shows: that none begins with `+` would hold of fewer too
+abbrev pub number-cells : Case
+number-cells =
+    number-cells-of text297
+    (ascii "3000" ∷ ascii "2" ∷ ascii "1234" ∷ ascii "????" ∷ ascii "3001" ∷ ascii "0" ∷ ascii "3001" ∷ ascii "5" ∷ ascii "0" ∷ ascii "????"
+    ∷ ascii "1" ∷ ascii "3000" ∷ ascii "2" ∷ ascii "????" ∷ [])
+
 -- THE TABLE
 abbrev pub marked : List Case
 marked =
     words-to-bytes ∷ bytes-to-words ∷ printing ∷ header-alone ∷ six-header-bytes ∷ equal-addresses-binary ∷ equal-addresses-text
     ∷ block-twice-binary ∷ block-twice-text ∷ flag-01 ∷ plus-0FF ∷ one-bar ∷ lines-1-and-3 ∷ lines-1-and-2 ∷ white-space ∷ just-enough
     ∷ one-word-less ∷ no-room ∷ plus-in-a-block-twice ∷ plus-without-bars ∷ plus-in-a-second-table ∷ plus-in-a-name
-    ∷ plus-in-the-source ∷ []
+    ∷ plus-in-the-source ∷ number-cells ∷ []
 
 abbrev pub MarkedHold : Type 0  -- "gathered in a table that one proposition covers"
 MarkedHold = All Holds marked
