@@ -1,6 +1,6 @@
 -- A record's bytes are what it begins with and its list or text, by its kind. Assumes nothing.
 use mathlib.Core.Path.{_≡_, refl, sym, ap, subst, _∙_}
-use mathlib.Core.List.{List, [], _∷_, _++_, map, reverse}
+use mathlib.Core.List.{List, [], _∷_, _++_, map}
 use Prim.Native.Nat.{ℕ, _+_, _-_, _%_, _^_}
 use lib.ListN.{length, getD}
 use lib.Dec.{leb, eqb}
@@ -131,7 +131,7 @@ module _ (ws : List ℕ) (at end : ℕ) (s : Stands ws at end) where
   unfolding startBytes
   source-start e = ap startBytes (source-here ws at end s e .0)
 
-  pub relocation-start : k ≡ 5 → startBytes (recordAt ws at) ≡ 0x04 ∷ reverse head
+  pub relocation-start : k ≡ 5 → startBytes (recordAt ws at) ≡ 0x04 ∷ head
   unfolding startBytes
   relocation-start e = ap startBytes (relocation-here ws at end s e .0)
 

@@ -1,6 +1,6 @@
 -- Binary write: the file of an object after the bytes that begin it, and the bytes of its records by their words. Assumes nothing.
 use mathlib.Core.Path.{_≡_}
-use mathlib.Core.List.{List, [], _∷_, _++_, flatMap, reverse}
+use mathlib.Core.List.{List, [], _∷_, _++_, flatMap}
 use Prim.Native.Nat.{ℕ, _+_, _%_, _^_, _≤_}
 use lib.ListN.{length}
 use lib.Dec.{eqb}
@@ -52,7 +52,7 @@ startBytes (block b) = 0x00 ∷ numberBytes 2 (b .address) ++ numberBytes 2 (len
 startBytes (label l) = 0x01 ∷ numberBytes 2 (l .address) ++ flagBit (l .external) ∷ numberBytes 8 (l .start)
 startBytes (lineBlock l) = 0x02 ∷ numberBytes 8 (l .first) ++ numberBytes 2 (length (l .addresses))
 startBytes (source s) = 0x03 ∷ []
-startBytes (relocation r) = 0x04 ∷ reverse (numberBytes 2 (r .address))
+startBytes (relocation r) = 0x04 ∷ numberBytes 2 (r .address)
 
 -- what comes then, of a record of kind k: by the words of its list or text, and where these begin
 unfoldable pub contentOf : ℕ → List ℕ → List ℕ

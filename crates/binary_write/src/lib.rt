@@ -1,6 +1,6 @@
 // The writer of the binary form (document 01, "Binary form"). It asks, measures, and then writes the header and record by record.
 ghost use mathlib.Core.Path.{_≡_};
-ghost use mathlib.Core.List.{[], _∷_, _++_, reverse};
+ghost use mathlib.Core.List.{[], _∷_, _++_};
 ghost use Prim.Native.Nat.{_+_, _-_, _%_, _^_, _≤_, _<_};
 ghost use lib.ListN.{length};
 ghost use lib.Dec.{leb};
@@ -17,7 +17,6 @@ ghost use Rattle.binary_write.specs.Files.{startBytes, contentOf, conten
 use binary_header::file_header;
 use binary_measure::record_end;
 use binary_measure::write_number;
-use byte_numbers::put_u16_be;
 use byte_numbers::put_u16_le;
 use byte_numbers::put_u64_le;
 use units::Filled;
@@ -149,6 +148,19 @@ fn count(a: usize, e: usize) -> u16
     ((e - a) % 0x1_0000) as u16
 }
 
+// A record's kind and address, which blocks, labels and relocations begin with: low byte first in all of them.
+fn put_address(out: &mut [u8], kind: u8, address: u16) -> usize
+    ensures { λ r. ⌜ Put (kind ∷ digitsOf 8 2 address) (now (out .entry)) r (now (out .exit)) ⌝ }
+{
+    if out.len() < 3 {
+        return 0;
+    }
+    out[0] = kind;
+    out[1] = (address % 256) as u8;
+    out[2] = (address / 256 % 256) as u8;
+    3
+}
+
 // What a block begins with: its kind, address and count.
 fn put_block_start(out: &mut [u8], address: u16, count: u16) -> usize
     ensures { λ r. ⌜ Put (0x00 ∷ digitsOf 8 2 address ++ digitsOf 8 2 count) (now (out .entry)) r (now (out .exit)) ⌝ }
@@ -156,9 +168,8 @@ fn put_block_start(out: &mut [u8], address: u16, count: u16) -> usize
     if out.len() < 5 {
         return 0;
     }
-    out[0] = 0;
-    let mut o = 1;
-    o += put_u16_le(&mut out[o..], address);
+    let mut o = 0;
+    o += put_address(&mut out[o..], 0, address);
     o += put_u16_le(&mut out[o..], count);
     o
 }
@@ -170,9 +181,8 @@ fn put_label_start(out: &mut [u8], address: u16, external: u8, start: u64) -> us
     if out.len() < 12 {
         return 0;
     }
-    out[0] = 1;
-    let mut o = 1;
-    o += put_u16_le(&mut out[o..], address);
+    let mut o = 0;
+    o += put_address(&mut out[o..], 1, address);
     o += put_u8(&mut out[o..], external);
     o += put_u64_le(&mut out[o..], start);
     o
@@ -189,19 +199,6 @@ fn put_lines_start(out: &mut [u8], first: u64, count: u16) -> usize
     let mut o = 1;
     o += put_u64_le(&mut out[o..], first);
     o += put_u16_le(&mut out[o..], count);
-    o
-}
-
-// What a relocation begins with: its kind, and its address, high byte first.
-fn put_relocation_start(out: &mut [u8], address: u16) -> usize
-    ensures { λ r. ⌜ Put (0x04 ∷ reverse (digitsOf 8 2 address)) (now (out .entry)) r (now (out .exit)) ⌝ }
-{
-    if out.len() < 3 {
-        return 0;
-    }
-    out[0] = 4;
-    let mut o = 1;
-    o += put_u16_be(&mut out[o..], address);
     o
 }
 
@@ -226,7 +223,7 @@ fn put_start(out: &mut [u8], ws: &[u32], at: usize, end: usize) -> usize
     if k == 4 {
         return put_u8(out, 3);
     }
-    put_relocation_start(out, address)
+    put_address(out, 4, address)
 }
 
 // Where the words of a record's list or text begin: past the number of a label or a line block.

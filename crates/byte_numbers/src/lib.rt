@@ -1,5 +1,4 @@
 // Part writers of numbers, byte by byte. Each is lent the unused rest of the output, as those of `writing`.
-ghost use mathlib.Core.List.{reverse};
 ghost use Rattle.format.specs.Digits.{digitsOf};
 ghost use Rattle.writing.specs.Written.{Put};
 
@@ -12,18 +11,6 @@ pub fn put_u16_le(out: &mut [u8], v: u16) -> usize
     }
     out[0] = (v % 256) as u8;
     out[1] = (v / 256 % 256) as u8;
-    2
-}
-
-// Two bytes, high byte first, as relocations are written.
-pub fn put_u16_be(out: &mut [u8], v: u16) -> usize
-    ensures { λ r. ⌜ Put (reverse (digitsOf 8 2 v)) (now (out .entry)) r (now (out .exit)) ⌝ }
-{
-    if out.len() < 2 {
-        return 0;
-    }
-    out[0] = (v / 256 % 256) as u8;
-    out[1] = (v % 256) as u8;
     2
 }
 

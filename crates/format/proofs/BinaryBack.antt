@@ -1,7 +1,7 @@
--- Every record that the binary writer writes, the binary reader reads: itself, but a relocation address byte-swapped. Assumes nothing.
+-- Every record that the binary writer writes, the binary reader reads as itself. Assumes nothing.
 use mathlib.Core.Path.{_≡_, refl, _∙_, ap}
 use mathlib.Core.Bool.{Bool, true, false, not}
-use mathlib.Core.List.{List, [], _∷_, _++_, map, reverse, flatMap}
+use mathlib.Core.List.{List, [], _∷_, _++_, flatMap}
 use mathlib.Core.Option.{Option, none, some}
 use Prim.Native.Nat.{ℕ, suc, _+_, _*_, _<_}
 use native.Mathlib.Omega.{arith}
@@ -17,7 +17,6 @@ use Rattle.format.specs.ObjectFile.{strictlyRise}
 use Rattle.format.specs.Records.{Record, block, label, lineBlock, source, relocation}
 use Rattle.format.specs.Words.{flagBit}
 use Rattle.format.specs.Binary.{recordBytes, recordAt, blockFrom, labelFrom, linesFrom, relocationFrom, memoriesFrom, addressesFrom, numberAt, bytesAt, numberBytes, memoryBytes}
-use Rattle.format.specs.Trips.{byteSwapped, swapRelocation}
 use Rattle.format.proofs.Ranges.{In16, In64, Word16}
 use Rattle.format.proofs.Laws.{value-digits, source-from, tokens-step}
 
@@ -31,13 +30,6 @@ Writable (label l) = In16 (l .address) × In64 (l .start) × Text64 (l .name)
 Writable (lineBlock l) = In64 (l .first) × In16 (length (l .addresses)) × All In16 (l .addresses) × (strictlyRise (l .addresses) ≡ true)
 Writable (source s) = Text64 s
 Writable (relocation r) = In16 (r .address) × Text64 (r .name)
-
-abbrev pub back : Record → Record
-back (block b) = block b
-back (label l) = label l
-back (lineBlock l) = lineBlock l
-back (source s) = source s
-back (relocation r) = relocation (swapRelocation r)
 
 cells-length : (ws : List (Option ℕ)) → length (flatMap memoryBytes ws) ≡ 3 * length ws
 unfolding flatMap digitsOf
@@ -109,11 +101,7 @@ size-bytes (lineBlock l) = let e = pairs-length (l .addresses) in omega arith
 size-bytes (source s) = omega arith
 size-bytes (relocation r) = omega arith
 
-swap-back : (a : ℕ) → In16 a → valueOf 8 (reverse (digitsOf 8 2 a)) ≡ byteSwapped a
-unfolding valueOf digitsOf
-swap-back a h = omega arith
-
-pub record-back : (r : Record) (rest : List ℕ) → Writable r → recordAt (recordBytes r ++ rest) ≡ given (back r, sizeOf r)
+pub record-back : (r : Record) (rest : List ℕ) → Writable r → recordAt (recordBytes r ++ rest) ≡ given (r, sizeOf r)
 unfolding recordBytes recordAt sizeOf digitsOf
 record-back (block b) rest h =
     let bs : List ℕ = drop 1 (recordBytes (block b) ++ rest) in
@@ -141,8 +129,8 @@ record-back (source s) rest h =
 record-back (relocation r) rest h =
     let bs : List ℕ = drop 1 (recordBytes (relocation r) ++ rest) in
     let f = length-append (r .name) rest in
-    relocation-from bs (length (r .name)) (byteSwapped (r .address)) (r .name) (le-leb (10) (length bs) (omega arith)) (value-digits 8 8 (length (r .name)) (h .1 .0))
-    (le-leb (10 + length (r .name)) (length bs) (omega arith)) (swap-back (r .address) (h .0)) (take-append-seam (r .name) rest) (h .1 .1)
+    relocation-from bs (length (r .name)) (r .address) (r .name) (le-leb (10) (length bs) (omega arith)) (value-digits 8 8 (length (r .name)) (h .1 .0))
+    (le-leb (10 + length (r .name)) (length bs) (omega arith)) (value-digits 8 2 (r .address) (h .0)) (take-append-seam (r .name) rest) (h .1 .1)
 
 -- a token at the front of a list that is not empty
 token-step :
@@ -152,11 +140,11 @@ token-step [] r n h e = absurd (omega arith)
 token-step (x ∷ xs) r n h e = tokens-step recordAt x xs r n e
 
 -- the records of a file are read in the order in which they were written
-pub records-back : (rs : List Record) → All Writable rs → tokens recordAt 0 (flatMap recordBytes rs) ≡ given (map back rs)
+pub records-back : (rs : List Record) → All Writable rs → tokens recordAt 0 (flatMap recordBytes rs) ≡ given rs
 unfolding flatMap tokens
 records-back [] h = refl
 records-back (r ∷ rs) h =
     let size : length (recordBytes r) ≡ suc (sizeOf r) = size-bytes r in
     let all = length-append (recordBytes r) (flatMap recordBytes rs) in
-    token-step (recordBytes r ++ flatMap recordBytes rs) (back r) (sizeOf r) (omega arith) (record-back r (flatMap recordBytes rs) (h .0))
+    token-step (recordBytes r ++ flatMap recordBytes rs) r (sizeOf r) (omega arith) (record-back r (flatMap recordBytes rs) (h .0))
     ∙ rw (drop-at (recordBytes r) (flatMap recordBytes rs) (suc (sizeOf r)) size, records-back rs (h .1))

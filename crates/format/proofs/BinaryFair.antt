@@ -17,15 +17,13 @@ use Rattle.format.specs.Records.{Record, block, label, lineBlock, source
 use Rattle.format.specs.Words.{recordWords, wordsOf}
 use Rattle.format.specs.Binary.{magic, version, header, binaryFile, binaryRecords, binaryObject}
 use Rattle.format.specs.Calls.{Reordered, inOrder}
-use Rattle.format.specs.Trips.{swapRelocations}
 use Rattle.format.proofs.ListLaws.{unchanged, all-map, all-both, all-reordered, all-images, part-fits, empty-reordered, empty-is}
 use Rattle.format.proofs.Ranges.{WellFormed, InRange, InBlock, InLabel, InLine, InRelocation, PartsHave, to-parts, of-parts}
 use Rattle.format.proofs.FairLaws.{Consistent, consistent-parts, fair-source, fair-blocks}
 use Rattle.format.specs.Fair.{FairLineBlock, FairSource, FairParts}
 use Rattle.format.proofs.Counts.{label-length, source-length, relocation-length}
 use Rattle.format.proofs.BinaryBack.{Writable, records-back}
-use Rattle.format.proofs.BinaryTrip.{binary-trip, gather-blocks, back-same}
-use Rattle.format.proofs.SwapLaws.{all-fit}
+use Rattle.format.proofs.BinaryTrip.{binary-trip, gather-blocks}
 use Rattle.format.specs.Fair.{FairSource}
 
 -- the length of a record's text fits its 8 bytes
@@ -75,7 +73,7 @@ unfolding binaryObject binaryRecords binaryFile header magic version beginsWith 
 blocks-trip bs h w =
     let a = records-back (map block bs) (all-images Writable block bs w) in
     let b : upsertAll blockKey bs [] ≡ bs = sorted-back blockKey bs bs h (unchanged bs) in
-    rw (only-records bs, a, back-same block (λ a. refl) bs, gather-blocks emptyObject bs, b)
+    rw (only-records bs, a, gather-blocks emptyObject bs, b)
 
 module _ (h : ObjectFile) (ls : List Label) (rs : List Relocation) (w : WellFormed h) (r : InRange h) (p : Reordered (h .labels) ls) (q : Reordered (h .relocations) rs) (short : PartsHave Short h) where
   sounds : Consistent h
@@ -106,8 +104,8 @@ holds h o = withLines h (h .lineBlocks) o
 by-source :
     (h : ObjectFile) (o : Option (List ℕ)) (ls : List Label) (rs : List Relocation) → WellFormed (holds h o) → InRange (holds h o) → FairParts (holds h o)
     → Reordered (h .labels) ls → Reordered (h .relocations) rs → PartsHave Short (holds h o)
-    → binaryObject (binaryFile (inOrder (holds h o) ls rs)) ≡ given (swapRelocations (holds h o))
-unfolding swapRelocations sourceRecords sourceText isEmpty upsertAll
+    → binaryObject (binaryFile (inOrder (holds h o) ls rs)) ≡ given (holds h o)
+unfolding sourceRecords sourceText isEmpty
 by-source h none ls rs w r f p q short =
     let b = fair-blocks (holds h none) refl f in
     let l : ls ≡ [] = empty-is ls (sym (empty-reordered p) ∙ ap isEmpty (b .labels)) in
@@ -118,11 +116,11 @@ by-source h (some s) ls rs w r f p q short =
     let g : ObjectFile = holds h (some s) in
     let fs : FairSource g s = fair-source g s refl f in
     let u : Consistent g = sounds g ls rs w r p q short in
-    binary-trip (h .blocks) (h .labels) ls (h .lineBlocks) s (h .relocations) rs (w .blocks) (w .labels) (w .lineBlocks) (w .relocations) (all-fit g r) (u .apart) p q
+    binary-trip (h .blocks) (h .labels) ls (h .lineBlocks) s (h .relocations) rs (w .blocks) (w .labels) (w .lineBlocks) (w .relocations) (u .apart) p q
     (of-parts Writable (inOrder g ls rs) (blocks-writable g ls rs w r p q short) (labels-writable g ls rs w r p q short) (lines-writable g ls rs w r p q short s fs)
     (source-writable s (u .text) (short .source .0), tt) (relocations-writable g ls rs w r p q short))
 
 pub binary-fair :
     (h : ObjectFile) (ls : List Label) (rs : List Relocation) → WellFormed h → InRange h → FairParts h → Reordered (h .labels) ls → Reordered (h .relocations) rs
-    → PartsHave Short h → binaryObject (binaryFile (inOrder h ls rs)) ≡ given (swapRelocations h)
+    → PartsHave Short h → binaryObject (binaryFile (inOrder h ls rs)) ≡ given h
 binary-fair h ls rs = by-source h (h .source) ls rs

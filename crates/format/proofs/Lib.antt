@@ -14,7 +14,6 @@ pub mod RecordLaws
 pub mod WordsBack
 pub mod WordsOnly
 pub mod WordsTrip
-pub mod SwapLaws
 pub mod Lengths
 pub mod FairLaws
 pub mod BinaryFair

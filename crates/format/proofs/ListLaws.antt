@@ -128,18 +128,6 @@ module _ {A : Type 0} where
   empty-is [] e = refl
   empty-is (x ∷ xs) e = let z : _≡_ {A = ℕ} 0 1 = cc in absurd (omega arith)
 
-  pub every-reordered : (p : A → Bool) {xs ys : List A} → Reordered xs ys → every p xs ≡ every p ys
-  unfolding every
-  every-reordered p none-left = refl
-  every-reordered p (same-first {a = a} r) = ap (λ (t : Bool). p a && t) (every-reordered p r)
-  every-reordered p (swap {a = a} {b = b} {xs = xs}) = go (p a) (p b)
-    where
-      go : (s t : Bool) → (s && (t && every p xs)) ≡ (t && (s && every p xs))
-      go true t = refl
-      go false true = refl
-      go false false = refl
-  every-reordered p (chained r s) = every-reordered p r ∙ every-reordered p s
-
   pub flatMap-reordered : {B : Type 0} (f : A → List B) {xs ys : List A} → Reordered xs ys → length (flatMap f xs) ≡ length (flatMap f ys)
   unfolding flatMap
   flatMap-reordered f none-left = refl

@@ -25,7 +25,7 @@ use Rattle.format.specs.Marked.{writeInOrder, MarkedHold, words18, bytes
 
 pub marked-hold : MarkedHold
 unfolding writeInOrder open-Basics open-Digits open-Tokens open-Sorted open-Utf8 open-ObjectFile open-Records open-Words open-Source open-Binary open-TextWriter open-TextReader open-Calls open-Signs
-marked-hold = (refl, (refl, (refl, (refl, (refl, (refl, (refl, (refl, (refl, (refl, (refl, (refl, (refl, (refl, (refl, (refl, (refl, (refl, (refl, (refl, (refl, (refl, (refl, (refl, tt))))))))))))))))))))))))
+marked-hold = (refl, (refl, (refl, (refl, (refl, (refl, (refl, (refl, (refl, (refl, (refl, (refl, (refl, (refl, (refl, (refl, (refl, (refl, (refl, (refl, (refl, (refl, (refl, (refl, (refl, tt)))))))))))))))))))))))))
 
 -- a list of none, and a list of one, has one order
 no-order : {A : Type 0} {xs ys : List A} → Reordered xs ys → xs ≡ [] → ys ≡ []
@@ -59,12 +59,12 @@ words-object : objectOf (words18 0xA0000130) ≡ given object18
 unfolding object18 label18 relocation18 open-Basics open-Digits open-Tokens open-Sorted open-Utf8 open-ObjectFile open-Records open-Words
 words-object = refl
 
-own-order : writeBinary (words18 0xA0000130) (label18 ∷ []) (relocation18 ∷ []) ≡ given bytes77
+own-order : writeBinary (words18 0xA0000130) (label18 ∷ []) (relocation18 ∷ []) ≡ given (bytes77 0x30 0x01)
 unfolding label18 relocation18 open-Basics open-Digits open-Tokens open-Sorted open-Utf8 open-ObjectFile open-Records open-Words open-Binary open-Calls
 own-order = refl
 
 -- whatever orders a write takes
-pub words-give-bytes : (buffer : List ℕ) (r : Filled) → WritesBinary (words18 0xA0000130) buffer r → r ≡ fill (given bytes77) buffer
+pub words-give-bytes : (buffer : List ℕ) (r : Filled) → WritesBinary (words18 0xA0000130) buffer r → r ≡ fill (given (bytes77 0x30 0x01)) buffer
 unfolding object18
 words-give-bytes buffer r p =
     let o = p .2 object18 words-object in

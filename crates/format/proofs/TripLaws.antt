@@ -1,5 +1,5 @@
--- One trip, in either form: its number by the lengths of its buffers, and the words that stand after it. Each form has a step law,
--- `FormStep`; what follows from it is said once, for every form. Assumes nothing.
+-- One trip, in either form: its number by the lengths of its buffers, and that the words stand after it. Each form has a law, `FormTrip`;
+-- what follows from it is said once, for every form. Assumes nothing.
 use mathlib.Core.Path.{_≡_, refl, sym, _∙_, ap, subst}
 use mathlib.Core.Bool.{Bool, true, false, _||_}
 use mathlib.Core.List.{List}
@@ -8,7 +8,7 @@ use Prim.Native.Nat.{ℕ, _^_, _≤_, _<_}
 use native.Mathlib.Omega.{arith}
 use lib.ListN.{length, drop}
 use lib.Seq.{take-append-seam}
-use lib.Dec.{leb, ltb, eqb}
+use lib.Dec.{leb, ltb}
 use borrow.Author.Tests.{leb-true, leb-false, le-leb, lt-ltb, le-ltb}
 use Rattle.format.specs.Basics.{Outcome, given, if_then_else_, every, All}
 use Rattle.format.specs.ObjectFile.{Label, Relocation, ObjectFile, sourceText}
@@ -20,12 +20,11 @@ use Rattle.format.specs.Binary.{binaryFile, binaryObject, countsFit}
 use Rattle.format.specs.TextWriter.{textFile}
 use Rattle.format.specs.TextReader.{textObject}
 use Rattle.format.specs.Calls.{Filled, fill, inOrder, writeBinary, writeText, readBinary, readText}
-use Rattle.format.specs.Trips.{Form, binary, text, Trip, Writes, Reads, filledPart, TripMade, write-refused, read-refused, completed, fileIn, fileOf, isShort, swapRelocations, tripStep}
+use Rattle.format.specs.Trips.{Form, binary, text, Trip, Writes, Reads, filledPart, TripMade, write-refused, read-refused, completed, logEntry, fileIn, fileOf, isShort, AsExpected}
 use Rattle.format.proofs.Ranges.{WellFormed, InRange}
 use Rattle.format.proofs.ListLaws.{by-test, every-all, all-map}
 use Rattle.format.proofs.WordsTrip.{words-back, words-only}
-use Rattle.format.proofs.SwapLaws.{swapped-fair, swapped-well, swapped-range}
-use Rattle.format.proofs.Lengths.{binary-order, swapped-words}
+use Rattle.format.proofs.Lengths.{binary-order}
 use Rattle.format.proofs.DebugTrip.{newlines-length}
 use Rattle.format.proofs.BinaryFair.{binary-fair, texts-short, Short}
 use Rattle.format.proofs.TextTrip.{text-trip}
@@ -73,18 +72,22 @@ file-of : (f : Form) (ws : List ℕ) (h : ObjectFile) → Stands ws h → fileOf
 unfolding fileOf
 file-of f ws h s = rw (read-back ws h s)
 
--- what a write promises, and a read of the file written
-pub record Promise (f : Form) (ws : List ℕ) (h : ObjectFile) (buffer : List ℕ) (w : Filled) : Type 0 where
+-- what a read that gives the object's words fills a buffer with
+reads-words :
+    (ws : List ℕ) (h : ObjectFile) → Stands ws h → (room : List ℕ) {o : Outcome (List ℕ)} → o ≡ given (wordsOf h) → fill o room ≡ fill (given ws) room
+reads-words ws h s room e = ap (λ (x : Outcome (List ℕ)). fill x room) (e ∙ ap given (s .words))
+
+-- what a write of words that stand promises, and a read of the file written
+pub record Promise (f : Form) (ws buffer : List ℕ) (w : Filled) : Type 0 where
   pub file : List ℕ
   pub written : w ≡ fill (given file) buffer
   pub size : length file ≡ length (fileOf f ws)
-  pub back : (room : List ℕ) (r : Filled) → Reads f file room r → r ≡ fill (given (wordsOf (tripStep f h))) room
+  pub back : (room : List ℕ) (r : Filled) → Reads f file room r → r ≡ fill (given ws) room
 
--- A form's step law: a fair object's file comes back as the step of the object, which is fair too and has as many words.
-pub record FormStep (f : Form) : Type 0 where
-  pub promise : (ws : List ℕ) (h : ObjectFile) → Stands ws h → (buffer : List ℕ) (w : Filled) → Writes f ws buffer w → Promise f ws h buffer w
-  pub kept : (ws : List ℕ) (h : ObjectFile) → Stands ws h → Stands (wordsOf (tripStep f h)) (tripStep f h)
-  pub words : (ws : List ℕ) (h : ObjectFile) → Stands ws h → length (wordsOf (tripStep f h)) ≡ length ws
+-- A form's law: a fair object's file comes back as the object.
+abbrev pub FormTrip : Form → Type 0
+FormTrip f =
+    (ws : List ℕ) (h : ObjectFile) → Stands ws h → (buffer : List ℕ) (w : Filled) → Writes f ws buffer w → Promise f ws buffer w
 
 -- the binary form
 
@@ -106,35 +109,19 @@ words-binary : (bs : List ℕ) (h : ObjectFile) → binaryObject bs ≡ given h 
 unfolding readBinary
 words-binary bs h e = rw e
 
-binary-words : (ws : List ℕ) (h : ObjectFile) → Stands ws h → length (wordsOf (swapRelocations h)) ≡ length ws
-binary-words ws h s = swapped-words h (s .well) (s .range) ∙ ap length (s .words)
-
-pub binary-step : FormStep binary
-binary-step = record {
-  promise = λ ws h s buffer w p.
-      let ls : List Label = p .0 in
-      let rs : List Relocation = p .1 in
-      let e = read-back ws h s in
-      let o = p .2 h e in
-      record {
-        file = binaryFile (inOrder h ls rs);
-        written = p .3 ∙ ap (λ (x : Outcome (List ℕ)). fill x buffer) (bytes-binary ws h ls rs e (fair-counts h (s .fair)));
-        size = binary-order h ls rs (o .0) (o .1) ∙ ap length (sym (file-of binary ws h s));
-        back = λ room r q.
-            q
-            ∙ ap (λ (x : Outcome (List ℕ)). fill x room)
-            (words-binary (binaryFile (inOrder h ls rs)) (swapRelocations h)
-            (binary-fair h ls rs (s .well) (s .range) (s .fair) (o .0) (o .1) (texts-short h (words-few ws h s))));
-      };
-  kept = λ ws h s. record {
-    words = refl;
-    well = swapped-well h (s .well) (s .range);
-    range = swapped-range h (s .well) (s .range);
-    fair = swapped-fair h (s .well) (s .range) (s .fair);
-    size = let a = binary-words ws h s in let c = s .size in omega arith;
-  };
-  words = binary-words;
-}
+pub binary-form : FormTrip binary
+binary-form ws h s buffer w p =
+    let ls : List Label = p .0 in
+    let rs : List Relocation = p .1 in
+    let e = read-back ws h s in
+    let o = p .2 h e in
+    let b = binary-fair h ls rs (s .well) (s .range) (s .fair) (o .0) (o .1) (texts-short h (words-few ws h s)) in
+    record {
+      file = binaryFile (inOrder h ls rs);
+      written = p .3 ∙ ap (λ (x : Outcome (List ℕ)). fill x buffer) (bytes-binary ws h ls rs e (fair-counts h (s .fair)));
+      size = binary-order h ls rs (o .0) (o .1) ∙ ap length (sym (file-of binary ws h s));
+      back = λ room r q. q ∙ reads-words ws h s room (words-binary (binaryFile (inOrder h ls rs)) h b);
+    }
 
 -- the text form
 
@@ -158,21 +145,17 @@ words-text bs h e = rw e
 pub text-back : (ws : List ℕ) (h : ObjectFile) → Stands ws h → readText (textFile h) ≡ given (wordsOf h)
 text-back ws h s = words-text (textFile h) h (text-trip h (s .well) (s .range) (s .fair) (few-lines h (words-few ws h s)))
 
-pub text-step : FormStep text
-text-step = record {
-  promise = λ ws h s buffer w p. record {
-    file = textFile h;
-    written = p ∙ ap (λ (x : Outcome (List ℕ)). fill x buffer) (bytes-text ws h (read-back ws h s));
-    size = ap length (sym (file-of text ws h s));
-    back = λ room r q. q ∙ ap (λ (x : Outcome (List ℕ)). fill x room) (text-back ws h s);
-  };
-  kept = λ ws h s. record { words = refl; well = s .well; range = s .range; fair = s .fair; size = words-few ws h s };
-  words = λ ws h s. ap length (s .words);
+pub text-form : FormTrip text
+text-form ws h s buffer w p = record {
+  file = textFile h;
+  written = p ∙ ap (λ (x : Outcome (List ℕ)). fill x buffer) (bytes-text ws h (read-back ws h s));
+  size = ap length (sym (file-of text ws h s));
+  back = λ room r q. q ∙ reads-words ws h s room (text-back ws h s);
 }
 
-pub form-step : (f : Form) → FormStep f
-form-step binary = binary-step
-form-step text = text-step
+pub form-trip : (f : Form) → FormTrip f
+form-trip binary = binary-form
+form-trip text = text-form
 
 -- a trip by the lengths of its buffers, the file's and the object's
 module _ (t : Trip) (ws : List ℕ) where
@@ -186,36 +169,30 @@ module _ (t : Trip) (ws : List ℕ) where
   unfolding isShort
   number-of a b p q = rw (p, q)
 
--- its number, and what stands after it
-pub record Turn (t : Trip) (ws : List ℕ) (h : ObjectFile) (n : ℕ) (next : List ℕ) : Type 0 where
-  pub number : n ≡ (if isShort t ws then 3 else 0)
-  pub stood : next ≡ (if eqb n 0 then wordsOf (tripStep (t .form) h) else ws)
-
 -- a trip from the words of a fair object
-pub trip-law : (t : Trip) (ws : List ℕ) (h : ObjectFile) (n : ℕ) (next : List ℕ) → Stands ws h → TripMade t ws n next → Turn t ws h n next
+pub trip-law :
+    (t : Trip) (ws : List ℕ) (h : ObjectFile) (n : ℕ) (next : List ℕ) → Stands ws h → TripMade t ws n next → AsExpected (logEntry t ws n next)
 trip-law t ws h n next s (write-refused w p ne) =
-    let x = form-step (t .form) .promise ws h s (t .bytes) w p in
+    let x = form-trip (t .form) ws h s (t .bytes) w p in
     let o = not-filled (x .file) (t .bytes) w (x .written) ne in
     let z = x .size in
     let a : bytesShort t ws ≡ true = lt-ltb (length (t .bytes)) (length (fileOf (t .form) ws)) (omega arith) in
-    record { number = o .1 ∙ sym (number-of t ws true (wordsShort t ws) a refl); stood = rw (o .1) }
+    record { number = o .1 ∙ sym (number-of t ws true (wordsShort t ws) a refl); stood = refl }
 trip-law t ws h n next s (read-refused w r p e q ne) =
-    let x = form-step (t .form) .promise ws h s (t .bytes) w p in
+    let x = form-trip (t .form) ws h s (t .bytes) w p in
     let o = filled (x .file) (t .bytes) w (x .written) e in
     let z = x .size in
-    let y = form-step (t .form) .words ws h s in
     let q′ : Reads (t .form) (x .file) (t .words) r = subst (λ (b : List ℕ). Reads (t .form) b (t .words) r) (o .1) q in
-    let u = not-filled (wordsOf (tripStep (t .form) h)) (t .words) r (x .back (t .words) r q′) ne in
+    let u = not-filled ws (t .words) r (x .back (t .words) r q′) ne in
     let a : bytesShort t ws ≡ false = le-ltb (length (t .bytes)) (length (fileOf (t .form) ws)) (omega arith) in
     let b : wordsShort t ws ≡ true = lt-ltb (length (t .words)) (length ws) (omega arith) in
-    record { number = u .1 ∙ sym (number-of t ws false true a b); stood = rw (u .1) }
+    record { number = u .1 ∙ sym (number-of t ws false true a b); stood = refl }
 trip-law t ws h n next s (completed w r p e q d) =
-    let x = form-step (t .form) .promise ws h s (t .bytes) w p in
+    let x = form-trip (t .form) ws h s (t .bytes) w p in
     let o = filled (x .file) (t .bytes) w (x .written) e in
     let z = x .size in
-    let y = form-step (t .form) .words ws h s in
     let q′ : Reads (t .form) (x .file) (t .words) r = subst (λ (b : List ℕ). Reads (t .form) b (t .words) r) (o .1) q in
-    let u = filled (wordsOf (tripStep (t .form) h)) (t .words) r (x .back (t .words) r q′) d in
+    let u = filled ws (t .words) r (x .back (t .words) r q′) d in
     let a : bytesShort t ws ≡ false = le-ltb (length (t .bytes)) (length (fileOf (t .form) ws)) (omega arith) in
     let b : wordsShort t ws ≡ false = le-ltb (length (t .words)) (length ws) (omega arith) in
     record { number = sym (number-of t ws false false a b); stood = u .1 }

@@ -1,7 +1,7 @@
 -- The binary form (document 01, "Binary form (000)"): the file of an object, and the object of a file by the questions 10 to 15.
 -- Assumes nothing.
 use mathlib.Core.Bool.{Bool, not}
-use mathlib.Core.List.{List, [], _∷_, _++_, reverse, flatMap}
+use mathlib.Core.List.{List, [], _∷_, _++_, flatMap}
 use mathlib.Core.Option.{Option, none, some}
 use Prim.Native.Nat.{ℕ, _+_, _*_}
 use lib.ListN.{length, take, drop}
@@ -49,8 +49,8 @@ recordBytes (lineBlock l) =
     0x02 ∷ numberBytes 8 (l .first) ++ numberBytes 2 (length (l .addresses)) ++ flatMap (numberBytes 2) (l .addresses)
 -- "03: length 8, source."
 recordBytes (source s) = 0x03 ∷ numberBytes 8 (length s) ++ s
--- "04: address 2, length 8, name. Written high byte first, read low byte first."
-recordBytes (relocation r) = 0x04 ∷ reverse (numberBytes 2 (r .address)) ++ numberBytes 8 (length (r .name)) ++ r .name
+-- "04: address 2, length 8, name."; "relocation addresses in binary are written as all other addresses are" (P10)
+recordBytes (relocation r) = 0x04 ∷ numberBytes 2 (r .address) ++ numberBytes 8 (length (r .name)) ++ r .name
 
 -- "Written in this order, blocks and line blocks rising": with labels and relocations in the order in which they stand in the object
 unfoldable pub binaryFile : ObjectFile → List ℕ

@@ -47,15 +47,15 @@ header7 = 0x6F ∷ 0x62 ∷ 0x6A ∷ 0x21 ∷ 0x10 ∷ 0x00 ∷ 0x01 ∷ []
 abbrev pub zeros7 : List ℕ
 zeros7 = 0 ∷ 0 ∷ 0 ∷ 0 ∷ 0 ∷ 0 ∷ 0 ∷ []
 
--- the 77 bytes
-abbrev pub bytes77 : List ℕ
-bytes77 =
+-- the 77 bytes, with the two bytes of their relocation's address
+abbrev pub bytes77 : ℕ → ℕ → List ℕ
+bytes77 low high =
     header7
     ++ (0x00 ∷ 0x00 ∷ 0x30 ∷ 0x02 ∷ 0x00 ∷ 0xFF ∷ 0x34 ∷ 0x12 ∷ 0x00 ∷ 0x00 ∷ 0x00 ∷ [])
     ++ (0x01 ∷ 0x01 ∷ 0x30 ∷ 0x00 ∷ 0x05 ∷ [] ++ zeros7 ++ (0x01 ∷ []) ++ zeros7 ++ (0x41 ∷ []))
     ++ (0x02 ∷ 0x01 ∷ [] ++ zeros7 ++ (0x01 ∷ 0x00 ∷ 0x00 ∷ 0x30 ∷ []))
     ++ (0x03 ∷ 0x04 ∷ [] ++ zeros7 ++ (0x61 ∷ 0x0A ∷ 0x62 ∷ 0x0A ∷ []))
-    ++ (0x04 ∷ 0x01 ∷ 0x30 ∷ 0x01 ∷ [] ++ zeros7 ++ (0x41 ∷ []))
+    ++ (0x04 ∷ low ∷ high ∷ 0x01 ∷ [] ++ zeros7 ++ (0x41 ∷ []))
 
 -- the printing, 297 bytes; "the row of line 2 ends in a space"
 abbrev pub text297 : List ℕ
@@ -66,16 +66,20 @@ text297 =
     ++ ascii ".DEBUG\n# DEBUG SYMBOLS FOR LC3TOOLS\n\nLABEL | INDEX\nA     |     5\n====================\n"
     ++ ascii "LINE | ADDR | SOURCE\n   0 | ???? | a\\n\n   1 | 3000 | b\\n\n   2 | ???? | \n====================\n"
 
--- "these 18 words and 77 bytes": relocation x0130 is written high byte first, and read back as x3001
+-- "these 18 words and 77 bytes": "the marked 18 words now give 30 01 in the last record" (P10)
 abbrev pub words-to-bytes : Case
-words-to-bytes = writes-binary (words18 0xA0000130) (given bytes77)
+words-to-bytes = writes-binary (words18 0xA0000130) (given (bytes77 0x30 0x01))
 
-abbrev pub bytes-to-words : Case  -- "these .. 77 bytes", read
-bytes-to-words = reads-binary bytes77 (given (words18 0xA0003001))
+abbrev pub bytes-back : Case  -- what is written now is read back as itself
+bytes-back = reads-binary (bytes77 0x30 0x01) (given (words18 0xA0000130))
+
+-- "these .. 77 bytes", written earlier: "files written earlier keep reading as they did" (P10)
+abbrev pub bytes-to-words : Case
+bytes-to-words = reads-binary (bytes77 0x01 0x30) (given (words18 0xA0003001))
 
 -- "the printing"
 abbrev pub printing : Case
-printing = prints bytes77 text297
+printing = prints (bytes77 0x01 0x30) text297
 
 -- "header alone (empty holding)"
 abbrev pub header-alone : Case
@@ -198,7 +202,7 @@ number-cells =
 -- THE TABLE
 abbrev pub marked : List Case
 marked =
-    words-to-bytes ∷ bytes-to-words ∷ printing ∷ header-alone ∷ six-header-bytes ∷ equal-addresses-binary ∷ equal-addresses-text
+    words-to-bytes ∷ bytes-back ∷ bytes-to-words ∷ printing ∷ header-alone ∷ six-header-bytes ∷ equal-addresses-binary ∷ equal-addresses-text
     ∷ block-twice-binary ∷ block-twice-text ∷ flag-01 ∷ plus-0FF ∷ one-bar ∷ lines-1-and-3 ∷ lines-1-and-2 ∷ white-space ∷ just-enough
     ∷ one-word-less ∷ no-room ∷ plus-in-a-block-twice ∷ plus-without-bars ∷ plus-in-a-second-table ∷ plus-in-a-name
     ∷ plus-in-the-source ∷ number-cells ∷ []

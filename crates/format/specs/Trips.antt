@@ -1,15 +1,13 @@
 -- Trips (document 01, "Trips"), and demand 3 as one statement about every list of them. Assumes nothing.
 use mathlib.Core.Path.{_≡_}
-use mathlib.Core.Bool.{Bool, true, false, _&&_, _||_, not}
-use mathlib.Core.List.{List, [], _∷_, map}
-use Prim.Native.Nat.{ℕ, _+_, _*_, _/_, _%_, _^_, _<_}
+use mathlib.Core.Bool.{Bool, _||_}
+use mathlib.Core.List.{List, [], _∷_}
+use Prim.Native.Nat.{ℕ, _*_, _^_, _<_}
 use lib.ListN.{length, take}
-use lib.Dec.{ltb, eqb}
+use lib.Dec.{ltb}
 use Rattle.format.specs.Basics.{given, _>>=_, givenOr, if_then_else_, All}
-use Rattle.format.specs.Sorted.{sorted}
-use Rattle.format.specs.ObjectFile.{Relocation, ObjectFile, relocationKey}
-use Rattle.format.specs.Records.{withRelocations}
-use Rattle.format.specs.Words.{wordsOf, objectOf}
+use Rattle.format.specs.ObjectFile.{ObjectFile}
+use Rattle.format.specs.Words.{objectOf}
 use Rattle.format.specs.Fair.{Fair}
 use Rattle.format.specs.Binary.{binaryFile}
 use Rattle.format.specs.TextWriter.{textFile}
@@ -81,72 +79,31 @@ fileOf f ws = givenOr (objectOf ws >>= λ h. given (fileIn f h)) []
 unfoldable pub isShort : Trip → List ℕ → Bool
 isShort t ws = ltb (length (t .bytes)) (length (fileOf (t .form) ws)) || ltb (length (t .words)) (length ws)
 
--- refused exactly when a buffer is short, the number then 3 and the words as they stood
+-- refused exactly when a buffer is short, the number then 3; refused or not, the words stand as they stood
 pub record AsExpected (e : LogEntry) : Type 0 where
   pub number : e .number ≡ (if isShort (e .trip) (e .before) then 3 else 0)
-  pub stood : isShort (e .trip) (e .before) ≡ true → e .after ≡ e .before
-
--- "Byte-swapped: address 256a + b becomes 256b + a, with a and b from 0 to 255"
-abbrev pub byteSwapped : ℕ → ℕ
-byteSwapped x = x % 256 * 256 + x / 256
-
--- "and each name stays with its address"
-abbrev pub swapRelocation : Relocation → Relocation
-swapRelocation r = record { address = byteSwapped (r .address); name = r .name }
-
--- every relocation address byte-swapped. "Sorted anew: rising by the new addresses, which still all differ."
-unfoldable pub swapRelocations : ObjectFile → ObjectFile
-swapRelocations h = withRelocations h (sorted relocationKey (map swapRelocation (h .relocations)))
-
--- what an unrefused trip of each form makes of the object that stands
-abbrev pub tripStep : Form → ObjectFile → ObjectFile
-tripStep binary h = swapRelocations h
-tripStep text h = h
-
--- the steps of the unrefused trips of a log, one after the other
-unfoldable pub stepsOf : List LogEntry → ObjectFile → ObjectFile
-stepsOf [] h = h
-stepsOf (e ∷ es) h = stepsOf es (if eqb (e .number) 0 then tripStep (e .trip .form) h else h)
-
-abbrev pub isBinary : Form → Bool  -- a binary trip
-isBinary binary = true
-isBinary text = false
-
--- is the number of the binary trips not refused even?
-unfoldable pub evenBinaryTrips : List LogEntry → Bool
-evenBinaryTrips [] = true
-evenBinaryTrips (e ∷ es) = if isBinary (e .trip .form) && eqb (e .number) 0 then not (evenBinaryTrips es) else evenBinaryTrips es
+  pub stood : e .after ≡ e .before
 
 -- "an object is a slice of 32-bit words": a slice's 4-byte words take less than 2^63 bytes
 abbrev pub IsSlice : List ℕ → Type 0
 IsSlice ws = length ws * 4 < 2 ^ 63
 
+-- "A fair holding then comes back from every mixed list of trips as itself, with no odd or even" (P10): by the log of a list from the words
+-- ws and the words that stand last, each trip is as expected, and the first words stand
+abbrev pub ComesBack : List ℕ → List LogEntry → List ℕ → Type 0
+ComesBack ws es last = All AsExpected es × (last ≡ ws)
+
 -- DEMAND 3: for every fair object, every list of trips from it, every length and content of the buffers, and every outcome that the
--- promises of the four calls allow: each trip is as expected, and after the list there stands, word for word, the first object if the
--- binary trips not refused are even in number, else the first object with its relocations byte-swapped and sorted anew.
+-- promises of the four calls allow, it comes back, word for word
 abbrev pub Demand3 : Type 0
 Demand3 =
-    (ws : List ℕ) → IsSlice ws → (f : Fair ws) → (ts : List Trip) (es : List LogEntry) (last : List ℕ) → TripsMade ws ts es last
-    → All AsExpected es × (last ≡ (if evenBinaryTrips es then ws else wordsOf (swapRelocations (f .object))))
-
--- the same by steps: what stands is the fold of the unrefused trips' steps
-abbrev pub StepsStand : Type 0
-StepsStand =
-    (ws : List ℕ) → IsSlice ws → (f : Fair ws) → (ts : List Trip) (es : List LogEntry) (last : List ℕ) → TripsMade ws ts es last
-    → All AsExpected es × (last ≡ wordsOf (stepsOf es (f .object)))
+    (ws : List ℕ) → IsSlice ws → Fair ws → (ts : List Trip) (es : List LogEntry) (last : List ℕ) → TripsMade ws ts es last
+    → ComesBack ws es last
 
 -- demand 3 is about something: every list of trips from any words has an outcome that the promises allow
 abbrev pub OutcomesExist : Type 0
 OutcomesExist = (ws : List ℕ) (ts : List Trip) → (es : List LogEntry) × (last : List ℕ) × TripsMade ws ts es last
 
--- "Shut out are .. a second unrefused binary trip that hands the first one's holding back though byte-swapping and sorting anew change it"
--- (term c): an unrefused binary trip, and then a list with one more (an odd number of them), do not end in what stood after the first
-abbrev pub SecondTripDiffers : Type 0
-SecondTripDiffers =
-    (ws : List ℕ) → IsSlice ws → (f : Fair ws) → ¬ (wordsOf (swapRelocations (f .object)) ≡ ws)
-    → (t : Trip) (ts : List Trip) (e : LogEntry) (es : List LogEntry) (last : List ℕ) → TripsMade ws (t ∷ ts) (e ∷ es) last
-    → t .form ≡ binary → e .number ≡ 0 → evenBinaryTrips es ≡ false → ¬ (last ≡ e .after)
-
 unfoldable pub open-Trips : Unit {0}
-unfolding fileOf isShort swapRelocations stepsOf evenBinaryTrips
+unfolding fileOf isShort
 open-Trips = tt

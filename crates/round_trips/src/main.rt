@@ -40,9 +40,9 @@ const PAPER: [u32; 18] = [
     0xE1000041,
 ];
 
-// A block, a source, and two relocations whose order byte-swapping changes: 8 words; 51 bytes in
+// A block, a source, and two relocations, whose addresses would change places if their bytes did: 8 words; 51 bytes in
 // binary, 206 in text.
-const TURNED: [u32; 8] = [
+const RELOCATED: [u32; 8] = [
     0x00004000,
     0x2001F025,
     0x80000000,
@@ -193,9 +193,8 @@ fn show(object: &[u32], list: &[u16])
     print::words(&stands[..m]);
 }
 
-// Lists from document 01's words: refused trips alone, and an odd number of completed binary trips, with text trips and refused ones among
-// them.
-fn show_paper() {
+// Lists from document 01's words: none at all, and refused trips alone.
+fn show_paper_refused() {
     let paper = PAPER;
     let refused = [
         BINARY,
@@ -216,7 +215,16 @@ fn show_paper() {
     ];
     show(&paper, &refused[..0]);
     show(&paper, &refused);
-    let odd = [
+}
+
+// Lists from them with completed trips: one in binary, two in text, and both forms mixed, with refused ones among them.
+fn show_paper() {
+    let paper = PAPER;
+    let binary = [BINARY, 77, 18];
+    show(&paper, &binary);
+    let text = [TEXT, 1024, 18, TEXT, 297, 64];
+    show(&paper, &text);
+    let mixed = [
         TEXT,
         297,
         18,
@@ -232,38 +240,32 @@ fn show_paper() {
         TEXT,
         297,
         0,
-    ];
-    show(&paper, &odd);
-}
-
-// Lists from them that leave them as they were: an even number of completed binary trips, and none.
-fn show_paper_back() {
-    let paper = PAPER;
-    let even = [
         BINARY,
         1024,
         64,
-        TEXT,
-        296,
-        18,
-        TEXT,
-        297,
-        18,
-        BINARY,
-        77,
-        18,
     ];
-    show(&paper, &even);
-    let text = [TEXT, 1024, 18, TEXT, 297, 64];
-    show(&paper, &text);
+    show(&paper, &mixed);
 }
 
-// Lists from an object whose relocations change places.
-fn show_turned() {
-    let turned = TURNED;
-    let odd = [BINARY, 50, 64, BINARY, 51, 8, TEXT, 206, 8, BINARY, 51, 7];
-    show(&turned, &odd);
-    let even = [
+// Lists from an object with two relocations: three completed binary trips, and two with a text trip between them.
+fn show_relocated() {
+    let relocated = RELOCATED;
+    let binary = [
+        BINARY,
+        50,
+        64,
+        BINARY,
+        51,
+        8,
+        BINARY,
+        51,
+        8,
+        BINARY,
+        1024,
+        64,
+    ];
+    show(&relocated, &binary);
+    let mixed = [
         BINARY,
         51,
         64,
@@ -274,17 +276,20 @@ fn show_turned() {
         206,
         7,
         TEXT,
-        1024,
-        64,
+        206,
+        8,
+        BINARY,
+        51,
+        7,
         BINARY,
         1024,
         8,
     ];
-    show(&turned, &even);
+    show(&relocated, &mixed);
 }
 
 fn main() {
+    show_paper_refused();
     show_paper();
-    show_paper_back();
-    show_turned();
+    show_relocated();
 }

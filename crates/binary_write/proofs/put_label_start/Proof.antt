@@ -1,14 +1,13 @@
--- Kind, address, whether it is external, and source start. Assumes nothing.
+-- Kind and address, whether it is external, and source start. Assumes nothing.
 use borrow.Author.Needs.{needs}
 use native.Mathlib.Omega.{arith}
 use mathlib.Core.Path.{refl, sym}
 use mathlib.Core.List.{List, [], _∷_, _++_, append-nil}
 use Prim.Native.Nat.{ℕ}
-use lib.ListN.{set}
 use denote.Ref.{now}
 use Rattle.format.specs.Digits.{digitsOf}
 use Rattle.writing.proofs.WriteLaws.{too-short}
-use Rattle.writing.proofs.Parts.{State, Emits, after, begin, emit, emit-one, emitted, within, small, same}
+use Rattle.writing.proofs.Parts.{State, Emits, after, begin, emit, emitted, within, small, same}
 use Rattle.binary_write.proofs.put_label_start.Statement.{statement}
 use Rattle.binary_write.proofs.put_label_start.Tie as tie
 
@@ -25,30 +24,27 @@ module _ (s : tie.Start) where
   abbrev left1 : List ℕ
   left1 = (s .args .external ∷ []) ++ left2
 
-  abbrev left0 : List ℕ
-  left0 = digitsOf 8 2 (s .args .address) ++ left1
-
   abbrev whole : List ℕ
-  whole = 0x01 ∷ left0
+  whole = (0x01 ∷ digitsOf 8 2 (s .args .address)) ++ left1
 
 abbrev start0 : tie.Else1 → tie.Start
 start0 c = c .before .before
 
 abbrev state0 : tie.Else1 → State ℕ
-state0 c = record { at = 1; out = set (room (start0 c)) 0 0x01 }
+state0 c = record { at = 0; out = room (start0 c) }
 
-emits0 : (c : tie.Else1) → Emits (whole (start0 c)) (room (start0 c)) (left0 (start0 c)) (state0 c)
+emits0 : (c : tie.Else1) → Emits (whole (start0 c)) (room (start0 c)) (whole (start0 c)) (state0 c)
 unfolding digitsOf
-emits0 c = emit-one (begin (whole (start0 c)) (room (start0 c)) (c .if1 .left)) 0x01 (left0 (start0 c)) refl
+emits0 c = begin (whole (start0 c)) (room (start0 c)) (c .if1 .left)
 
-abbrev start1 : tie.After-put-u16-le → tie.Start
+abbrev start1 : tie.After-put-address → tie.Start
 start1 c = start0 (c .before .before)
 
-abbrev state1 : tie.After-put-u16-le → State ℕ
-state1 c = after (state0 (c .before .before)) (c .put-u16-le .result) (c .put-u16-le .last .0)
+abbrev state1 : tie.After-put-address → State ℕ
+state1 c = after (state0 (c .before .before)) (c .put-address .result) (c .put-address .last .0)
 
-emits1 : (c : tie.After-put-u16-le) → Emits (whole (start1 c)) (room (start1 c)) (left1 (start1 c)) (state1 c)
-emits1 c = emit (emits0 (c .before .before)) _ _ refl (c .put-u16-le .ensures)
+emits1 : (c : tie.After-put-address) → Emits (whole (start1 c)) (room (start1 c)) (left1 (start1 c)) (state1 c)
+emits1 c = emit (emits0 (c .before .before)) _ _ refl (c .put-address .ensures)
 
 abbrev start2 : tie.After-put-u8 → tie.Start
 start2 c = start1 (c .before .before .before .before)
@@ -77,7 +73,6 @@ put-label-start-spec =
     tie.close
     (tie.spec
     returns
-    (λ c. search needs)
     (λ c. within (emits0 c))
     (λ c. within (emits0 c))
     (λ c. search needs)

@@ -66,7 +66,7 @@ returns-5 c =
     put-as _ (relocation-start (ws k) (at k) (s k .args .end) (s k .pre)
     (kind-5 (ws k) (at k) (s k .args .end) (s k .pre) (no-kind k (t .before .before .before .if1 .left))
     (no-kind k (t .before .before .if2 .left)) (no-kind k (t .before .if3 .left)) (no-kind k (t .if4 .left)))) _ _
-    (p .put-relocation-start .ensures)
+    (p .put-address .ensures)
 
 pub put-start-spec : {M : Type 1} → statement M
 put-start-spec =
