@@ -1,5 +1,6 @@
 #!/bin/sh
-# mutants.sh [WORD]: puts faults into the second reading of document 01 one by one, in a copy. Does a short run find each?
+# mutants.sh [WORD]: puts faults into the second reading of document 01, and into how files are compared, one by one, in a copy. Does a
+# short run find each?
 # WORD: only the lines of the list that have it, as text_write. MUTANTS_DIR: the copy's folder.
 # A line of the list: a file of src/, and a sed expression. Wrong calls under test stand in tests/ (cargo test).
 # A fault that only changes the number of a refusal isn't in the list: the crate says yes or no, and the library's numbers show it.
@@ -8,6 +9,8 @@
 # The crate has no lending fee: faults in numbers/tariff.rs are found by objects whose fee is known (gen/tariff.rs).
 # The crate takes a `+` in numbers: faults about request P8 are found by texts whose answer is known (gen/plus.rs). These show a wrong number
 # of a number cell too, so that such faults are in the list.
+# Faults about request P10 are found by the crate, whose files are swapped in one place (records.rs); a swap that both a write and a read
+# have, by the rows of each, since trips come out alike.
 set -eu
 here=$(cd "$(dirname "$0")" && pwd)
 copy=${MUTANTS_DIR:-$here/target/mutants}
@@ -47,7 +50,12 @@ numbers/binary.rs@s/w\[0\] == 0xFF/w[0] != 0/
 numbers/binary.rs@s/head\[2\] != 0/head[2] == 1/
 numbers/binary.rs@s/w\[0\] >= w\[1\]/w[0] > w[1]/
 numbers/binary.rs@s/line_end(&w\[0\]) > u128::from(w\[1\].0)/line_end(\&w[0]) >= u128::from(w[1].0)/
-numbers/binary.rs@s/put(1, u64::from(addr >> 8));/put(1, u64::from(addr \& 0xFF));/
+numbers/binary.rs@/put(1, 4);/,/put(8/s/(\*addr).into()/addr.swap_bytes().into()/
+numbers/binary.rs@/put(1, 4);/,/put(8/s/(\*addr).into()/u64::from(addr >> 8)/
+numbers/binary.rs@/put(1, 0);/,/put(2, data/s/(\*addr).into()/addr.swap_bytes().into()/
+numbers/binary.rs@s/l.addr.into()/l.addr.swap_bytes().into()/
+numbers/binary.rs@s/p.relocs, addr(),/p.relocs, addr().swap_bytes(),/
+numbers/binary.rs@/put(1, 4);/,/put(8/s/(\*addr).into()/addr.swap_bytes().into()/;s/p.relocs, addr(),/p.relocs, addr().swap_bytes(),/
 numbers/binary.rs@s/p.relocs.clear();//
 numbers/binary.rs@s/.extend(body),/.clone_from(\&body.to_vec()),/
 numbers/binary.rs@s/matches!(kind, 1 | 3 | 4)/matches!(kind, 1 | 4)/
@@ -168,6 +176,26 @@ object.rs@s/starts_with(\['.', '#', '='\])/starts_with(['.', '#'])/
 object.rs@s/rising(addrs, |a, b| a <= b)/rising(addrs, |a, b| a < b)/
 object.rs@s/a.0 < b.0 \&\& line_end(a) <= u128/a.0 < b.0 \&\& line_end(a) < u128/
 object.rs@s/addr.swap_bytes()/*addr/
+object.rs@s/out.relocs.sort_by_key(|(a, _)| \*a);//
+records.rs@s/record\[0\] == 4/false/
+records.rs@s/record\[0\] == 4/record[0] == 1/
+records.rs@s/record\[0\] == 4/matches!(record[0], 1 | 4)/
+records.rs@s/record\[0\] == 4/matches!(record[0], 0 | 4)/
+records.rs@s/out.swap(at + 1, at + 2);/&&/
+records.rs@s/out.swap(at + 1, at + 2);/& break;/
+records.rs@s/at + 1, at + 2/at + 2, at + 3/
+records.rs@s/vec!\[r\[2\], r\[1\]\]/vec![r[1], r[2]]/
+records.rs@s/vec!\[r\[2\], r\[1\]\]/vec![r[2]]/
+records.rs@s/vec!\[r\[2\], r\[1\]\]/vec![]/
+records.rs@s/r\[20..\].to_vec()/vec![]/
+reference.rs@s/records::swap_relocations(g)/Some(g.clone())/
+reference.rs@s/records::swap_relocations(g)/&.and_then(|g| records::swap_relocations(\&g))/
+reference.rs@s/records::swap_relocations(&f).map_or/Some(\&f).map_or/
+reference.rs@s/Did::Gave(p.clone()) {/Did::Gave(swapped(p)) {/
+reference.rs@s/encode(&swapped(p))/encode(p)/
+reference.rs@s/let mut want = read_binary(&file)/let file = records::swap_relocations(\&file)?; &/
+under.rs@s/records::canonical(f)/records::swap_relocations(f).and_then(|f| records::canonical(\&f))/
+under.rs@s/if length > room/if length >= room/
 LIST
 echo "$found found, $missed missed"
 [ "$missed" = 0 ]

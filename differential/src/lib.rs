@@ -2,7 +2,7 @@
 //!
 //! - [`asm`]: the crate's own code, unchanged (build.sh copies it); [`asm::access`] reaches its private fields.
 //! - [`parts`], [`object`]: an object (document 01's "holding") as plain data, and as 32-bit words.
-//! - [`rust`]: the crate's calls with panics caught. [`records`]: binary files with their records in one order.
+//! - [`rust`]: the crate's calls with panics caught. [`records`]: binary files with their records in one order, and the crate's swapped.
 //! - [`numbers`]: document 01's checks, written from the document alone, and what each call gives.
 //! - [`reference`]: the answer that a call must give, from both.
 //! - [`gen`]: cases. [`under`]: the calls under test, compared. [`ffi`]: those of the Rattle library. [`table`]: what a run saw.

@@ -170,7 +170,7 @@ pub fn fair(p: &Parts) -> bool {
         && rising(&p.lines, |a, b| line_end(a) < u128::from(b.0))
 }
 
-/// Relocation addresses byte-swapped and sorted anew, as a binary trip leaves them.
+/// Relocation addresses byte-swapped and sorted anew: what a file reads as that has them high byte first.
 pub fn swapped(p: &Parts) -> Parts {
     let mut out = p.clone();
     for (addr, _) in &mut out.relocs {
@@ -178,4 +178,14 @@ pub fn swapped(p: &Parts) -> Parts {
     }
     out.relocs.sort_by_key(|(a, _)| *a);
     out
+}
+
+/// Whether the two address bytes of a relocation differ, so that their order shows.
+pub fn swap_changes(p: &Parts) -> bool {
+    p.relocs.iter().any(|(a, _)| a.swap_bytes() != *a)
+}
+
+/// Whether relocations have another order by their addresses byte-swapped.
+pub fn swap_reorders(p: &Parts) -> bool {
+    !rising(&p.relocs, |a, b| a.0.swap_bytes() < b.0.swap_bytes())
 }

@@ -1,4 +1,4 @@
-//! Binary files as document 01 compares them: label records by name, relocation records by address.
+//! Binary files as document 01 and request P10 compare them: label records by name, relocation records by address, low byte first.
 
 /// The records of a binary file that the writer made, without its header; None if it doesn't split.
 pub fn records(file: &[u8]) -> Option<Vec<&[u8]>> {
@@ -25,8 +25,21 @@ pub fn records(file: &[u8]) -> Option<Vec<&[u8]>> {
     Some(out)
 }
 
-/// The file with its label records by name bytes and its relocation records by (written) address;
-/// None if the kinds don't come as 0* 1* 2* 3? 4*.
+/// A file of the crate's, which writes relocation addresses high byte first, with the two bytes of each swapped; None if it doesn't split.
+/// Every comparison with a file that the crate wrote goes through this, and no other file does.
+pub fn swap_relocations(file: &[u8]) -> Option<Vec<u8>> {
+    let mut out = file.to_vec();
+    let mut at = 7;
+    for record in records(file)? {
+        if record[0] == 4 {
+            out.swap(at + 1, at + 2);
+        }
+        at += record.len();
+    }
+    Some(out)
+}
+
+/// The file with its label records by name bytes and its relocation records by address; None if the kinds don't come as 0* 1* 2* 3? 4*.
 pub fn canonical(file: &[u8]) -> Option<Vec<u8>> {
     let mut list = records(file)?;
     if !list.windows(2).all(|w| w[0][0] < w[1][0] || (w[0][0] == w[1][0] && w[0][0] != 3)) {
@@ -35,7 +48,7 @@ pub fn canonical(file: &[u8]) -> Option<Vec<u8>> {
     list.sort_by(|a, b| {
         let key = |r: &[u8]| match r[0] {
             1 => r[20..].to_vec(),
-            4 => r[1..3].to_vec(), // high byte first, so bytes order as addresses
+            4 => vec![r[2], r[1]], // the high byte decides first
             _ => vec![],
         };
         (a[0], key(a)).cmp(&(b[0], key(b)))

@@ -138,21 +138,22 @@ impl Object {
         Answer { number: 0, value: Some(()), excluded: None, crate_did: "gave", difference }
     }
 
-    /// Whether it is fair. The crate can't be asked; but both its trips must bring a fair object back, the binary one swapped.
+    /// Whether it is fair. The crate can't be asked; but both its trips must bring a fair object back as itself, with the relocations of its
+    /// binary file swapped.
     pub fn is_fair(&self) -> Answer<bool> {
         let Some((p, o)) = &self.well_formed else { return Answer::ill_formed() };
         let fair = fair(p);
         let mut difference = None;
         if fair {
             let binary = match rust::write_binary(o) {
-                Did::Gave(f) => rust::read_binary(&f),
+                Did::Gave(f) => records::swap_relocations(&f).map_or(Did::Refused, |f| rust::read_binary(&f)),
                 _ => Did::Panicked,
             };
             let text = match rust::write_text(o) {
                 Did::Gave(f) => rust::read_text(&f),
                 _ => Did::Panicked,
             };
-            if binary != Did::Gave(swapped(p)) {
+            if binary != Did::Gave(p.clone()) {
                 difference = Some(format!("a fair object's binary trip: {binary:?}"));
             } else if text != Did::Gave(p.clone()) && !wide(p) {
                 difference = Some(format!("a fair object's text trip: {text:?}"));
@@ -166,21 +167,34 @@ impl Object {
         fee(tariff::lending_fee(&self.words, self.parts(), member), None)
     }
 
-    /// The file with its records in the object's order.
+    /// The file with its records in the object's order; the crate's with its relocations swapped (request P10).
     pub fn write_binary(&self) -> Answer<Vec<u8>> {
         let Some((p, o)) = &self.well_formed else { return Answer::ill_formed() };
         let (paper, did) = (binary::write(p), rust::write_binary(o));
         let (value, agree) = match (&paper, &did) {
             (Outcome::Given(f), Did::Gave(g)) => {
-                let g = records::canonical(g);
+                let g = records::swap_relocations(g).and_then(|g| records::canonical(&g));
                 let agree = g.as_ref() == Some(f);
                 (g, agree)
             }
             (Outcome::Refused(2, Some(Excluded::Truncates)), Did::Gave(_)) => (None, true),
             _ => (None, false),
         };
-        let difference = (!agree).then(|| format!("document 01: {paper:?} | crate: {did:?}"));
+        let difference = (!agree).then(|| format!("document 01: {paper:?} | crate: {did:?}, compared as {value:?}"));
         Answer { number: paper.number(), value, excluded: paper.excluded(), crate_did: did.word(), difference }
+    }
+
+    /// The crate's file as it stands, relocation addresses high byte first, and what it must read as: files written earlier keep reading as
+    /// they did (request P10). Of a fair object that is known without a reading.
+    pub fn earlier_file(&self) -> Option<(Vec<u8>, Answer<Vec<u32>>)> {
+        let (p, o) = self.well_formed.as_ref()?;
+        let Did::Gave(file) = rust::write_binary(o) else { return None };
+        let mut want = read_binary(&file);
+        let known = fair(p).then(|| encode(&swapped(p)));
+        if known.is_some() && want.value != known {
+            want.difference.get_or_insert(format!("known: {known:?} | read: {:?}", want.value));
+        }
+        Some((file, want))
     }
 
     pub fn write_text(&self) -> Answer<Vec<u8>> {

@@ -2,9 +2,10 @@
 use std::collections::BTreeMap;
 
 use crate::gen::plus::Cell;
+use crate::gen::trips::{Format, List};
 use crate::numbers::query::Query;
 use crate::numbers::Excluded;
-use crate::object::{fair, line_end, swapped};
+use crate::object::{fair, line_end, swap_changes, swap_reorders};
 use crate::parts::Parts;
 
 /// The calls that are compared.
@@ -23,11 +24,15 @@ pub enum Call {
     /// The same with as much room as request P13 says is enough.
     BinaryRoom,
     BinaryWrite,
+    /// Binary reads and both lengths of files that the crate wrote, relocation addresses high byte first, and request P10's own cases.
+    Relocations,
     TextLength,
     TextRead,
     /// Text reads and both lengths, of texts with a `+` whose answer is known: request P8.
     PlusSign,
     TextWrite,
+    /// The writes and reads of lists of trips: request P10.
+    Trips,
     IsWhiteSpace,
     /// Request P14.
     LendingFee,
@@ -59,6 +64,8 @@ impl Call {
             Call::BinaryLength | Call::BinaryRoom | Call::HostBinary => &[0, 10, 11, 12, 13, 14, 15],
             Call::BinaryRead => &[0, 3, 10, 11, 12, 13, 14, 15],
             Call::BinaryWrite => &[0, 1, 2, 3],
+            Call::Relocations => &[0, 3, 14],
+            Call::Trips => &[0, 3],
             Call::TextLength | Call::HostText => &[0, 20, 21, 22, 23, 24, 25, 26, 27, 28, 29, 30, 31],
             Call::TextRead => &[0, 3, 20, 21, 22, 23, 24, 25, 26, 27, 28, 29, 30, 31],
             Call::PlusSign => &[0, 24, 26, 28],
@@ -95,6 +102,24 @@ struct Fees {
     halves: u64,
 }
 
+/// Lists of trips made at random. A trip that is made is one that isn't refused.
+#[derive(Default)]
+struct Trips {
+    lists: u64,
+    /// From objects with a relocation whose address bytes differ: lists with an odd number of binary trips made, and with an even one above 0.
+    odd: u64,
+    even: u64,
+    /// Lists with trips made in both forms.
+    mixed: u64,
+    /// Trips whose byte buffer is too short, and those whose word buffer is.
+    short_bytes: u64,
+    short_words: u64,
+}
+
+/// What objects have to have, so that the order of a relocation's address bytes shows.
+const CHANGED: &str = "a relocation whose address bytes differ";
+const REORDERED: &str = "relocations that a swap puts in another order";
+
 /// How many differences are told, and how many characters of an input or an answer.
 const TOLD: usize = 20;
 const CUT: usize = 1500;
@@ -116,6 +141,9 @@ pub struct Table {
     fees: Fees,
     /// Texts in which a `+` decides, by the kind of its cell.
     plus: BTreeMap<Cell, u64>,
+    /// Files as the crate writes them with a relocation whose address bytes differ, and those of them that read.
+    earlier_files: [u64; 2],
+    trips: Trips,
     pub differences: u64,
     told: Vec<String>,
 }
@@ -189,6 +217,36 @@ impl Table {
         *self.plus.entry(cell).or_default() += 1;
     }
 
+    /// Counts a file as the crate writes it, with a relocation whose address bytes differ, by whether it reads.
+    pub fn earlier_file(&mut self, reads: bool) {
+        let [files, read] = &mut self.earlier_files;
+        *files += 1;
+        *read += u64::from(reads);
+    }
+
+    /// Counts a list of trips, where lists are made at random.
+    pub fn trips(&mut self, list: &List) {
+        if !self.at_random {
+            return;
+        }
+        let seen = &mut self.trips;
+        seen.lists += 1;
+        let (mut binary, mut text) = (0, 0);
+        for trip in &list.trips {
+            match (list.fits(trip), trip.format) {
+                ((false, _), _) => seen.short_bytes += 1,
+                ((true, false), _) => seen.short_words += 1,
+                ((true, true), Format::Binary) => binary += 1,
+                ((true, true), Format::Text) => text += 1,
+            }
+        }
+        seen.mixed += u64::from(binary > 0 && text > 0);
+        if swap_changes(&list.parts) {
+            seen.odd += binary % 2;
+            seen.even += u64::from(binary > 0 && binary % 2 == 0);
+        }
+    }
+
     /// Counts what an object has that a run should meet.
     pub fn object(&mut self, p: &Parts) {
         let lines = p.source.as_ref().map_or(0, |s| s.iter().filter(|b| **b == b'\n').count() as u128 + 1);
@@ -200,7 +258,8 @@ impl Table {
                 fair(p) && !p.labels.is_empty() && !p.lines.is_empty() && !p.relocs.is_empty(),
             ),
             ("not fair", !fair(p)),
-            ("relocations changed by a swap", swapped(p) != *p),
+            (CHANGED, swap_changes(p)),
+            (REORDERED, swap_reorders(p)),
             ("an external label", p.labels.iter().any(|l| l.external)),
             ("a label that isn't ASCII", p.labels.iter().any(|l| !l.name.is_ascii())),
             ("labels or relocations, no source", p.has_symbols() && p.source.is_none()),
@@ -217,8 +276,8 @@ impl Table {
     }
 
     /// What keeps this run from showing much: a number not reached, under a quarter of a call's random cases accepted, request P13's
-    /// bound not met, no half a cent of request P14 asked, or a kind of number cell in which no `+` decides. At odd lengths only the header
-    /// alone meets the bound.
+    /// bound not met, no half a cent of request P14 asked, a kind of number cell in which no `+` decides, no object on which the order of a
+    /// relocation's address bytes shows, or a kind of list of trips that is missing. At odd lengths only the header alone meets the bound.
     pub fn gaps(&self) -> Vec<String> {
         let mut out = vec![];
         for (call, row) in self.random.iter().filter(|(_, row)| !row.numbers.is_empty()) {
@@ -241,6 +300,10 @@ impl Table {
         for cell in Cell::ALL.iter().filter(|cell| !self.plus.contains_key(cell)) {
             out.push(format!("PlusSign: no text in which a `+` decides in {cell:?}"));
         }
+        for name in [CHANGED, REORDERED].iter().filter(|name| self.objects.get(*name).is_none_or(|k| *k == 0)) {
+            out.push(format!("BinaryWrite: no object with {name}"));
+        }
+        out.extend(self.trips.gaps());
         out
     }
 
@@ -270,6 +333,7 @@ impl Table {
         self.print_rooms();
         self.print_fees();
         self.print_plus();
+        self.print_relocations();
         println!("\ndifferences: {}", self.differences);
         for line in &self.told {
             println!("  {line}");
@@ -302,6 +366,15 @@ impl Table {
         println!("\ntexts in which a `+` decides, by its cell: {}", kinds.join(", "));
     }
 
+    fn print_relocations(&self) {
+        let [files, read] = self.earlier_files;
+        println!("\nfiles as the crate writes them, high byte first, with {CHANGED}, and those that read: {files}, {read}");
+        if self.trips.lists > 0 {
+            println!("lists of trips at random: {}", self.trips.lists);
+            self.trips.kinds().iter().for_each(|(name, k)| println!("  {name}: {k}"));
+        }
+    }
+
     fn print_rooms(&self) {
         let [even, odd] = self.rooms;
         let (files, met) = (even.files + odd.files, even.met + odd.met);
@@ -309,6 +382,24 @@ impl Table {
         for (name, rooms) in LENGTHS.iter().zip(&self.rooms) {
             println!("  of {name} length: {}, {}", rooms.files, rooms.met);
         }
+    }
+}
+
+impl Trips {
+    fn kinds(&self) -> [(&'static str, u64); 5] {
+        [
+            ("list with an odd number of binary trips made, the bytes of a relocation's address differing", self.odd),
+            ("list with an even number of them above 0, likewise", self.even),
+            ("list with trips made in both forms", self.mixed),
+            ("trip whose byte buffer is too short", self.short_bytes),
+            ("trip whose word buffer alone is too short", self.short_words),
+        ]
+    }
+
+    /// The kinds that are missing; none where no list was made.
+    fn gaps(&self) -> Vec<String> {
+        let missing = self.kinds().into_iter().filter(|(_, k)| self.lists > 0 && *k == 0);
+        missing.map(|(name, _)| format!("Trips: no {name}")).collect()
     }
 }
 

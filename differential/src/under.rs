@@ -2,6 +2,7 @@
 use crate::gen;
 use crate::gen::plus;
 use crate::gen::tariff::Known;
+use crate::gen::trips::{self, Format, Trip};
 use crate::gen::Depth;
 use crate::hex;
 use crate::marked::{self, Input};
@@ -9,7 +10,7 @@ use crate::numbers::query::{Query, Values};
 use crate::numbers::room;
 use crate::numbers::tariff::{self, Fee};
 use crate::numbers::Excluded;
-use crate::object::encode;
+use crate::object::{encode, swap_changes};
 use crate::prng::Prng;
 use crate::records;
 use crate::reference::{self, Answer, Object};
@@ -111,6 +112,15 @@ fn rooms<T>(value: &Option<Vec<T>>, some: usize) -> Vec<usize> {
     }
 }
 
+/// What a call tells that fills so much of so much room.
+fn fitting(length: usize, room: usize) -> Filled {
+    if length > room {
+        (3, 0)
+    } else {
+        (0, length)
+    }
+}
+
 struct Run<'a> {
     calls: &'a Calls,
     table: Table,
@@ -125,6 +135,9 @@ struct Run<'a> {
     tariff: Prng,
     /// For request P8 alone, texts and buffers, likewise.
     plus: Prng,
+    /// For request P10 alone, likewise: buffers for binary files about relocations, and lists of trips.
+    relocations: Prng,
+    trips: Prng,
 }
 
 impl Run<'_> {
@@ -163,10 +176,18 @@ impl Run<'_> {
         ask: &dyn Fn(&mut [T]) -> Filled,
         order: &dyn Fn(&[T]) -> Vec<T>,
     ) {
-        let some = 1 + self.buffers.below(40);
+        let some = 1 + self.buffers_of(call).below(40);
         for room in rooms(&want.value, some) {
-            let before = before(room, self.buffers.next());
+            let before = before(room, self.buffers_of(call).next());
             self.fills_one(call, input, want, ask, order, before);
+        }
+    }
+
+    /// Where a row's buffers come from: that of request P10 has its own, so that those of the other rows are what they are without it.
+    fn buffers_of(&mut self, call: Call) -> &mut Prng {
+        match call {
+            Call::Relocations => &mut self.relocations,
+            _ => &mut self.buffers,
         }
     }
 
@@ -181,25 +202,36 @@ impl Run<'_> {
         before: Vec<T>,
     ) {
         let room = before.len() - 2 * AROUND;
-        let mut after = before.clone();
-        let got = ask(&mut after[AROUND..AROUND + room]);
-        let filled: &[T] = match &want.value {
-            Some(v) if v.len() <= room => v,
-            _ => &[],
-        };
         let told = match &want.value {
             None => (want.number, 0),
-            Some(v) if v.len() > room => (3, 0),
-            Some(v) => (0, v.len()),
+            Some(v) => fitting(v.len(), room),
         };
-        self.call(call, &|| format!("{} with room for {room}", input()), told.0, told, got);
-        let end = AROUND + filled.len();
-        if got == told && !filled.is_empty() && order(&after[AROUND..end]) != filled {
+        let filled = self.lends(call, input, told, ask, before).filter(|filled| !filled.is_empty());
+        if filled.is_some_and(|filled| want.value != Some(order(&filled))) {
             self.table.differs(call, input, &|| format!("room for {room}: what was filled"));
         }
+    }
+
+    /// A filling call, with one buffer, by its number and length alone, and what is left alone. What it filled, where it told these.
+    fn lends<T: Element>(
+        &mut self,
+        call: Call,
+        input: &dyn Fn() -> String,
+        told: Filled,
+        ask: &dyn Fn(&mut [T]) -> Filled,
+        before: Vec<T>,
+    ) -> Option<Vec<T>> {
+        let room = before.len() - 2 * AROUND;
+        let mut after = before.clone();
+        let got = ask(&mut after[AROUND..AROUND + room]);
+        self.call(call, &|| format!("{} with room for {room}", input()), told.0, told, got);
+        let end = AROUND + told.1;
         if after[..AROUND] != before[..AROUND] || after[end..] != before[end..] {
             self.table.differs(call, input, &|| format!("room for {room}: what was to be left alone"));
         }
+        after.truncate(end);
+        after.drain(..AROUND);
+        (got == told).then_some(after)
     }
 
     /// A length without a buffer.
@@ -285,15 +317,101 @@ impl Run<'_> {
         if let Some(cell) = known.decides.filter(|_| want.excluded == Some(Excluded::PlusSign)) {
             self.table.plus(cell);
         }
-        let told = (want.number, want.value.as_ref().map_or(0, Vec::len));
-        if let Some(host) = self.calls.host {
-            self.call(call, &|| input("the host's length"), told.0, told, (host.text_length)(file));
-        }
+        self.lengths(call, &input, file, &want, self.calls.host.map(|host| host.text_length), self.calls.text);
         let Some(form) = self.calls.text else { return };
-        self.call(call, &|| input("the length"), told.0, told, (form.length)(file));
         for room in rooms(&want.value, some) {
             self.fills_one(call, &|| input("a read"), &want, &|out| (form.read)(file, out), &|w| w.to_vec(), before(room, salt));
         }
+    }
+
+    /// Both lengths of a file, where they are linked, in a row that has reads too.
+    fn lengths(
+        &mut self,
+        call: Call,
+        input: &dyn Fn(&str) -> String,
+        file: &[u8],
+        want: &Answer<Vec<u32>>,
+        host: Option<fn(&[u8]) -> Filled>,
+        form: Option<Form>,
+    ) {
+        let told = (want.number, want.value.as_ref().map_or(0, Vec::len));
+        for (name, ask) in [("the host's length", host), ("the length", form.map(|form| form.length))] {
+            if let Some(ask) = ask {
+                self.call(call, &|| input(name), told.0, told, ask(file));
+            }
+        }
+    }
+
+    /// A binary file about request P10, counted by itself, so that the other calls' cases are what they are without it.
+    fn relocation_file(&mut self, file: &[u8], want: &Answer<Vec<u32>>) {
+        let call = Call::Relocations;
+        let input = |asked: &str| format!("{asked} of {}", hex::bytes(file));
+        self.case(call, &|| input("the answer"), want);
+        self.lengths(call, &input, file, want, self.calls.host.map(|host| host.binary_length), self.calls.binary);
+        if let Some(form) = self.calls.binary {
+            self.fills(call, &|| input("a read"), want, &|out| (form.read)(file, out), &|w| w.to_vec());
+        }
+    }
+
+    /// The crate's file of an object, as the crate wrote it, where that shows: high byte first, as files written earlier.
+    fn earlier_file(&mut self, object: &Object) {
+        if !object.parts().is_some_and(swap_changes) {
+            return;
+        }
+        if let Some((file, want)) = object.earlier_file() {
+            self.table.earlier_file(want.number == 0);
+            self.relocation_file(&file, &want);
+        }
+    }
+
+    /// Request P10's own cases, counted by themselves likewise.
+    fn relocations(&mut self) {
+        for (_, input, _) in marked::relocations() {
+            match input {
+                Input::ReadBinary(file) => self.relocation_file(&file, &reference::read_binary(&file)),
+                Input::WriteBinary(words) => self.write_binary(Call::Relocations, &Object::new(words)),
+                Input::ReadText(_) | Input::WriteText(_) => unreachable!("the request is about binary files"),
+            }
+        }
+    }
+
+    /// A list of trips, each from what the one before has left standing. Since the beginning of a list is a list, the first words must stand
+    /// after each trip; a difference ends the list.
+    fn list_of_trips(&mut self, list: &trips::List) {
+        self.table.case(Call::Trips, None);
+        let (Some(binary), Some(text)) = (self.calls.binary, self.calls.text) else { return };
+        self.table.trips(list);
+        let mut stands = list.words.clone();
+        for (i, trip) in list.trips.iter().enumerate() {
+            let form = match trip.format {
+                Format::Binary => binary,
+                Format::Text => text,
+            };
+            let input = |asked: &str| format!("{} {:?}: trip {i}, {asked}", hex::words(&list.words), list.trips);
+            let Some(after) = self.trip(form, list, trip, &stands, &input) else { return };
+            if after != list.words {
+                self.table.differs(Call::Trips, &|| input("what then stands"), &|| hex::words(&after));
+                return;
+            }
+            stands = after;
+        }
+    }
+
+    /// One trip of a list, refused by 3 just where a buffer is too short. What then stands; nothing where a call told something else.
+    fn trip(&mut self, form: Form, list: &trips::List, trip: &Trip, stands: &[u32], input: &dyn Fn(&str) -> String) -> Option<Vec<u32>> {
+        let call = Call::Trips;
+        let length = list.file_length(trip.format);
+        let room = trip.bytes.length(length);
+        let lent = before(room, trip.bytes.salt);
+        let file = self.lends(call, &|| input("the write"), fitting(length, room), &|out| (form.write)(stands, out), lent)?;
+        if room < length {
+            return Some(stands.to_vec());
+        }
+        let length = stands.len();
+        let room = trip.words.length(length);
+        let lent = before(room, trip.words.salt);
+        let words = self.lends(call, &|| input("the read"), fitting(length, room), &|out| (form.read)(&file, out), lent)?;
+        Some(if room < length { stands.to_vec() } else { words })
     }
 
     /// The host's `get_pos_pair`, on the bytes of sources and of files.
@@ -313,7 +431,7 @@ impl Run<'_> {
             self.table.object(p);
         }
         self.check_and_fair(&object);
-        self.write_binary(&object);
+        self.write_binary(Call::BinaryWrite, &object);
         self.write_text(&object);
         for q in gen::query::one_of_each(&mut self.rng, object.parts()) {
             self.query(&object, q);
@@ -322,6 +440,7 @@ impl Run<'_> {
             self.position(source);
         }
         self.lending_fees(&object);
+        self.earlier_file(&object);
     }
 
     /// Request P14 of any object, for others and for members.
@@ -377,13 +496,13 @@ impl Run<'_> {
     }
 
     /// Binary files are compared with their records in the object's order.
-    fn write_binary(&mut self, object: &Object) {
+    fn write_binary(&mut self, call: Call, object: &Object) {
         let input = || hex::words(&object.words);
         let in_order = |f: &[u8]| records::canonical(f).unwrap_or_else(|| f.to_vec());
         let want = object.write_binary();
-        self.case(Call::BinaryWrite, &input, &want);
+        self.case(call, &input, &want);
         if let Some(form) = self.calls.binary {
-            self.fills(Call::BinaryWrite, &input, &want, &|out| (form.write)(&object.words, out), &in_order);
+            self.fills(call, &input, &want, &|out| (form.write)(&object.words, out), &in_order);
         }
     }
 
@@ -448,12 +567,12 @@ impl Run<'_> {
         };
     }
 
-    /// Objects too long for a binary file, inputs with many records, known fees, known texts with a `+`; the cases marked M, short inputs
-    /// in full, the large cases, numbers.
+    /// Objects too long for a binary file, inputs with many records, known fees, known texts with a `+`, request P10's cases, lists of trips;
+    /// the cases marked M, short inputs in full, the large cases, numbers.
     fn fixed(&mut self, plan: &Plan) {
         for _ in 0..plan.long {
             let p = gen::edges::long_line_block(&mut self.rng);
-            self.write_binary(&Object::new(encode(&p)));
+            self.write_binary(Call::BinaryWrite, &Object::new(encode(&p)));
         }
         for _ in 0..plan.many {
             let file = gen::many::binary(&mut self.rng);
@@ -462,9 +581,13 @@ impl Run<'_> {
             self.text_file(&file);
             let words = gen::many::object(&mut self.rng);
             self.object(words);
+            let list = trips::many(&mut self.trips);
+            self.list_of_trips(&list);
         }
         gen::tariff::known().iter().for_each(|known| self.known_fees(known, Some(tariff::ask)));
         plus::known().iter().for_each(|known| self.plus_sign(known));
+        self.relocations();
+        trips::fixed().iter().for_each(|list| self.list_of_trips(list));
         if plan.depth == Depth::None {
             return;
         }
@@ -504,6 +627,8 @@ impl Run<'_> {
         self.lending_fees(&Object::new(words));
         let known = plus::case(&mut self.plus);
         self.plus_sign(&known);
+        let list = trips::case(&mut self.trips);
+        self.list_of_trips(&list);
     }
 }
 
@@ -511,7 +636,8 @@ pub fn run(calls: &Calls, plan: &Plan) -> Table {
     let (rng, buffers) = (Prng::new(plan.seed), Prng::new(!plan.seed));
     let (white, room) = (Prng::new(plan.seed.reverse_bits()), Prng::new(!plan.seed.reverse_bits()));
     let (tariff, plus) = (Prng::new(plan.seed.rotate_left(32)), Prng::new(!plan.seed.rotate_left(32)));
-    let mut run = Run { calls, table: Table::default(), rng, buffers, white, room, tariff, plus };
+    let (relocations, trips) = (Prng::new(plan.seed.swap_bytes()), Prng::new(!plan.seed.swap_bytes()));
+    let mut run = Run { calls, table: Table::default(), rng, buffers, white, room, tariff, plus, relocations, trips };
     run.fixed(plan);
     run.table.at_random = true;
     for _ in 0..plan.cases {

@@ -6,12 +6,13 @@
 //! Lending fees (request P14), after them: `l INPUT ARG NUMBER FEE BASE WORDS LABELS`, likewise. ARG is 1 for a member, else 0.
 //!
 //! Files: a line is `CALL INPUT NUMBER OUTPUT`. CALL is B binary read, b binary write, T text read, t text write. INPUT and OUTPUT are
-//! bytes, 2 digits each, or words; a refusal has no OUTPUT. A binary file that is written has its records in the object's order.
+//! bytes, 2 digits each, or words; a refusal has no OUTPUT. A binary file that is written has its records in the object's order, relocation
+//! addresses low byte first (request P10).
 use std::collections::{BTreeMap, BTreeSet};
 use std::ops::RangeInclusive;
 
 use crate::gen;
-use crate::marked;
+use crate::marked::{self, Input};
 use crate::numbers::query::{Query, Values};
 use crate::numbers::tariff::{self, Fee};
 use crate::object::encode;
@@ -287,9 +288,16 @@ fn room_files() -> [Vec<u8>; 4] {
 pub fn binary() {
     files(('B', gen::binary::case, reference::read_binary), ('b', Object::write_binary));
     let mut r = Prng::new(9);
-    for file in room_files() {
+    // About P10: what document 01's object gives now, and the request's own cases.
+    let example = Input::WriteBinary(marked::example().0);
+    let relocations = marked::relocations().into_iter().map(|(_, input, _)| input);
+    for input in room_files().map(Input::ReadBinary).into_iter().chain([example]).chain(relocations) {
         let mut one = Kept::default();
-        one.fills(&mut r, 'B', (&file, bytes), &reference::read_binary(&file), words);
+        match input {
+            Input::ReadBinary(file) => one.fills(&mut r, 'B', (&file, bytes), &reference::read_binary(&file), words),
+            Input::WriteBinary(object) => one.fills(&mut r, 'b', (&object, words), &Object::new(object.clone()).write_binary(), bytes),
+            Input::ReadText(_) | Input::WriteText(_) => unreachable!("this list has binary files"),
+        }
         one.print();
     }
 }

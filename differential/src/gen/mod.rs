@@ -1,4 +1,5 @@
-//! Cases: random well formed objects, the files of such, damaged copies, texts with a `+`, short inputs in full, and numbers.
+//! Cases: random well formed objects, the files of such, damaged copies, texts with a `+`, lists of trips, short inputs in full, and
+//! numbers.
 
 pub mod binary;
 pub mod edges;
@@ -10,6 +11,7 @@ pub mod room;
 pub mod short;
 pub mod tariff;
 pub mod text;
+pub mod trips;
 pub mod white;
 
 use crate::prng::Prng;

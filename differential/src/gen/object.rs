@@ -23,7 +23,7 @@ const PIECES: &[&str] = &[
     "#", "=", ".", "~", "\u{10FFFF}", "\u{FFFF}",
 ];
 
-fn name(r: &mut Prng, fair: bool) -> Vec<u8> {
+pub fn name(r: &mut Prng, fair: bool) -> Vec<u8> {
     if !fair && r.once_in(3) {
         return r.pick(WILD_NAMES).as_bytes().to_vec();
     }

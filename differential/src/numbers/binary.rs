@@ -1,4 +1,4 @@
-//! Document 01, "Binary form".
+//! Document 01, "Binary form", with request P10: relocation addresses are written low byte first, as all other addresses are.
 use super::utf8::is_utf8;
 use super::{Excluded, Outcome};
 use crate::object::line_end;
@@ -121,8 +121,7 @@ pub fn write(p: &Parts) -> Outcome<Vec<u8>> {
     }
     for (addr, name) in &p.relocs {
         put(1, 4);
-        put(1, u64::from(addr >> 8));
-        put(1, u64::from(addr & 0xFF));
+        put(2, (*addr).into());
         put(8, name.len() as u64);
         name.iter().for_each(|b| put(1, (*b).into()));
     }
