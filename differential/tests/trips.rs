@@ -15,7 +15,7 @@ use lc3_differential::table::Table;
 use lc3_differential::under::{paper, run, Calls, Filled, Form, Host, Plan};
 use lc3_differential::{hex, marked, records, rust};
 
-const FEW: Plan = Plan { seed: 5, cases: 2000, depth: Depth::None, long: 0, many: 0 };
+const FEW: Plan = Plan { seed: 5, cases: 800, depth: Depth::None, long: 0, many: 0 };
 
 const BINARY: Form = paper::CALLS.binary.unwrap();
 const TEXT: Form = paper::CALLS.text.unwrap();
