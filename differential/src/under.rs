@@ -378,8 +378,8 @@ impl Run<'_> {
     /// A list of trips, each from what the one before has left standing. Since the beginning of a list is a list, the first words must stand
     /// after each trip; a difference ends the list.
     fn list_of_trips(&mut self, list: &trips::List) {
-        self.table.case(Call::Trips, None);
         let (Some(binary), Some(text)) = (self.calls.binary, self.calls.text) else { return };
+        self.table.case(Call::Trips, None);
         self.table.trips(list);
         let mut stands = list.words.clone();
         for (i, trip) in list.trips.iter().enumerate() {
@@ -567,6 +567,18 @@ impl Run<'_> {
         };
     }
 
+    /// A file of each form, an object and a list of trips, with thousands of records.
+    fn many(&mut self) {
+        let file = gen::many::binary(&mut self.rng);
+        self.binary_file(&file);
+        let file = gen::many::text(&mut self.rng);
+        self.text_file(&file);
+        let words = gen::many::object(&mut self.rng);
+        self.object(words);
+        let list = trips::many(&mut self.trips);
+        self.list_of_trips(&list);
+    }
+
     /// Objects too long for a binary file, inputs with many records, known fees, known texts with a `+`, request P10's cases, lists of trips;
     /// the cases marked M, short inputs in full, the large cases, numbers.
     fn fixed(&mut self, plan: &Plan) {
@@ -574,16 +586,7 @@ impl Run<'_> {
             let p = gen::edges::long_line_block(&mut self.rng);
             self.write_binary(Call::BinaryWrite, &Object::new(encode(&p)));
         }
-        for _ in 0..plan.many {
-            let file = gen::many::binary(&mut self.rng);
-            self.binary_file(&file);
-            let file = gen::many::text(&mut self.rng);
-            self.text_file(&file);
-            let words = gen::many::object(&mut self.rng);
-            self.object(words);
-            let list = trips::many(&mut self.trips);
-            self.list_of_trips(&list);
-        }
+        (0..plan.many).for_each(|_| self.many());
         gen::tariff::known().iter().for_each(|known| self.known_fees(known, Some(tariff::ask)));
         plus::known().iter().for_each(|known| self.plus_sign(known));
         self.relocations();

@@ -64,12 +64,23 @@ fn read_changed(f: &[u8], out: &mut [u32], change: fn(&mut Parts)) -> Filled {
     fill(changed, out)
 }
 
+fn swap_one((addr, _): &mut (u16, Vec<u8>)) {
+    *addr = addr.swap_bytes();
+}
 /// Relocation addresses byte-swapped, in the order in which they stood.
 fn swap(p: &mut Parts) {
-    p.relocs.iter_mut().for_each(|(addr, _)| *addr = addr.swap_bytes());
+    p.relocs.iter_mut().for_each(swap_one);
 }
 fn swap_and_sort(p: &mut Parts) {
     *p = swapped(p);
+}
+
+/// Swaps where an address is in no block, and is in one after the swap: as if the file had been written earlier.
+fn swap_back(p: &mut Parts) {
+    let within = |addr: u16| p.blocks.iter().any(|(at, data)| usize::from(addr.wrapping_sub(*at)) < data.len());
+    if p.relocs.iter().any(|(addr, _)| !within(*addr) && within(addr.swap_bytes())) {
+        swap_and_sort(p);
+    }
 }
 
 /// Each relocation gets the next one's name, and the last one the first's.
@@ -96,6 +107,14 @@ fn read_relocations(f: &[u8], out: &mut [u32], change: fn(&mut Parts, Vec<(u16, 
         encode(&p)
     });
     fill(changed, out)
+}
+
+/// Changes a buffer that a call has refused to fill.
+fn touched<T: Default>(r: Filled, out: &mut [T]) -> Filled {
+    if r.0 == 3 && !out.is_empty() {
+        out[0] = T::default();
+    }
+    r
 }
 
 fn one_less(f: &[u8], (number, length): Filled) -> Filled {
@@ -139,178 +158,80 @@ fn high_byte_first() -> Vec<Wrong> {
 
 fn wrong_writers() -> Vec<Wrong> {
     let found = &[BinaryWrite, Trips];
+    let others: Write = |w, out| write_changed(w, out, |p| p.relocs.iter_mut().skip(1).for_each(swap_one));
+    let second: Write = |w, out| write_changed(w, out, |p| p.relocs.iter_mut().skip(1).take(1).for_each(swap_one));
+    let labels: Write = |w, out| write_changed(w, out, |p| p.labels.iter_mut().for_each(|l| l.addr = l.addr.swap_bytes()));
+    let smaller: Write = |w, out| write_changed(w, out, |p| p.relocs.iter_mut().for_each(|(addr, _)| *addr = addr.swap_bytes().max(*addr)));
+    let both: Write = |w, out| {
+        write_changed(w, out, |p| {
+            let swapped: Vec<_> = p.relocs.iter().map(|(addr, name)| (addr.swap_bytes(), name.clone())).collect();
+            p.relocs.extend(swapped);
+        })
+    };
     vec![
-        (
-            "only the first relocation low byte first",
-            writes(|w, out| write_changed(w, out, |p| p.relocs.iter_mut().skip(1).for_each(|(addr, _)| *addr = addr.swap_bytes()))),
-            found,
-            &[],
-        ),
-        (
-            "only the second relocation high byte first",
-            writes(|w, out| write_changed(w, out, |p| p.relocs.iter_mut().skip(1).take(1).for_each(|(addr, _)| *addr = addr.swap_bytes()))),
-            found,
-            &[],
-        ),
-        (
-            "labels high byte first",
-            writes(|w, out| write_changed(w, out, |p| p.labels.iter_mut().for_each(|l| l.addr = l.addr.swap_bytes()))),
-            found,
-            &[Relocations],
-        ),
-        (
-            "the smaller byte first",
-            writes(|w, out| write_changed(w, out, |p| p.relocs.iter_mut().for_each(|(addr, _)| *addr = addr.swap_bytes().max(*addr)))),
-            found,
-            &[],
-        ),
+        ("only the first relocation low byte first", writes(others), found, &[]),
+        ("only the second relocation high byte first", writes(second), found, &[]),
+        ("labels high byte first", writes(labels), found, &[Relocations]),
+        ("the smaller byte first", writes(smaller), found, &[]),
+        ("each relocation in both orders", writes(both), found, &[]),
         ("a name at another's address", writes(|w, out| write_changed(w, out, move_names)), found, &[]),
         ("the last relocation left out", writes(|w, out| write_changed(w, out, |p| drop(p.relocs.pop()))), found, &[]),
-        (
-            "a relocation in both orders",
-            writes(|w, out| {
-                write_changed(w, out, |p| {
-                    let both = p.relocs.clone().into_iter().flat_map(|(addr, name)| [(addr, name.clone()), (addr.swap_bytes(), name)]);
-                    p.relocs = both.collect();
-                })
-            }),
-            found,
-            &[],
-        ),
     ]
 }
 
 fn wrong_readers() -> Vec<Wrong> {
+    let in_file_order: Read = |f, out| read_relocations(f, out, |p, in_file| p.relocs = if p.relocs.is_empty() { vec![] } else { in_file });
+    let kept: Read =
+        |f, out| read_relocations(f, out, |p, in_file| in_file.into_iter().for_each(|(addr, name)| Parts::put(&mut p.relocs, addr, name)));
+    let in_turn: Read = |f, out| {
+        READS.set(READS.get() + 1);
+        match READS.get() % 2 {
+            0 => read_changed(f, out, swap_and_sort),
+            _ => (BINARY.read)(f, out),
+        }
+    };
     vec![
         ("swapped and not sorted anew", reads(|f, out| read_changed(f, out, swap)), &[BinaryRead, Relocations, Trips], &[]),
         // The numbers' writer has the object's order, so that its trips come out alike.
-        (
-            "in the order of the file",
-            reads(|f, out| read_relocations(f, out, |p, in_file| p.relocs = if p.relocs.is_empty() { vec![] } else { in_file })),
-            &[BinaryRead, Relocations],
-            &[Trips],
-        ),
-        (
-            "a relocation alone kept",
-            reads(|f, out| {
-                read_relocations(f, out, |p, in_file| in_file.into_iter().for_each(|(addr, name)| Parts::put(&mut p.relocs, addr, name)))
-            }),
-            &[BinaryRead, Relocations],
-            &[Trips],
-        ),
-        (
-            "files written earlier swapped back, known by an address in no block",
-            reads(|f, out| {
-                read_changed(f, out, |p| {
-                    let known = p.clone();
-                    let within = |addr: u16| known.blocks.iter().any(|(at, data)| usize::from(addr.wrapping_sub(*at)) < data.len());
-                    if known.relocs.iter().any(|(addr, _)| !within(*addr) && within(addr.swap_bytes())) {
-                        swap_and_sort(p);
-                    }
-                })
-            }),
-            &[Relocations, Trips],
-            &[],
-        ),
+        ("relocations in the order of the file", reads(in_file_order), &[BinaryRead, Relocations], &[Trips]),
+        ("a relocation alone kept", reads(kept), &[BinaryRead, Relocations], &[Trips]),
+        ("files taken for earlier ones swapped back", reads(|f, out| read_changed(f, out, swap_back)), &[Relocations, Trips], &[]),
         ("relocations dropped", reads(|f, out| read_changed(f, out, |p| p.relocs.clear())), &[BinaryRead, Relocations, Trips], &[]),
         ("a name at another's address", reads(|f, out| read_changed(f, out, move_names)), &[BinaryRead, Relocations, Trips], &[]),
-        (
-            "each second read swapped: a second trip hands back something else",
-            reads(|f, out| {
-                READS.set(READS.get() + 1);
-                match READS.get() % 2 {
-                    0 => read_changed(f, out, swap_and_sort),
-                    _ => (BINARY.read)(f, out),
-                }
-            }),
-            &[Trips],
-            &[],
-        ),
+        ("each second read swapped: a second trip hands back something else", reads(in_turn), &[Trips], &[]),
     ]
 }
 
-/// Refusals that aren't due, by another number, with a length, or over changed buffers.
+/// Refusals that aren't due, by another number, with a length, or over a changed buffer; and lengths.
 fn wrong_refusals() -> Vec<Wrong> {
+    let spare: Read = |f, out| {
+        let room = out.len().saturating_sub(1);
+        (BINARY.read)(f, &mut out[..room])
+    };
+    let just: Write = |w, out| match (BINARY.write)(w, out) {
+        (0, n) if n == out.len() => (3, 0),
+        r => r,
+    };
+    let number: Write = |w, out| match (TEXT.write)(w, out) {
+        (3, _) => (2, 0),
+        r => r,
+    };
+    let beside: Read = |f, out| match (BINARY.read)(f, out) {
+        (3, _) => (3, out.len()),
+        r => r,
+    };
+    let length = Form { length: |f| one_less(f, (BINARY.length)(f)), ..BINARY };
+    let host = Host { binary_length: |f| one_less(f, (HOST.binary_length)(f)), ..HOST };
     vec![
-        (
-            "a read that says 3 with room to spare",
-            reads(|f, out| {
-                let room = out.len().saturating_sub(1);
-                (BINARY.read)(f, &mut out[..room])
-            }),
-            &[BinaryRead, Trips],
-            &[],
-        ),
-        (
-            "a write that says 3 with just enough room",
-            writes(|w, out| match (BINARY.write)(w, out) {
-                (0, n) if n == out.len() => (3, 0),
-                r => r,
-            }),
-            &[BinaryWrite, Trips],
-            &[],
-        ),
-        (
-            "a refused write that has changed its buffer",
-            writes(|w, out| {
-                let r = (BINARY.write)(w, out);
-                if r.0 == 3 && !out.is_empty() {
-                    out[0] ^= 1;
-                }
-                r
-            }),
-            &[BinaryWrite, Trips],
-            &[],
-        ),
-        (
-            "a refused read that has changed its buffer",
-            reads(|f, out| {
-                let r = (BINARY.read)(f, out);
-                if r.0 == 3 && !out.is_empty() {
-                    out[0] ^= 1;
-                }
-                r
-            }),
-            &[BinaryRead, Trips],
-            &[],
-        ),
-        (
-            "a text write refused by another number",
-            forms(
-                BINARY,
-                Form {
-                    write: |w, out| match (TEXT.write)(w, out) {
-                        (3, _) => (2, 0),
-                        r => r,
-                    },
-                    ..TEXT
-                },
-            ),
-            &[TextWrite, Trips],
-            &[],
-        ),
-        (
-            "a length beside 3",
-            reads(|f, out| match (BINARY.read)(f, out) {
-                (3, _) => (3, out.len()),
-                r => r,
-            }),
-            &[BinaryRead, Trips],
-            &[],
-        ),
+        ("a read that says 3 with room to spare", reads(spare), &[BinaryRead, Trips], &[]),
+        ("a write that says 3 with just enough room", writes(just), &[BinaryWrite, Trips], &[]),
+        ("a refused write over a changed buffer", writes(|w, out| touched((BINARY.write)(w, out), out)), &[BinaryWrite, Trips], &[]),
+        ("a refused read over a changed buffer", reads(|f, out| touched((BINARY.read)(f, out), out)), &[BinaryRead, Trips], &[]),
+        ("a text write refused by another number", forms(BINARY, Form { write: number, ..TEXT }), &[TextWrite, Trips], &[]),
+        ("a length beside 3", reads(beside), &[BinaryRead, Trips], &[]),
         ("a length told over an untouched buffer", writes(|w, out| (BINARY.write)(w, &mut out.to_vec())), &[BinaryWrite, Trips], &[]),
-        (
-            "a length one less where a file has relocations",
-            forms(Form { length: |f| one_less(f, (BINARY.length)(f)), ..BINARY }, TEXT),
-            &[BinaryLength, Relocations],
-            &[Trips],
-        ),
-        (
-            "a host's length one less where a file has relocations",
-            Calls { host: Some(Host { binary_length: |f| one_less(f, (HOST.binary_length)(f)), ..HOST }), ..Calls::default() },
-            &[HostBinary, Relocations],
-            &[],
-        ),
+        ("a length one less where there are relocations", forms(length, TEXT), &[BinaryLength, Relocations], &[Trips]),
+        ("the host's likewise", Calls { host: Some(host), ..Calls::default() }, &[HostBinary, Relocations], &[]),
     ]
 }
 
