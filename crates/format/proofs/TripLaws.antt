@@ -167,7 +167,7 @@ module _ (t : Trip) (ws : List ℕ) where
 
   number-of : (a b : Bool) → bytesShort ≡ a → wordsShort ≡ b → _≡_ {A = ℕ} (if isShort t ws then 3 else 0) (if a || b then 3 else 0)
   unfolding isShort
-  number-of a b p q = rw (p, q)
+  number-of a b p q = ap (λ (x : Bool). if x || wordsShort then 3 else 0) p ∙ ap (λ (y : Bool). if a || y then 3 else 0) q
 
 -- a trip from the words of a fair object
 pub trip-law :
