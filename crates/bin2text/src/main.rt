@@ -3,6 +3,8 @@
 // theirs.
 
 // Does standard input go on after what was read of it?
+#![tactic(auto)]
+
 fn goes_on() -> bool {
     let mut next = [0u8; 1];
     io::read_full(0, &mut next) != 0

@@ -1,4 +1,6 @@
 // The words of a binary file's object, part by part.
+#![tactic(auto)]
+
 ghost use Rattle.std.specs.Prelude.{◌≡◌, ◌+◌, ◌-◌, ◌≤◌, ◌<◌, min, length, take};
 ghost use mathlib.Core.List.{◌++◌, flat_map};
 ghost use Rattle.format.specs.Basics.{given};
@@ -146,7 +148,7 @@ fn top_up(held: &mut [u8], n: usize, s: &[u8]) -> usize
 }
 
 // What a chunk of the source comes to: how many words are written, and how many bytes are held over.
-#[derive(Drop)]
+#[derive(Clone, Copy)]
 struct Carried {
     at: usize,
     count: usize,

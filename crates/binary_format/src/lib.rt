@@ -1,4 +1,6 @@
 // The binary format (document 01, "Binary form"; BinaryFormat of 000): its magic and version, and the calls that write and read it.
+#![tactic(auto)]
+
 ghost use Rattle.std.specs.Prelude.{◌≡◌};
 ghost use Rattle.format.specs.Calls.{read_binary, measured, WritesBinary, ReadsBinary};
 ghost use Rattle.units.specs.Filled.{filled_of, measured_of};
@@ -9,7 +11,7 @@ use binary_write::write_binary;
 use units::{Filled, Measured};
 
 // The binary format. Its magic and its version are those of the header that the calls write and ask for.
-#[derive(Drop)]
+#[derive(Clone, Copy)]
 pub struct BinaryFormat;
 
 impl BinaryFormat {

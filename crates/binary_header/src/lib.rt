@@ -1,4 +1,6 @@
 // The seven bytes that begin a binary file (document 01, "Binary form"): its magic, then its version.
+#![tactic(auto)]
+
 ghost use Rattle.std.specs.Prelude.{◌≡◌};
 ghost use Rattle.format.specs.Basics.{begins_with};
 ghost use Rattle.format.specs.Binary.{header};

@@ -1,4 +1,6 @@
 // What is asked of an object before it is written in the binary form, and where its records end.
+#![tactic(auto)]
+
 ghost use Rattle.std.specs.Prelude.{◌≡◌, length};
 ghost use Rattle.format.specs.Binary.{record_bytes};
 ghost use Rattle.format.specs.Calls.{checked};
@@ -7,7 +9,7 @@ ghost use Rattle.binary_measure.specs.Measured.{EndsText, EndsRecord, Stands, co
 ghost use Rattle.binary_measure.specs.Rooms.{Takes};
 
 // What is left of a buffer; once it is too short it stays so.
-#[derive(Drop)]
+#[derive(Clone, Copy)]
 struct Room {
     left: usize,
     short: bool,

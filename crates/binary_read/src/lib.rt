@@ -1,4 +1,6 @@
 // The reader of the binary form (document 01, "Binary form"): the header, then the records.
+#![tactic(auto)]
+
 ghost use Rattle.std.specs.Prelude.{◌≡◌};
 ghost use Rattle.format.specs.Calls.{read_binary, measured, fill, ReadsBinary};
 ghost use Rattle.units.specs.Filled.{measured_of, filled_of};

@@ -1,4 +1,6 @@
 // The grammar of the binary form: the questions 11 to 14, record by record.
+#![tactic(auto)]
+
 ghost use Rattle.std.specs.Prelude.{◌≡◌, drop};
 ghost use Rattle.format.specs.ObjectFile.{strictly_rise};
 ghost use Rattle.format.specs.Tokens.{tokens};

@@ -1,4 +1,6 @@
 // How many words the object of a binary file has, and whether a buffer has room for them.
+#![tactic(auto)]
+
 ghost use Rattle.std.specs.Prelude.{◌≡◌, ◌≤◌, length, leb};
 ghost use Rattle.binary_sizes.specs.ObjectWords.{keeps_relocations, object_words};
 

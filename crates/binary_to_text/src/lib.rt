@@ -1,5 +1,7 @@
 // What `bin2text` prints: a binary file as a text file, by way of an object in 16,384 words. An input of more than 65,536 bytes is refused
 // with 3, and a refusal is printed as its number and a newline.
+#![tactic(auto)]
+
 ghost use Rattle.std.specs.Prelude.{◌≡◌};
 ghost use Rattle.format.specs.Calls.{fill};
 ghost use Rattle.units.specs.Filled.{filled_of};

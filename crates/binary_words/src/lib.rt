@@ -1,4 +1,6 @@
 // The words of the records of a binary file, part by part.
+#![tactic(auto)]
+
 ghost use Rattle.std.specs.Prelude.{◌≡◌, ◌+◌, ◌≤◌, ◌<◌, length, take, leb, not};
 ghost use mathlib.Core.List.{flat_map};
 ghost use Rattle.format.specs.Basics.{is_empty, is_some};

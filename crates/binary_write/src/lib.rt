@@ -1,4 +1,6 @@
 // The writer of the binary form (document 01, "Binary form"). It asks, measures, and then writes the header and record by record.
+#![tactic(auto)]
+
 ghost use Rattle.std.specs.Prelude.{◌≡◌, [], ◌∷◌, ◌++◌, ◌+◌, ◌-◌, ◌%◌, ◌^◌, ◌≤◌, ◌<◌, length, leb};
 ghost use Rattle.format.specs.Digits.{digits_of};
 ghost use Rattle.format.specs.Words.{flag_bit};

@@ -1,4 +1,6 @@
 // Part writers of numbers, byte by byte. Each is lent the unused rest of the output, as those of `writing`.
+#![tactic(auto)]
+
 ghost use Rattle.format.specs.Digits.{digits_of};
 ghost use Rattle.writing.specs.Written.{Put};
 

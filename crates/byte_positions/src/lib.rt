@@ -1,10 +1,12 @@
 // Positions in a source that is given as bytes.
+#![tactic(auto)]
+
 ghost use Rattle.std.specs.Prelude.{◌≡◌};
 ghost use Rattle.format.specs.Source.{get_pos_pair};
 ghost use Rattle.byte_positions.specs.Pairs.{pair_of};
 
 // A line, counted from 0, and how many bytes from its start.
-#[derive(Drop)]
+#[derive(Clone, Copy)]
 pub struct Pair {
     pub line: u64,
     pub column: u64,

@@ -1,4 +1,6 @@
 // Numbers and bytes of an input at its places, for every place: of bytes past the end of the input there are none.
+#![tactic(auto)]
+
 ghost use Rattle.std.specs.Prelude.{◌≡◌, ◌+◌, ◌^◌, ◌≤◌, ◌<◌, min, length, leb};
 ghost use Rattle.format.specs.Digits.{value_of};
 ghost use Rattle.format.specs.Binary.{bytes_at, number_at};

@@ -1,37 +1,39 @@
 // A place in the input that moves on by value: each method takes the cursor and the input, and hands back what is there with the cursor
 // moved past it. Numbers are low byte first.
+#![tactic(auto)]
+
 ghost use Rattle.std.specs.Prelude.{◌≡◌, ◌≤◌, length};
 ghost use Rattle.format.specs.Digits.{value_of};
 ghost use Rattle.cursor.specs.Taken.{taken8, taken16, taken64, taken_bytes, take_number, take_bytes};
 
-#[derive(Drop)]
+#[derive(Clone, Copy)]
 pub struct Cursor {
     pub at: usize,
 }
 
 // A byte.
-#[derive(Drop)]
+#[derive(Clone, Copy)]
 pub enum TookU8 {
     Value(u8, Cursor),
     Missing,
 }
 
 // A 2-byte number.
-#[derive(Drop)]
+#[derive(Clone, Copy)]
 pub enum TookU16 {
     Value(u16, Cursor),
     Missing,
 }
 
 // An 8-byte number.
-#[derive(Drop)]
+#[derive(Clone, Copy)]
 pub enum TookU64 {
     Value(u64, Cursor),
     Missing,
 }
 
 // So many bytes: where they start and end in the input. An enum can't hold a slice.
-#[derive(Drop)]
+#[derive(Clone, Copy)]
 pub enum TookBytes {
     Between(usize, usize, Cursor),
     Missing,

@@ -1,4 +1,6 @@
 // Whether an object is fair (document 01, "Fair"): what the trips keep is said of fair objects alone, so the clerk has to be able to ask.
+#![tactic(auto)]
+
 ghost use Rattle.std.specs.Prelude.{◌≡◌, true, [], ◌∷◌, map, ◌+◌, ◌^◌, ◌<◌, length, get_or};
 ghost use Rattle.format.specs.Basics.{given, every};
 ghost use Rattle.format.specs.Utf8.{is_utf8};
@@ -15,7 +17,7 @@ ghost use Rattle.fair.specs.FairRecords.{answer_of, fair_lines, fair_step, step_
 use utf8::Char;
 
 // Number 1, or 0 and whether the object is fair.
-#[derive(Drop)]
+#[derive(Clone, Copy)]
 pub struct FairAnswer {
     pub number: u8,
     pub fair: bool,
@@ -104,7 +106,7 @@ fn is_fair_line_block(ws: &[u32], at: usize, last: u64, least: u64) -> bool
 }
 
 // Where the next line block may begin at the earliest.
-#[derive(Drop)]
+#[derive(Clone, Copy)]
 enum Step {
     Next(u64),
     Unfair,

@@ -1,5 +1,7 @@
 // The host's three calls (document 01, "Rust to be recast"): byte slices and numbers in, structs of numbers out, and no buffer. None
 // asks anything of its caller.
+#![tactic(auto)]
+
 ghost use Rattle.std.specs.Prelude.{◌≡◌};
 ghost use Rattle.format.specs.Calls.{measured, read_binary, read_text};
 ghost use Rattle.format.specs.Source.{get_pos_pair};
@@ -11,7 +13,7 @@ use text_read::text_length;
 
 // The number of the question that was answered no, or 0; and how many words the file's object has, 0 where it is refused.
 #[repr(C)]
-#[derive(Drop)]
+#[derive(Clone, Copy)]
 pub struct Measured {
     pub number: u8,
     pub len: usize,
@@ -19,7 +21,7 @@ pub struct Measured {
 
 // A line, counted from 0, and how many bytes from its start.
 #[repr(C)]
-#[derive(Drop)]
+#[derive(Clone, Copy)]
 pub struct Position {
     pub line: u64,
     pub column: u64,

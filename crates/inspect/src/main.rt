@@ -1,6 +1,8 @@
 // The clerk's look at a file on standard input: how it reads in each form, and of the object that it gives the counts of the five parts
 // and whether it is fair. Where the file has more than 65,536 bytes, 3 and a newline are printed; an object of more than 16,384 words is
 // refused with 3.
+#![tactic(auto)]
+
 use binary_read::read_binary;
 use fair::is_fair;
 use part_counts::count_parts;

@@ -1,4 +1,6 @@
 // The room after the words of a text file's labels, by way of an array where it has room for all labels, and else from the rows.
+#![tactic(auto)]
+
 ghost use Rattle.std.specs.Prelude.{◌≡◌};
 ghost use Rattle.text_words.specs.Room.{room_of, room_after};
 ghost use Rattle.known_labels.specs.Known.{label_parts};

@@ -1,4 +1,6 @@
 // Labels in an array of numbers, as items: their words, the room after these, and how two tables of them are joined.
+#![tactic(auto)]
+
 ghost use Rattle.std.specs.Prelude.{◌≡◌, not, ◌&&◌, map, ◌/◌, ◌≤◌, length, get_or};
 ghost use Rattle.format.specs.Sorted.{order};
 ghost use Rattle.format.specs.Records.{label};
@@ -16,7 +18,7 @@ use text_words::{Room, put_label, take_room};
 use trim::Span;
 
 // A label: where its name stands, its address (65,536 more if it is external), and its source start.
-#[derive(Drop)]
+#[derive(Clone, Copy)]
 pub struct Item {
     pub start: usize,
     pub end: usize,
@@ -158,7 +160,7 @@ pub fn cached_room(t: &[u8], items: &[usize], n: usize, room: usize) -> Room
 }
 
 // Which tables the next label is from.
-#[derive(Drop)]
+#[derive(Clone, Copy)]
 pub struct Next {
     pub symbol: bool,
     pub start: bool,

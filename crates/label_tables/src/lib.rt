@@ -1,4 +1,6 @@
 // The text writer's two tables of labels, .SYMBOL and .DEBUG's label table: their rows by the labels' places in the words of an object.
+#![tactic(auto)]
+
 ghost use Rattle.std.specs.Prelude.{◌≡◌, ◌+◌, ◌-◌, ◌*◌, ◌/◌, ◌%◌, ◌^◌, ◌≤◌, max, length, get_or, leb};
 ghost use mathlib.Core.List.{flat_map};
 ghost use Rattle.format.specs.Utf8.{characters};
@@ -21,7 +23,7 @@ use text_numerals::{count_digits, put_hex4, put_right, put_spaces};
 use writing::put_bytes;
 
 // A label's name: where its words begin, and how many bytes it has.
-#[derive(Drop)]
+#[derive(Clone, Copy)]
 struct Name {
     at: usize,
     len: usize,
@@ -199,7 +201,7 @@ fn larger(a: usize, b: usize) -> usize
 }
 
 // The widths of the label table's columns.
-#[derive(Drop)]
+#[derive(Clone, Copy)]
 pub struct Widths {
     pub names: usize,
     pub indices: usize,

@@ -1,5 +1,7 @@
 // The two tables of labels, written: their rows window by window, in the order of addresses and of source starts. Where the room is too
 // short, each part that still fits.
+#![tactic(auto)]
+
 ghost use Rattle.std.specs.Prelude.{◌≤◌, ◌<◌, length, take};
 ghost use Rattle.format.specs.TextWriter.{symbol_header, label_header};
 ghost use Rattle.writing.specs.Written.{Put};
@@ -21,7 +23,7 @@ const SYMBOL_HEADER: [u8; 19] = [
 ];
 
 // A table: .SYMBOL by address, the label table by source start, in columns of these widths.
-#[derive(Drop)]
+#[derive(Clone, Copy)]
 struct Columns {
     by: By,
     names: usize,

@@ -1,4 +1,6 @@
 // The bytes of a line of an object's source, whole and trimmed (document 01, "Line and source tables"; SourceInfo of 001).
+#![tactic(auto)]
+
 ghost use Rattle.std.specs.Prelude.{◌≡◌, ◌-◌, ◌*◌, ◌≤◌, length, drop};
 ghost use Rattle.format.specs.Source.{raw_line_span};
 ghost use Rattle.format.specs.Calls.{query_raw_line_span, query_line_span};
@@ -10,7 +12,7 @@ use source_info::{Source, source_of};
 use units::{ByteIndex, Line};
 
 // The bytes of a line, the end not included.
-#[derive(Drop)]
+#[derive(Clone, Copy)]
 pub struct LineSpan {
     pub number: u8,
     pub start: ByteIndex,
@@ -18,7 +20,7 @@ pub struct LineSpan {
 }
 
 // A line of a text: its bytes, with the newline.
-#[derive(Drop)]
+#[derive(Clone, Copy)]
 enum RawLine {
     Bytes(usize, usize),
     Past,

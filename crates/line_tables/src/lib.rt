@@ -1,4 +1,6 @@
 // Line blocks asked by line and by address (document 01, "Line and source tables"; LineSymbolMap of 001).
+#![tactic(auto)]
+
 ghost use Rattle.std.specs.Prelude.{◌≡◌, map, ◌<◌, length};
 ghost use Rattle.format.specs.Basics.{need};
 ghost use Rattle.format.specs.Source.{offset_of};
@@ -11,21 +13,21 @@ use source_info::{Source, source_of};
 use units::{Address, Line};
 
 // The address of a line.
-#[derive(Drop)]
+#[derive(Clone, Copy)]
 pub struct AddressOf {
     pub number: u8,
     pub address: Address,
 }
 
 // The line of an address.
-#[derive(Drop)]
+#[derive(Clone, Copy)]
 pub struct LineOf {
     pub number: u8,
     pub line: Line,
 }
 
 // How many lines after a block's first an address stands.
-#[derive(Drop)]
+#[derive(Clone, Copy)]
 enum Offset {
     At(usize),
     Nothing,

@@ -1,9 +1,11 @@
 // Room counted down, part by part: a sum of lengths could pass 64 bits where columns are wide, and the room that is left can't.
+#![tactic(auto)]
+
 ghost use Rattle.std.specs.Prelude.{◌≡◌};
 ghost use Rattle.measuring.specs.Room.{room_of, less};
 
 // The room that is left after a part, or that it is too short.
-#[derive(Drop)]
+#[derive(Clone, Copy)]
 pub enum Room {
     Left(usize),
     Short,

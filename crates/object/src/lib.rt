@@ -1,4 +1,6 @@
 // An object is a slice of 32-bit words (document 01, "The holding"): access to its records, numbers and texts by their places.
+#![tactic(auto)]
+
 ghost use Rattle.std.specs.Prelude.{◌≡◌, true, false, not, ◌+◌, ◌-◌, ◌*◌, ◌/◌, ◌%◌, ◌^◌, ◌≤◌, ◌<◌, length};
 ghost use Rattle.format.specs.Basics.{is_empty};
 ghost use Rattle.format.specs.Words.{is_head};
@@ -7,7 +9,7 @@ ghost use Rattle.object.specs.Bodies.{body_at, number_at, are_number, Numbered, 
 ghost use Rattle.object.specs.Texts.{text_len, text_byte, text_bytes, span_bytes, whole_words};
 
 // A number of three words.
-#[derive(Drop)]
+#[derive(Clone, Copy)]
 pub enum Number {
     Is(u64),
     Bad,

@@ -1,9 +1,11 @@
 // How many records of each kind an object has.
+#![tactic(auto)]
+
 ghost use Rattle.std.specs.Prelude.{◌≡◌};
 ghost use Rattle.part_counts.specs.Parts.{indicator, part_counts};
 
 // The counts of the five parts; an object has at most one source.
-#[derive(Drop)]
+#[derive(Clone, Copy)]
 pub struct PartCounts {
     pub blocks: u64,
     pub labels: u64,

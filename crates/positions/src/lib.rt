@@ -1,4 +1,6 @@
 // The line and column of a byte of an object's source (document 01, "Line and source tables"; SourceInfo of 001).
+#![tactic(auto)]
+
 ghost use Rattle.std.specs.Prelude.{◌≡◌, ◌≤◌};
 ghost use Rattle.format.specs.Source.{get_pos_pair};
 ghost use Rattle.format.specs.Calls.{query_pos_pair};
@@ -9,7 +11,7 @@ use source_info::{Source, source_of};
 use units::{ByteIndex, Line};
 
 // A line, counted from 0, and how far into it.
-#[derive(Drop)]
+#[derive(Clone, Copy)]
 pub struct PosPair {
     pub number: u8,
     pub line: Line,
@@ -17,7 +19,7 @@ pub struct PosPair {
 }
 
 // How far a source is passed: up to byte `i`, which stands in a line that begins at byte `start`.
-#[derive(Drop)]
+#[derive(Clone, Copy)]
 struct Passed {
     i: usize,
     line: usize,
@@ -25,7 +27,7 @@ struct Passed {
 }
 
 // A line, and a place in it.
-#[derive(Drop)]
+#[derive(Clone, Copy)]
 struct Pair {
     line: usize,
     column: usize,

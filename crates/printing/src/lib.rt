@@ -1,5 +1,7 @@
 // What the conversion programs share: the longest input, room for the object between the two forms, and printing what a call that fills
 // the output hands back.
+#![tactic(auto)]
+
 ghost use Rattle.std.specs.Prelude.{◌≡◌, replicate};
 ghost use Rattle.printing.specs.Printed.{PrintsFilled};
 

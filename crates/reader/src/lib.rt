@@ -1,19 +1,21 @@
 // A thin reader that borrows the input and holds a place in it. `take` and `take_slice` take it apart and call the covered functions over
 // the cursor, `take_at` and `take_slice_at`; whoever needs no reader calls those, or `first_slice`, whose parameters are plain.
+#![tactic(auto)]
+
 ghost use Rattle.std.specs.Prelude.{◌≡◌};
 ghost use Rattle.cursor.specs.Taken.{taken64, taken_bytes, take_number, take_bytes};
 ghost use Rattle.reader.specs.Width.{bytes_in};
 
 use cursor::{Cursor, TookBytes, TookU8, TookU16, TookU64};
 
-#[derive(Drop)]
+#[derive(Clone, Copy)]
 pub struct Reader<'a> {
     pub src: &'a [u8],
     pub at: usize,
 }
 
 // The lengths with which the source calls `take`.
-#[derive(Drop)]
+#[derive(Clone, Copy)]
 pub enum Width {
     One,
     Two,

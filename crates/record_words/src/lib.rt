@@ -1,4 +1,6 @@
 // Words of a binary file's records: memory, addresses, the source's text, and the first words of labels and relocations.
+#![tactic(auto)]
+
 ghost use Rattle.std.specs.Prelude.{◌≡◌, map};
 ghost use Rattle.std.proofs.Math.Option.{some};
 ghost use Rattle.format.specs.Words.{memory_word, text_words};

@@ -2,6 +2,8 @@
 // A line is `CALL INPUT ARG NUMBER FIRST SECOND` for a query: a letter, the input in hexadecimal, and numbers of 16, 2, 16 and 16
 // hexadecimal digits; with two values more, of 16 digits each, for the lending fee; `CALL INPUT NUMBER OUTPUT` for a call that fills a
 // buffer. Then prints what the clerk's programs make of some files.
+#![tactic(auto)]
+
 mod conversions;
 mod fees;
 mod files;

@@ -7,7 +7,7 @@ use source_info::LineCount;
 use units::{Address, ByteIndex, Line};
 
 // Number and values; 0 where there is none.
-#[derive(Drop)]
+#[derive(Clone, Copy)]
 struct Reply {
     number: u8,
     first: u64,

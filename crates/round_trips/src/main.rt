@@ -1,5 +1,7 @@
 // Demand 3 (document 01, "Trips") over the public calls: one trip, and lists of trips with short, exact and long buffers from two fair
 // objects. Prints each trip's form and number, and at the end of a list the words that stand.
+#![tactic(auto)]
+
 mod print;
 
 ghost use Rattle.std.specs.Prelude.{◌≡◌, [], ◌∷◌, ◌≤◌, min, length, take};
@@ -30,7 +32,7 @@ const RELOCATED: [u32; 8] = [
 ];
 
 // The trip's number; and how many words were filled, 0 where it was refused.
-#[derive(Drop)]
+#[derive(Clone, Copy)]
 struct Made {
     number: u8,
     len: usize,

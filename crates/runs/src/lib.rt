@@ -1,4 +1,6 @@
 // Exports for the differential runs: test-only, never linked by the host, so it may go beyond byte slices and numbers. Each is one call.
+#![tactic(auto)]
+
 ghost use Rattle.std.specs.Prelude.{◌≡◌};
 ghost use Rattle.format.specs.Calls.{checked, query_count_lines, query_raw_line_span, query_line_span, query_pos_pair, query_get, query_find};
 ghost use Rattle.format.specs.Calls.{fair_answer, measured, read_binary, ReadsBinary, WritesBinary, read_text, ReadsText, WritesText};
@@ -13,7 +15,7 @@ use units::{Address, ByteIndex, Line};
 
 // A line count, an address or a line.
 #[repr(C)]
-#[derive(Drop)]
+#[derive(Clone, Copy)]
 pub struct Value {
     pub number: u8,
     pub value: u64,
@@ -21,7 +23,7 @@ pub struct Value {
 
 // A range of source byte indices.
 #[repr(C)]
-#[derive(Drop)]
+#[derive(Clone, Copy)]
 pub struct Span {
     pub number: u8,
     pub start: u64,
@@ -30,7 +32,7 @@ pub struct Span {
 
 // A line and a column.
 #[repr(C)]
-#[derive(Drop)]
+#[derive(Clone, Copy)]
 pub struct Position {
     pub number: u8,
     pub line: u64,
@@ -39,7 +41,7 @@ pub struct Position {
 
 // Number, and the length that a file would fill, in words.
 #[repr(C)]
-#[derive(Drop)]
+#[derive(Clone, Copy)]
 pub struct Measured {
     pub number: u8,
     pub len: usize,
@@ -47,7 +49,7 @@ pub struct Measured {
 
 // Number, and the length filled.
 #[repr(C)]
-#[derive(Drop)]
+#[derive(Clone, Copy)]
 pub struct Filled {
     pub number: u8,
     pub len: usize,
@@ -55,7 +57,7 @@ pub struct Filled {
 
 // Whether the object is fair.
 #[repr(C)]
-#[derive(Drop)]
+#[derive(Clone, Copy)]
 pub struct Fair {
     pub number: u8,
     pub fair: bool,
@@ -63,7 +65,7 @@ pub struct Fair {
 
 // What lending costs, and its three addends.
 #[repr(C)]
-#[derive(Drop)]
+#[derive(Clone, Copy)]
 pub struct Fee {
     pub number: u8,
     pub fee: u64,

@@ -1,5 +1,7 @@
 // The source of an object, and how many lines it has (document 01, "Line and source tables"; SourceInfo of 001).
 // Each public query checks the object and then asks a function that works on a text or on the records of an object that is well formed.
+#![tactic(auto)]
+
 ghost use Rattle.std.specs.Prelude.{◌≡◌, [], ◌∷◌, ◌+◌, ◌*◌, ◌≤◌, drop};
 ghost use Rattle.format.specs.Source.{newlines};
 ghost use Rattle.format.specs.Calls.{query_count_lines};
@@ -7,21 +9,21 @@ ghost use Rattle.object.specs.Texts.{text_bytes, whole_words};
 ghost use Rattle.source_info.specs.Sources.{Sourced, SourceIs, count_answer};
 
 // Where the source's words begin.
-#[derive(Drop)]
+#[derive(Clone, Copy)]
 pub enum Place {
     At(usize),
     Nothing,
 }
 
 // The source of an object: where its words begin, and how many bytes it has; or the number that refuses.
-#[derive(Drop)]
+#[derive(Clone, Copy)]
 pub enum Source {
     Words(usize, usize),
     Refused(u8),
 }
 
 // How many lines a source has.
-#[derive(Drop)]
+#[derive(Clone, Copy)]
 pub struct LineCount {
     pub number: u8,
     pub lines: u64,

@@ -1,11 +1,13 @@
 // The lending tariff (document 02, P14): what lending an object costs, in cents.
+#![tactic(auto)]
+
 ghost use Rattle.std.specs.Prelude.{◌≡◌, ◌≤◌};
 ghost use Rattle.tariff.specs.Tariff.{addends, payable, refused_fee, fee_of, lending_fee};
 
 use part_counts::count_parts;
 
 // The number of the question that was answered no, or 0; the fee, and its three addends before the reduction.
-#[derive(Drop)]
+#[derive(Clone, Copy)]
 pub struct Fee {
     pub number: u8,
     pub fee: u64,

@@ -2,6 +2,8 @@
 // newline are printed, and 3 where it is longer than the buffer, or its object or the binary file than theirs.
 
 // Does standard input go on after what was read of it?
+#![tactic(auto)]
+
 fn goes_on() -> bool {
     let mut next = [0u8; 1];
     io::read_full(0, &mut next) != 0

@@ -1,4 +1,6 @@
 // The text reader's .TEXT group: its blocks.
+#![tactic(auto)]
+
 ghost use Rattle.std.specs.Prelude.{◌≡◌, ◌/◌, ◌<◌, true, false, length, slice_index};
 ghost use Rattle.format.specs.Basics.{is_some};
 ghost use Rattle.format.specs.TextReader.{hex2u16, maybe_hex2u16};
@@ -9,7 +11,7 @@ use text_cells::{Entry, Number, decimal, hex2u16, maybe_hex2u16};
 use text_lines::{Line, Passed, is_four_long, next_row};
 
 // A block of .TEXT: where its entries start, and the place after them.
-#[derive(Drop)]
+#[derive(Clone, Copy)]
 pub enum BlockStep {
     At {
         address: u16,
@@ -138,7 +140,7 @@ pub fn pass_entries(t: &[u8], at: usize, n: usize) -> Passed
 }
 
 // What follows a block's address: its count, where its entries start, and the place after them.
-#[derive(Drop)]
+#[derive(Clone, Copy)]
 pub enum Body {
     At {
         count: u16,
@@ -206,7 +208,7 @@ pub fn next_block(t: &[u8], at: usize) -> BlockStep
 
 // What the check of a .TEXT group comes to: its number, the place after the group, and how many words the blocks up to there have, as 64 bits
 // count.
-#[derive(Drop)]
+#[derive(Clone, Copy)]
 pub struct Text {
     pub number: u8,
     pub next: usize,

@@ -1,4 +1,6 @@
 // The text reader's cells and numbers.
+#![tactic(auto)]
+
 ghost use Rattle.std.specs.Prelude.{◌≡◌, true, [], ◌+◌, ◌-◌, ◌≤◌, ◌<◌, length, take, drop, get_or};
 ghost use Rattle.std.proofs.Math.Option.{some};
 ghost use Rattle.format.specs.Basics.{eqs};
@@ -11,14 +13,14 @@ use text_lines::equals;
 use trim::{Span, trim};
 
 // What a cell says.
-#[derive(Drop)]
+#[derive(Clone, Copy)]
 pub enum Number {
     Value(u64),
     Nothing,
 }
 
 // A word or an address, or ????.
-#[derive(Drop)]
+#[derive(Clone, Copy)]
 pub enum Entry {
     Value(u16),
     Unknown,
@@ -26,7 +28,7 @@ pub enum Entry {
 }
 
 // Where the first divider stands.
-#[derive(Drop)]
+#[derive(Clone, Copy)]
 pub enum Divider {
     At(usize),
     Nothing,
@@ -249,7 +251,7 @@ fn is_four_wide(s: &[u8], at: usize) -> bool
 }
 
 // The first two cells of a row, from `start` up to `end` and from `from` up to `to`: four numbers, which stay in registers.
-#[derive(Drop)]
+#[derive(Clone, Copy)]
 pub struct Cells {
     pub start: usize,
     pub end: usize,

@@ -1,4 +1,6 @@
 // The text reader's .DEBUG group, whole: questions 27, 26, 28, 29 and 30.
+#![tactic(auto)]
+
 ghost use Rattle.std.specs.Prelude.{◌≡◌, ◌^◌, ◌<◌, not, ◌&&◌, ◌||◌, map, nat_lt};
 ghost use Rattle.format.specs.Utf8.{trim};
 ghost use Rattle.format.specs.TextReader.{splitn, same_cells};
@@ -38,7 +40,7 @@ fn parse_line_header(l: &[u8]) -> bool
 
 // The runs of rows with an address up to a row: of the run that it may go on, how many rows, the last address and whether it fell; of
 // those before, the words of their line blocks, as 64 bits count, and whether they rise.
-#[derive(Drop)]
+#[derive(Clone, Copy)]
 pub struct Runs {
     pub count: usize,
     pub last: u16,
@@ -134,7 +136,7 @@ fn run_next(s: Runs, row: LineRow) -> Runs
 
 // The number of a line table's rows; where it is 0, how many words their line blocks have, as 64 bits count, and whether the addresses in
 // each kept run never fall. A run that reaches the last row is not asked.
-#[derive(Drop)]
+#[derive(Clone, Copy)]
 pub struct LineRows {
     pub number: u8,
     pub words: usize,
@@ -178,7 +180,7 @@ fn parse_line_rows(t: &[u8], from: usize) -> LineRows
 
 // What the rows of a line table make: how many bytes of source, and how many words of line blocks, as 64 bits count, and whether these
 // rise.
-#[derive(Drop)]
+#[derive(Clone, Copy)]
 pub struct Lines {
     pub len: usize,
     pub words: usize,
@@ -197,7 +199,7 @@ pub fn no_lines() -> Lines
 }
 
 // A line table's number, and what its rows make, where it reads and has rows.
-#[derive(Drop)]
+#[derive(Clone, Copy)]
 pub struct LineTable {
     pub number: u8,
     pub lines: Lines,
@@ -266,7 +268,7 @@ pub fn parse_line_table(t: &[u8], from: usize, sourced: bool) -> LineTable
 
 // What a .DEBUG group's check comes to, the place after the group, and the place of its line table's rows and what they make, if there are
 // rows.
-#[derive(Drop)]
+#[derive(Clone, Copy)]
 pub struct DebugGroup {
     pub number: u8,
     pub next: usize,

@@ -1,4 +1,6 @@
 // `escape_default` of the source, as it lies in text words, and the rows of the line table, whose last cell it is.
+#![tactic(auto)]
+
 ghost use Rattle.std.specs.Prelude.{◌≡◌, true, ◌++◌, ◌+◌, ◌-◌, ◌≤◌, ◌<◌, length, leb};
 ghost use Rattle.format.specs.TextWriter.{escape_char, decimal, to_right, text_line};
 ghost use Rattle.writing.specs.Written.{Put};

@@ -1,4 +1,6 @@
 // The text format (document 01, "Text form"; TextFormat of 000): the calls that write and read it.
+#![tactic(auto)]
+
 ghost use Rattle.std.specs.Prelude.{◌≡◌};
 ghost use Rattle.format.specs.Calls.{read_text, measured, WritesText, ReadsText};
 ghost use Rattle.units.specs.Filled.{filled_of, measured_of};
@@ -9,7 +11,7 @@ use text_write::write_text;
 use units::{Filled, Measured};
 
 // The text format: it has no version, and its first line is part of its grammar.
-#[derive(Drop)]
+#[derive(Clone, Copy)]
 pub struct TextFormat;
 
 impl TextFormat {

@@ -1,4 +1,6 @@
 // The words of a text file's labels, of the rows of their two tables.
+#![tactic(auto)]
+
 ghost use Rattle.std.specs.Prelude.{◌≡◌, not, ◌&&◌, map, ◌≤◌, ◌<◌, length, get_or, true, []};
 ghost use Rattle.format.specs.Sorted.{order};
 ghost use Rattle.format.specs.Records.{label};
@@ -16,7 +18,7 @@ use text_gather::{Sorting, cell_at};
 use text_words::{Room, number_at, put_row, put_symbol, row_words, take_room};
 
 // The rows of a table that are left, in the order of names: the places of a window from i up to n, and the rows after them.
-#[derive(Drop)]
+#[derive(Clone, Copy)]
 pub struct Stream {
     pub sorting: Sorting,
     pub i: usize,
@@ -24,7 +26,7 @@ pub struct Stream {
 }
 
 // Which tables the next label is from.
-#[derive(Drop)]
+#[derive(Clone, Copy)]
 pub struct Next {
     pub symbol: bool,
     pub start: bool,

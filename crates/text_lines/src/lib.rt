@@ -1,4 +1,6 @@
 // The text reader's lines: kept lines, the lines of a group, and the line that opens a group, in place on the input. Positions go by value.
+#![tactic(auto)]
+
 ghost use Rattle.std.specs.Prelude.{◌≡◌, true, false, not, ◌+◌, ◌-◌, ◌≤◌, ◌<◌, length, drop};
 ghost use Rattle.format.specs.Basics.{eqs, is_empty};
 ghost use Rattle.format.specs.TextReader.{lines};
@@ -8,7 +10,7 @@ ghost use Rattle.text_lines.specs.Groups.{parts_from, RowAt, NextRow, Spaces, Sh
 use trim::is_blank;
 
 // A line: where it starts and ends, and the place after it.
-#[derive(Drop)]
+#[derive(Clone, Copy)]
 pub enum Line {
     At {
         start: usize,
@@ -216,21 +218,21 @@ pub fn equals(s: &[u8], t: &[u8]) -> bool
 }
 
 // Lines that were passed over.
-#[derive(Drop)]
+#[derive(Clone, Copy)]
 pub enum Passed {
     To(usize),
     Bad,
 }
 
 // What a group's check comes to, and the place after the group.
-#[derive(Drop)]
+#[derive(Clone, Copy)]
 pub struct Group {
     pub number: u8,
     pub next: usize,
 }
 
 // The line that opens a group, by its kind; 4 is none.
-#[derive(Drop)]
+#[derive(Clone, Copy)]
 pub enum Head {
     Opens { kind: u8, next: usize },
     Loose,

@@ -1,5 +1,7 @@
 // The line table of the text form: its rows in the order of their numbers, what a walk along an object's records knows of them, and the
 // functions on them that hold of every input. The walk itself is crate text_write's.
+#![tactic(auto)]
+
 ghost use Rattle.std.specs.Prelude.{◌≡◌, ◌+◌, ◌-◌, ◌^◌, max, length, get_or};
 ghost use Rattle.format.specs.TextWriter.{decimal, text_line, line_header};
 ghost use Rattle.writing.specs.Written.{Put};
@@ -25,7 +27,7 @@ pub fn smaller(a: usize, b: usize) -> usize
 
 // What is the same for all rows of a table: the source of `n` bytes and so many lines in the words from `text` on, the width of the
 // column of line numbers, and how many rows wrapped.
-#[derive(Drop)]
+#[derive(Clone, Copy)]
 pub struct Table {
     pub text: usize,
     pub n: usize,
@@ -35,7 +37,7 @@ pub struct Table {
 }
 
 // The rows of `count` lines from line `first` on: with the addresses from a place on if they are known, else with none.
-#[derive(Drop)]
+#[derive(Clone, Copy)]
 pub struct Run {
     pub first: u64,
     pub count: usize,
@@ -44,14 +46,14 @@ pub struct Run {
 }
 
 // What is left of the room after rows, and where the line of the next row starts.
-#[derive(Drop)]
+#[derive(Clone, Copy)]
 pub enum Rows {
     Left(usize, usize),
     Short,
 }
 
 // How much rows have filled, and where the line of the next row starts.
-#[derive(Drop)]
+#[derive(Clone, Copy)]
 pub struct Written {
     pub len: usize,
     pub start: usize,
@@ -125,7 +127,7 @@ pub fn lines_done(first: u64, count: usize, lines: u64) -> u64
 }
 
 // The rows of a line block: so many of the source before it, and its own. And how many of the source's lines are done then.
-#[derive(Drop)]
+#[derive(Clone, Copy)]
 pub struct Plan {
     pub gap: usize,
     pub own: Run,
@@ -134,14 +136,14 @@ pub struct Plan {
 
 // What is left of the room after the rows of a record, where the line of the next row starts, and how many of the source's lines are
 // done.
-#[derive(Drop)]
+#[derive(Clone, Copy)]
 pub enum Passed {
     Left(usize, usize, u64),
     Short,
 }
 
 // How much they have filled, where the line of the next row starts, and how many of the source's lines are done.
-#[derive(Drop)]
+#[derive(Clone, Copy)]
 pub struct Progress {
     pub len: usize,
     pub start: usize,
@@ -149,7 +151,7 @@ pub struct Progress {
 }
 
 // The words that hold addresses whose lines wrap: a place and how many.
-#[derive(Drop)]
+#[derive(Clone, Copy)]
 pub struct Wrapped {
     pub place: usize,
     pub count: usize,
@@ -167,7 +169,7 @@ pub fn last_line(first: u64, count: usize) -> u64
 }
 
 // The lines of a line block: the first, how many, and the place of the first one's word.
-#[derive(Drop)]
+#[derive(Clone, Copy)]
 pub struct Lines {
     pub first: u64,
     pub count: usize,

@@ -1,4 +1,6 @@
 // The text reader's .LINKER_INFO table.
+#![tactic(auto)]
+
 ghost use Rattle.std.specs.Prelude.{◌≡◌, map};
 ghost use Rattle.format.specs.Utf8.{trim};
 ghost use Rattle.format.specs.TextReader.{splitn, same_cells};
@@ -8,7 +10,7 @@ use text_cells::{Number, cell_is, hex2u16, trimmed_cell};
 use text_lines::{Group, Line, next_row};
 
 // A row of .LINKER_INFO, and where its name stands.
-#[derive(Drop)]
+#[derive(Clone, Copy)]
 pub enum LinkerRow {
     Row {
         address: u16,
@@ -19,7 +21,7 @@ pub enum LinkerRow {
 }
 
 // The same, with the place after it.
-#[derive(Drop)]
+#[derive(Clone, Copy)]
 pub enum LinkerStep {
     Row {
         address: u16,

@@ -1,4 +1,6 @@
 // The text writer's numerals and columns: `{:04X}`, `{}`, ????, and spaces. Part writers: each takes the unused rest of the output.
+#![tactic(auto)]
+
 ghost use Rattle.std.specs.Prelude.{◌≡◌, [], ◌^◌, ◌≤◌, ◌<◌, length, drop};
 ghost use Rattle.format.specs.TextWriter.{upper_digit, lower_digit, hex4, numeral, decimal, spaces, to_right, memory_text};
 ghost use Rattle.writing.specs.Written.{Put};
@@ -7,7 +9,7 @@ ghost use Rattle.text_numerals.specs.Memory.{known_word};
 use writing::put_bytes;
 
 // A numeral's digits: those from `start` on.
-#[derive(Drop)]
+#[derive(Clone, Copy)]
 struct Digits {
     bytes: [u8; 20],
     start: usize,

@@ -1,5 +1,7 @@
 // .TEXT's blocks and the rows of the linker table, measured and written in a walk from head to head along any words. Where the room is too
 // short, each part that still fits is written.
+#![tactic(auto)]
+
 ghost use Rattle.std.specs.Prelude.{◌≡◌, ◌+◌, ◌*◌, ◌≤◌, ◌<◌, length};
 ghost use mathlib.Core.List.{flat_map, ◌++◌};
 ghost use Rattle.format.specs.TextWriter.{hex4, decimal, text_line};

@@ -1,4 +1,6 @@
 // A text written into words byte by byte, as the bytes come: three bytes make a word.
+#![tactic(auto)]
+
 ghost use Rattle.std.specs.Prelude.{◌+◌, ◌*◌, [], ◌∷◌};
 ghost use Rattle.encode.specs.Scalar.{scalar_bytes};
 ghost use Rattle.text_push.specs.Pushes.{full_word, Stores, Pushes, Flushes};
@@ -6,7 +8,7 @@ ghost use Rattle.text_push.specs.Pushes.{full_word, Stores, Pushes, Flushes};
 use encode::encode_scalar;
 
 // A text that is being written: the place of its next word, and the bytes that are held over for it, at most two.
-#[derive(Drop)]
+#[derive(Clone, Copy)]
 pub struct Held {
     pub at: usize,
     pub count: u8,

@@ -1,4 +1,6 @@
 // The text reader: how many words a text file makes, and the words.
+#![tactic(auto)]
+
 ghost use Rattle.std.specs.Prelude.{◌≡◌, true, ◌||◌, not, ◌+◌, ◌^◌, ◌≤◌, ◌<◌, length, take, eqb};
 ghost use Rattle.format.specs.Basics.{given};
 ghost use Rattle.format.specs.Calls.{read_text, fill, measured};

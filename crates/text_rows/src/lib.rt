@@ -1,5 +1,7 @@
 // The text reader's rows by kind, in place on the input: 0 the blocks of .TEXT, 1 the rows of .SYMBOL, 2 those of .LINKER_INFO, 3 those of
 // .DEBUG's label table.
+#![tactic(auto)]
+
 ghost use Rattle.std.specs.Prelude.{◌≡◌, true, suc, ◌+◌, ◌≤◌, ◌<◌, length};
 ghost use Rattle.format.specs.TextReader.{parse_decimal};
 ghost use Rattle.text_lines.specs.Groups.{parts_from};
@@ -10,14 +12,14 @@ use text_cells::{Number, decimal};
 use text_lines::{Head, Line, begins_with, next_head, next_row};
 
 // A place in the input, or none.
-#[derive(Drop)]
+#[derive(Clone, Copy)]
 pub enum Place {
     At(usize),
     Nothing,
 }
 
 // The next row of a kind: its place, where its first line starts and ends, and the place after it.
-#[derive(Drop)]
+#[derive(Clone, Copy)]
 pub enum Found {
     At(usize, usize, usize, usize),
     Nothing,

@@ -1,5 +1,7 @@
 // Rows of the text form, with their newlines: the lines of a block, and a row of the linker table. Part writers: each takes the unused
 // rest of the output.
+#![tactic(auto)]
+
 ghost use Rattle.std.specs.Prelude.{◌≡◌, ◌++◌, ◌≤◌, length};
 ghost use Rattle.format.specs.TextWriter.{hex4, decimal, memory_text, text_line, table_div};
 ghost use Rattle.writing.specs.Written.{Put};

@@ -1,4 +1,6 @@
 // The line blocks of a text file, run by run, from the rows of its line table.
+#![tactic(auto)]
+
 ghost use Rattle.std.specs.Prelude.{◌≡◌, map, ◌+◌, ◌^◌, ◌≤◌, ◌<◌, length, take};
 ghost use Rattle.format.specs.Words.{memory_word};
 ghost use Rattle.writing.specs.Written.{Put};
@@ -13,7 +15,7 @@ use text_tables::{LineRow, next_source_line, parse_line_row};
 use writing::{put_number_words, put_word};
 
 // A run of rows with an address: how many, and the place after the row without one that ends it; or one that reaches the last row.
-#[derive(Drop)]
+#[derive(Clone, Copy)]
 enum Run {
     Ends(usize, usize),
     Last,

@@ -1,5 +1,7 @@
 // Rows of the line table with the lines of the source from a byte on, measured and written for any words: row by row, run by run, and in a
 // walk from head to head along the line blocks. Where the room is too short, each row that still fits is written.
+#![tactic(auto)]
+
 ghost use Rattle.std.specs.Prelude.{◌≡◌, ◌<◌, length};
 ghost use Rattle.writing.specs.Written.{Put};
 ghost use Rattle.object.specs.Texts.{text_bytes};

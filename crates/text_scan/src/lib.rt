@@ -1,4 +1,6 @@
 // The text reader's questions, 20 to 31, on a file's bytes in place; what it reads is not stored.
+#![tactic(auto)]
+
 ghost use Rattle.std.specs.Prelude.{◌≡◌, ◌||◌, not, ◌≤◌, length, take};
 ghost use Rattle.format.specs.Records.{empty_object};
 ghost use Rattle.format.specs.TextReader.{text_object};
@@ -16,7 +18,7 @@ use utf8::is_utf8;
 
 // What the groups up to a place come to: their number, the place after them, whether there is a source, where its rows are, what they make, and
 // how many words the blocks have.
-#[derive(Drop)]
+#[derive(Clone, Copy)]
 pub struct Walked {
     pub number: u8,
     pub next: usize,
@@ -143,7 +145,7 @@ fn parse_groups(t: &[u8], first: usize, seen: &mut [u8]) -> Walked
 
 // What a scan comes to. The places in a file that reads: after its first kept line, the end of what trimming leaves, and the rows that its
 // source is from, if there is one, with what they make; and how many words its blocks have.
-#[derive(Drop)]
+#[derive(Clone, Copy)]
 pub struct Scanned {
     pub number: u8,
     pub first: usize,

@@ -1,4 +1,6 @@
 // The text reader's source: the bytes of the SOURCE cells as one text, unescaped.
+#![tactic(auto)]
+
 ghost use Rattle.std.specs.Prelude.{◌≡◌, ◌+◌, ◌<◌, ◌≤◌, false, [], length, slice_index_or};
 ghost use Rattle.format.specs.Utf8.{encode_scalar, is_scalar};
 ghost use Rattle.format.specs.TextReader.{splitn, unescape};
@@ -13,14 +15,14 @@ use text_tables::next_source_line;
 use trim::Span;
 
 // A place in the source column: in a cell, and the place of the next line.
-#[derive(Drop)]
+#[derive(Clone, Copy)]
 pub struct Source {
     pub at: usize,
     pub end: usize,
     pub next: usize,
 }
 
-#[derive(Drop)]
+#[derive(Clone, Copy)]
 pub enum Byte {
     Is(u8, Source),
     Done,
@@ -44,7 +46,7 @@ fn source_cell(l: &[u8]) -> Span
 }
 
 // A cursor that is at a byte.
-#[derive(Drop)]
+#[derive(Clone, Copy)]
 pub enum Piece {
     At(Source),
     Done,
@@ -114,14 +116,14 @@ pub fn next_byte(t: &[u8], c: Source) -> Byte
 }
 
 // What `\u` escapes.
-#[derive(Drop)]
+#[derive(Clone, Copy)]
 pub enum Unicode {
     Scalar(u32, Source),
     Bad,
 }
 
 // A part of the unescaped source: bytes that stand in the text as they are, one byte, or a scalar value.
-#[derive(Drop)]
+#[derive(Clone, Copy)]
 pub enum Token {
     Plain(u8, Source),
     Scalar(u32, Source),
@@ -342,7 +344,7 @@ fn scalar_length(v: u32) -> usize
 }
 
 // What unescaping comes to: the number, and the length of the text, as 64 bits count.
-#[derive(Drop)]
+#[derive(Clone, Copy)]
 pub struct Unescaped {
     pub number: u8,
     pub len: usize,

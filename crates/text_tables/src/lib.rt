@@ -1,4 +1,6 @@
 // The text reader's tables: a function per table for the closures of `parse_table`.
+#![tactic(auto)]
+
 ghost use Rattle.std.specs.Prelude.{◌≡◌, true, map, ◌+◌, ◌≤◌, ◌<◌, length};
 ghost use Rattle.format.specs.Utf8.{trim};
 ghost use Rattle.format.specs.TextReader.{splitn, same_cells};
@@ -17,7 +19,7 @@ use text_lines::{Group, Line, Passed, begins_with, has_row, next_row};
 use trim::trim;
 
 // A row of .SYMBOL, and where its name stands.
-#[derive(Drop)]
+#[derive(Clone, Copy)]
 pub enum SymbolRow {
     Row {
         address: u16,
@@ -29,7 +31,7 @@ pub enum SymbolRow {
 }
 
 // The same, with the place after it.
-#[derive(Drop)]
+#[derive(Clone, Copy)]
 pub enum SymbolStep {
     Row {
         address: u16,
@@ -65,7 +67,7 @@ pub fn parse_symbol_header(l: &[u8]) -> bool
 }
 
 // A cell, trimmed, and where the row goes on after its divider; its end where there is none.
-#[derive(Drop)]
+#[derive(Clone, Copy)]
 pub struct Cell {
     pub start: usize,
     pub end: usize,
@@ -336,7 +338,7 @@ pub fn next_source_line(t: &[u8], at: usize) -> Line
 }
 
 // A row of the label table: where its name stands, and its index.
-#[derive(Drop)]
+#[derive(Clone, Copy)]
 pub enum LabelRow {
     Row {
         start: usize,
@@ -346,7 +348,7 @@ pub enum LabelRow {
     Bad,
 }
 
-#[derive(Drop)]
+#[derive(Clone, Copy)]
 pub enum LabelStep {
     Row {
         start: usize,
@@ -403,7 +405,7 @@ fn spaces_end(l: &[u8], at: usize) -> usize
 }
 
 // Where the name of a row of the label table ends, and where its index begins; in a row that is as it is written.
-#[derive(Drop)]
+#[derive(Clone, Copy)]
 pub enum Written {
     At(usize, usize),
     Nothing,
@@ -542,7 +544,7 @@ pub fn parse_label_table(t: &[u8], at: usize) -> Group
 }
 
 // A row of the line table: its number, and its address if it has one.
-#[derive(Drop)]
+#[derive(Clone, Copy)]
 pub enum LineRow {
     Known(u64, u16),
     Unknown(u64),

@@ -1,5 +1,7 @@
 // What `text2bin` prints: a text file as a binary file, by way of an object in 16,384 words. An input of more than 65,536 bytes is refused
 // with 3, and a refusal is printed as its number and a newline.
+#![tactic(auto)]
+
 ghost use Rattle.units.specs.Filled.{filled_of};
 ghost use Rattle.printing.specs.Printed.{Counts};
 ghost use Rattle.text_to_binary.specs.ToBinary.{ConvertsText, PrintsBinary};

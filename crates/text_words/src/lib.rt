@@ -1,4 +1,6 @@
 // The words of a text file's rows.
+#![tactic(auto)]
+
 ghost use Rattle.std.specs.Prelude.{◌≡◌, true, map, ◌+◌, ◌*◌, ◌^◌, ◌≤◌, ◌<◌, length, take};
 ghost use Rattle.format.specs.Basics.{is_some};
 ghost use Rattle.format.specs.TextReader.{parse_decimal, maybe_hex2u16};
@@ -122,7 +124,7 @@ fn put_entries(out: &mut [u32], t: &[u8], from: usize, n: usize) -> usize
 }
 
 // A block's entries: where they begin, and how many there are; none where they don't all read.
-#[derive(Drop)]
+#[derive(Clone, Copy)]
 pub struct Entries {
     pub from: usize,
     pub count: usize,
@@ -278,7 +280,7 @@ pub fn put_rows(out: &mut [u32], t: &[u8], kind: u8) -> usize
 }
 
 // The room that is left.
-#[derive(Drop)]
+#[derive(Clone, Copy)]
 pub enum Room {
     Left(usize),
     Short,

@@ -1,5 +1,7 @@
 // Writing the text form: its parts, each a walk along the records of an object that is well formed. Rooms are measured first, so that
 // what is written fits.
+#![tactic(auto)]
+
 mod lines;
 
 ghost use Rattle.std.specs.Prelude.{◌≡◌, false, not, ◌||◌, eqb, ◌≤◌, length};

@@ -20,7 +20,7 @@ use text_lines_out::{
 use text_runs_out::{measure_line_records, measure_run, put_line_records, put_run};
 
 // What all rows of an object's line table stand by: the width of the column of line numbers, and the words whose lines wrap.
-#[derive(Drop)]
+#[derive(Clone, Copy)]
 pub struct Layout {
     pub width: usize,
     pub wrapped: Wrapped,
@@ -47,7 +47,7 @@ fn lay_out(ws: &[u32], lines: u64, from: usize) -> Layout
 // What is found once of an object for measuring and writing: whether it has blocks only, and whether it has no source; where it goes on
 // past its labels, where its relocations begin, and the widths of its label table. Else the source of `n` bytes and so many lines in the
 // words from `text` on, the width of the column of line numbers, and the words whose lines wrap.
-#[derive(Drop)]
+#[derive(Clone, Copy)]
 pub struct SourcePlan {
     pub only: bool,
     pub bare: bool,

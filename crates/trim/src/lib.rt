@@ -1,4 +1,6 @@
 // White_Space and trimming, in place on the bytes of a text.
+#![tactic(auto)]
+
 ghost use Rattle.std.specs.Prelude.{◌≡◌, ◌≤◌, length, take, drop};
 ghost use Rattle.format.specs.Utf8.{is_between, is_white_space, trim_start, trim_end, trim, is_blank};
 ghost use Rattle.trim.specs.Span.{part, clipped, trim_start_span, trim_end_span, trim_span, Trimmed};
@@ -7,7 +9,7 @@ ghost use Rattle.trim.specs.WhiteSpace.{shown_white, white_at, ends_white, white
 use utf8::Char;
 
 // From a byte to a byte, the second left out.
-#[derive(Drop)]
+#[derive(Clone, Copy)]
 pub struct Span {
     pub start: usize,
     pub end: usize,

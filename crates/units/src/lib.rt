@@ -1,28 +1,30 @@
 // The three units of the tables, and what calls that fill a buffer or tell a length hand back.
+#![tactic(auto)]
+
 ghost use Rattle.std.specs.Prelude.{◌≡◌, ◌+◌, ◌%◌, ◌^◌};
 ghost use Rattle.units.specs.Filled.{handed_back};
 
 // A line number. 64 bits, as both forms and the number words hold it.
-#[derive(Drop)]
+#[derive(Clone, Copy)]
 pub struct Line(pub u64);
 
 // An index of a byte of the source. 64 bits, as both forms and the number words hold it.
-#[derive(Drop)]
+#[derive(Clone, Copy)]
 pub struct ByteIndex(pub u64);
 
 // An address of the memory, which has 65,536 words.
-#[derive(Drop)]
+#[derive(Clone, Copy)]
 pub struct Address(pub u16);
 
 // The number of the question that was answered no, or 0; and the length filled.
-#[derive(Drop)]
+#[derive(Clone, Copy)]
 pub struct Filled {
     pub number: u8,
     pub len: usize,
 }
 
 // The number of the question that was answered no, or 0; and the length of the answer, of which nothing is written.
-#[derive(Drop)]
+#[derive(Clone, Copy)]
 pub struct Measured {
     pub number: u8,
     pub len: usize,

@@ -1,4 +1,6 @@
 // UTF-8 in place on bytes: whether they are UTF-8, and the character at a place.
+#![tactic(auto)]
+
 ghost use Rattle.std.specs.Prelude.{◌≡◌, true, ◌+◌, ◌≤◌, ◌<◌, length, drop};
 ghost use Rattle.format.specs.Utf8.{follow, shortest_form, char_at, is_utf8};
 ghost use Rattle.utf8.specs.Chars.{char_of, bits_of};
@@ -7,7 +9,7 @@ ghost use Rattle.utf8.specs.Utf8.{Ascii, more, whole, is_whole, step, first_byte
 // Where a reader of UTF-8 stands that is fed a byte at a time, as from text words, whose bytes don't lie side by side: how many bytes of
 // the character are still to come, and the bounds of the next of them.
 // Between characters none is to come. Where the bytes are no UTF-8, one is to come that has no bounds to lie in.
-#[derive(Drop)]
+#[derive(Clone, Copy)]
 pub struct Utf8 {
     pub need: u8,
     pub low: u8,
@@ -164,14 +166,14 @@ fn ascii_end(s: &[u8], at: usize) -> usize
 }
 
 // The character at a place: its scalar value, and how many bytes follow its first.
-#[derive(Drop)]
+#[derive(Clone, Copy)]
 pub enum Char {
     Scalar { value: u32, more: usize },
     Nothing,
 }
 
 // The bits of the bytes that follow a first byte.
-#[derive(Drop)]
+#[derive(Clone, Copy)]
 enum Bits {
     Value(u32),
     Missing,

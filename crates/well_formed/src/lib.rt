@@ -1,4 +1,6 @@
 // Whether a slice of words is a well formed object (document 01, "The holding"), in one walk along its records.
+#![tactic(auto)]
+
 ghost use Rattle.std.specs.Prelude.{◌≡◌, true, ◌<◌, length, get_or};
 ghost use Rattle.format.specs.Sorted.{order, is_less};
 ghost use Rattle.format.specs.Words.{is_head};
@@ -11,7 +13,7 @@ use word_checks::{Body, addresses_end, is_apart, memory_end, rank, text_end};
 
 // What a record is sorted by: its part (0 for no record, 1 block, 2 label, 3 line block, 4 source, 5 relocation), and in its part an
 // address or a first line, or where a name starts.
-#[derive(Drop)]
+#[derive(Clone, Copy)]
 struct Key {
     part: u8,
     value: u64,
@@ -20,7 +22,7 @@ struct Key {
 
 // What the records so far leave to check: the last record's key, the last line block's first line and count, and whether there was a
 // line block and a source.
-#[derive(Drop)]
+#[derive(Clone, Copy)]
 struct Seen {
     key: Key,
     first: u64,
@@ -29,7 +31,7 @@ struct Seen {
     sourced: bool,
 }
 
-#[derive(Drop)]
+#[derive(Clone, Copy)]
 enum Step {
     Next(usize, Seen),
     Bad,

@@ -1,5 +1,7 @@
 // Counts over all numbers below x110000, the scalar values among them, those that `is_white_space` says yes to, and prints each of them
 // and how many they are. That they are 25 is proved of the code that counts; what is printed is what the code does.
+#![tactic(auto)]
+
 ghost use Rattle.std.specs.Prelude.{◌≡◌};
 ghost use Rattle.format.specs.Basics.{how_many};
 ghost use Rattle.format.specs.Utf8.{is_white_space};

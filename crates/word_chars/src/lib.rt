@@ -1,4 +1,6 @@
 // The bytes and the characters of a text that lies in words, by their places in the text.
+#![tactic(auto)]
+
 ghost use Rattle.std.specs.Prelude.{◌≡◌, ◌+◌, drop, get_or, true};
 ghost use Rattle.format.specs.Utf8.{char_at};
 ghost use Rattle.utf8.specs.Chars.{char_of};

@@ -1,4 +1,6 @@
 // Where the words of a record end, if they are as they should be.
+#![tactic(auto)]
+
 ghost use Rattle.std.specs.Prelude.{◌≡◌, ◌+◌, ◌<◌, ◌≤◌, true, length, nat_le};
 ghost use Rattle.format.specs.Basics.{is_given};
 ghost use Rattle.format.specs.Digits.{digits_of};
@@ -11,7 +13,7 @@ use object::goes_on;
 use utf8::Utf8;
 
 // Where the words of a record end, if they are as they should be.
-#[derive(Drop)]
+#[derive(Clone, Copy)]
 pub enum Body {
     Ends(usize),
     Bad,

@@ -1,5 +1,7 @@
 // Part writers. Each is lent the unused rest of the output, `&mut out[at..]`, writes at the front of it and returns the length filled.
 // Where the room is too short it writes nothing and returns 0.
+#![tactic(auto)]
+
 ghost use Rattle.std.specs.Prelude.{◌≡◌, [], ◌∷◌, ◌<◌, get_or};
 ghost use Rattle.format.specs.Words.{number_words, text_words};
 ghost use Rattle.writing.specs.Written.{Put};
