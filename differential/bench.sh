@@ -7,7 +7,7 @@ here=$(cd "$(dirname "$0")" && pwd)
 cd "$here/.."
 why=$("$here/build.sh" --at-hand) || { echo "bench skipped: $why"; exit 0; }
 mkdir -p target
-rt staticlib runs > target/bench.log 2>&1 || { tail -20 target/bench.log >&2; exit 1; }
+tools/archive.sh runs
 . "$here/library.sh"
 
 processor=$(sed -n 's/^model name[^:]*: *//p' /proc/cpuinfo | head -1)

@@ -1,4 +1,4 @@
-/* The host's calls, exported by libhost.a (rt staticlib host). A slice is two parameters: its start, which is never null, not even
+/* The host's calls, exported by libhost.a (tools/archive.sh host). A slice is two parameters: its start, which is never null, not even
    of an empty slice, and its count of bytes. The calls read the bytes and keep nothing; none asks more of its caller. */
 #ifndef LC3_HOST_H
 #define LC3_HOST_H

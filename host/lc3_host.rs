@@ -1,4 +1,4 @@
-//! The host's calls, exported by libhost.a (`rt staticlib host`; link with `-L target/staticlib -l static=host`), over slices.
+//! The host's calls, exported by libhost.a (`tools/archive.sh host`; link with `-L target/staticlib -l static=host`), over slices.
 #![allow(dead_code)] // a host may need only some of them
 
 /// The number of the question that was answered no, or 0; and how many words the file's object has, 0 where it is refused.

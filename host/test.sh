@@ -1,13 +1,13 @@
 #!/bin/sh
 # test.sh: links a C and a Rust program with the archive and compares what the calls answer with `answers`, and with `small_answers` in a
 # thread of 128 KiB of stack. Exit status 1 on a difference.
-# The archive is target/staticlib/libhost.a (rt staticlib host); a compiler that isn't on the path is skipped, with a line that says so.
+# The archive is target/staticlib/libhost.a (tools/archive.sh host); a compiler that isn't on the path is skipped, with a line that says so.
 set -eu
 over=0 # the exit status for a call that needs more than 128 KiB of stack, which is printed: 0 or 1
 here=$(cd "$(dirname "$0")" && pwd)
 repository=$(cd "$here/.." && pwd)
 archives=$repository/target/staticlib
-[ -f "$archives/libhost.a" ] || { echo "test.sh: no $archives/libhost.a: run rt staticlib host" >&2; exit 1; }
+[ -f "$archives/libhost.a" ] || { echo "test.sh: no $archives/libhost.a: run tools/archive.sh host" >&2; exit 1; }
 work=$(mktemp -d)
 trap 'rm -r "$work"' EXIT
 status=0

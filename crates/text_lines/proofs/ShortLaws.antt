@@ -12,7 +12,7 @@ use Rattle.format.specs.Basics.{ascii, begins_with, is_empty}
 use Rattle.format.specs.Utf8.{char_at, is_white_space, trim_from, trim_start, is_blank}
 use Rattle.format.specs.TextReader.{lines}
 use Rattle.trim.specs.Span.{part}
-use Rattle.text_lines.specs.Lines.{line_length, LineAt, is_kept, kept, is_four_long}
+use Rattle.text_lines.specs.Lines.{line_length, LineAt, is_kept, is_four_long}
 use Rattle.text_lines.specs.Groups.{parts_from, RowAt, Spaces, ShowsRow}
 use Rattle.text_lines.proofs.LineLaws.{line-here, line_on, line-fits, line_lf, line_crlf, line-last, kept-yes, length_part, begins_at}
 use Rattle.text_lines.proofs.RowLaws.{row_line, rows_on}

@@ -2,7 +2,6 @@
 -- along a view, whichever the part is; a table's rows are parsed along a view.
 -- Assumes nothing.
 use Rattle.std.specs.Prelude.{◌≡◌, List, ◌∷◌, ℕ, ◌≤◌, ◌<◌, length}
-use Rattle.std.proofs.Math.Option.{some}
 use Rattle.trim.specs.Span.{part}
 
 abbrev pub View : Type 0 → Type 0

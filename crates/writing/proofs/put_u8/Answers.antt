@@ -1,0 +1,11 @@
+-- One store. Assumes nothing.
+use mathlib.Core.Path.{refl}
+use mathlib.Core.List.{[], ◌∷◌}
+use Rattle.writing.proofs.WriteLaws.{too_short, stored}
+use Rattle.writing.proofs.put_u8.Goals as goal
+
+pub returns-then-out-lt1 : goal.returns-then-out-lt1
+returns-then-out-lt1 c = too_short (c.args.v ∷ []) _ 1 refl c.if-out-lt1.true
+
+pub returns : goal.returns
+returns c = stored (c.args.v ∷ []) _ 1 refl c.if-out-lt1.false
