@@ -83,6 +83,13 @@ def record_fields(text):
                 yield m[3]
 
 
+def names_in(text):
+    """The names that a text uses, without its comments and the steps of its paths."""
+    code = "\n".join(code_and_comment(line)[0] for line in text.split("\n"))
+    code = re.sub(r"^use \S+?\.(\{|[^\s.{]+$|[^\s.{]+ as )", r"\1", code, flags=re.M)
+    return set(TOKEN.findall(code))
+
+
 def imported(text, own):
     """The names that a text imports from a library of the toolchain's."""
     found = set()
@@ -101,10 +108,10 @@ def table(root):
         text = read(path)
         definitions |= {n for n, _ in declared(text)}
         fields |= set(record_fields(text))
-        tokens |= set(TOKEN.findall(text))
+        tokens |= names_in(text)
     for path in files(root, ["proofs"], ".antt"):
         text = read(path)
-        tokens |= set(TOKEN.findall(text))
+        tokens |= names_in(text)
         borrowed |= imported(text, own)
         if is_of_function(root, path):
             continue
@@ -147,11 +154,19 @@ def code_and_comment(line):
     return (line, "") if at < 0 else (line[:at], line[at:])
 
 
+def is_comment(before):
+    """Whether what follows this beginning of a line stands in a comment; a comment's prose has words with dashes that are no names."""
+    return re.search(r"(^|[ (])--( |$)", before) is not None
+
+
 def turn(text, to, fields, of_function):
     """In antt's text: whole tokens. Behind a dot, only a name in camel case and a field of a record of our own: another is a step's name."""
     def new(m):
         t = m[0]
         if t not in to:
+            return t
+        line = m.string.rfind("\n", 0, m.start()) + 1
+        if is_comment(m.string[line : m.start()]) and not CAMEL.match(t) and m.string[line : m.start()].count("`") % 2 == 0:
             return t
         if m.start() > 0 and m.string[m.start() - 1] == ".":
             member = m.string[m.end():m.end() + 1] != "."

@@ -23,7 +23,7 @@ all_stand ws ts es last (onward {next = next} {n = n} {t = t} {ts = us} {es = fs
     ((u, i.0), i.1 ∙ u.stood)
 
 pub demand_3 : Demand3
-demand_3 ws n f ts es last j = all_stand ws ts es last j f.object (stands ws f.object (omega arith) f.well_formed_lem f.parts)
+demand_3 ws n f ts es last j = all_stand ws ts es last j f.object (stands ws f.object (omega arith) f.well_formed f.parts)
 
 -- outcomes exist
 labels_in : Outcome ObjectFile → List Label

@@ -320,8 +320,8 @@ no_sign_written = record {
   entries = λ w. numeric_unsigned _ (entry_numeric w);
   texts = λ ws bs n f e.
       let h = f.object in
-      let b : text_file h ≡ bs = given-same (sym (rw f.well_formed_lem) ∙ e) in
-      let r = text-back ws h (stands ws h (omega arith) f.well_formed_lem f.parts) in
+      let b : text_file h ≡ bs = given-same (sym (rw f.well_formed) ∙ e) in
+      let r = text-back ws h (stands ws h (omega arith) f.well_formed f.parts) in
       subst (λ (x : List ℕ). every is_unsigned (text_cells x) ≡ true) b (no_sign_read (text_file h) (words_of h) r);
 }
 

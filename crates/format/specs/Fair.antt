@@ -53,7 +53,7 @@ pub data FairParts (h : ObjectFile) : Type 0 where
 -- document 01's "fair": well formed words, and the facts above of their parts
 pub record Fair (ws : List ℕ) : Type 0 where
   pub object : ObjectFile
-  pub well_formed_lem : object_of ws ≡ given object
+  pub well_formed : object_of ws ≡ given object
   pub parts : FairParts object
 
 -- the same as tests, for the call that asks

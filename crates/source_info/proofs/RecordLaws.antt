@@ -9,7 +9,7 @@ use lib.Dec.{eqb}
 use borrow.Author.Tests.{eq-eqb, ne_eqb}
 use Rattle.format.specs.Basics.{given}
 use Rattle.format.specs.ObjectFile.{ObjectFile}
-use Rattle.format.specs.Records.{Record, source, placed, empty_object}
+use Rattle.format.specs.Records.{Record, placed, empty_object}
 use Rattle.format.specs.Words.{object_of, record_from, records_from}
 use Rattle.format.proofs.ListLaws.{by_test}
 use Rattle.object.specs.Bodies.{body_at, groups_at, text_at, Text}
