@@ -12,7 +12,7 @@ use Rattle.format.specs.Utf8.{is_utf8}
 use Rattle.format.specs.Sorted.{upsert_all}
 use Rattle.format.proofs.SortedLaws.{Rises}
 use Rattle.format.proofs.GatherLaws.{sorted_back}
-use Rattle.format.specs.ObjectFile.{Block, Label, LineBlock, Relocation, ObjectFile, block_key, consistent, apart, source_text}
+use Rattle.format.specs.ObjectFile.{Block, Label, LineBlock, Relocation, ObjectFile, block_key, apart, source_text}
 use Rattle.format.specs.Records.{Record, block, label, line_block, source, relocation, records_of, source_records, drop_stray_relocations, empty_object, concluded, ask_all, with_lines}
 use Rattle.format.specs.Words.{record_words, words_of}
 use Rattle.format.specs.Binary.{magic, version, header, binary_file, binary_records, binary_object}

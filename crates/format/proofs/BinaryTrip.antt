@@ -9,7 +9,7 @@ use Rattle.format.specs.Sorted.{upsert, upsert_all}
 use Rattle.format.proofs.SortedLaws.{Rises}
 use Rattle.format.proofs.GatherLaws.{sorted_back, gather_append, gather_labels}
 use Rattle.format.specs.ObjectFile.{Block, Label, LineBlock, Relocation, ObjectFile, block_key, label_key, line_key, relocation_key, source_text, apart}
-use Rattle.format.specs.Records.{Record, block, label, line_block, source, relocation, records_of, source_records, put_record, gather_records, drop_stray_relocations, empty_object, with_blocks, with_lines, with_relocations, concluded, ask_all}
+use Rattle.format.specs.Records.{block, label, line_block, source, relocation, records_of, source_records, put_record, gather_records, drop_stray_relocations, empty_object, with_blocks, with_lines, with_relocations, concluded, ask_all}
 use Rattle.format.specs.Binary.{magic, version, header, binary_file, binary_records, binary_object}
 use Rattle.format.specs.Calls.{Reordered, in_order}
 use Rattle.format.proofs.ListLaws.{unchanged}

@@ -12,8 +12,8 @@ use Rattle.format.specs.Sorted.{at_key, upsert_all}
 use Rattle.format.proofs.SortedLaws.{Rises}
 use Rattle.format.proofs.GatherLaws.{Distinct, rises_distinct, sorted_back, reordered_at_key}
 use Rattle.format.specs.Utf8.{is_utf8}
-use Rattle.format.specs.ObjectFile.{Block, Label, LineBlock, Relocation, ObjectFile, block_key, label_key, relocation_key, never_fall, source_text, consistent}
-use Rattle.format.specs.Records.{source, empty_object, drop_stray_relocations, concluded, ask_all}
+use Rattle.format.specs.ObjectFile.{Block, Label, LineBlock, Relocation, ObjectFile, block_key, label_key, relocation_key, never_fall, source_text}
+use Rattle.format.specs.Records.{empty_object, drop_stray_relocations, concluded, ask_all}
 use Rattle.format.specs.TextWriter.{text_line, blocks_only, symbol_groups, text_file, by_address, by_start}
 use Rattle.format.specs.TextReader.{kept_lines, after_magic, parse_group, parse_text_group, parse_symbol_group, parse_linker_group, parse_debug_group, is_bar, text_object}
 use Rattle.format.specs.Calls.{Reordered}

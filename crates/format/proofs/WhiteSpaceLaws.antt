@@ -7,7 +7,7 @@ use native.Mathlib.Numerals.{add-one}
 use native.Mathlib.Omega.{arith}
 use lib.Dec.{leb, eqb}
 use borrow.Author.Tests.{lt-ltb, lt-leb, leb-true, leb-false, ne_eqb}
-use Rattle.format.specs.Basics.{if◌then◌else◌, how_many}
+use Rattle.format.specs.Basics.{how_many}
 use Rattle.format.specs.Utf8.{is_between, is_scalar, is_white_space}
 use Rattle.format.proofs.ListLaws.{by_test}
 

@@ -1,10 +1,10 @@
 -- Rows at the places of a window, and window after window. Assumes nothing.
 use mathlib.Core.Path.{◌≡◌, ap, ◌∙◌}
 use mathlib.Core.List.{List, [], ◌∷◌, ◌++◌, flat_map}
-use Prim.Native.Nat.{ℕ, ◌+◌, ◌-◌, ◌≤◌, ◌<◌}
+use Prim.Native.Nat.{ℕ, ◌+◌, ◌≤◌, ◌<◌}
 use native.Mathlib.Omega.{arith}
 use lib.ListN.{length, take, drop, length-append, length-take, length-drop, drop_of_length-le}
-use Rattle.format.specs.Sorted.{upsert, upsert_all, sorted}
+use Rattle.format.specs.Sorted.{upsert, upsert_all}
 use borrow.Author.Rules.{part_to_end}
 use Rattle.writing.proofs.Parts.{State, Emits, rest, has_room}
 use Rattle.gather.specs.Order.{HandsOut}

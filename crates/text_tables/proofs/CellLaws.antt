@@ -123,8 +123,8 @@ module _ (l : List ℕ) (c : Cell) (x : CellAt l 0 c) where
   pub second_of_two : (u : Span) → Trimmed trim trim_span l c.next (length l) u → Spans l u.start u.end (trim (get_or (splitn 1 l) 1 []))
   second_of_two u s = let r = s.1 in record { ordered = r.ordered; inside = r.inside; same = r.same ∙ ap trim last-bytes }
 
-  pub first_of_three_lem : Spans l c.start c.end (trim (get_or (splitn 2 l) 0 []))
-  first_of_three_lem = let r = x.cell in record { ordered = r.ordered; inside = r.inside; same = r.same ∙ ap trim (sym (cells_two l).0) }
+  pub first_of_three : Spans l c.start c.end (trim (get_or (splitn 2 l) 0 []))
+  first_of_three = let r = x.cell in record { ordered = r.ordered; inside = r.inside; same = r.same ∙ ap trim (sym (cells_two l).0) }
 
   module _ (d : Cell) (y : CellAt l c.next d) where
     pub second_of_three : Spans l d.start d.end (trim (get_or (splitn 2 l) 1 []))

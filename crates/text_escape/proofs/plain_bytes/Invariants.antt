@@ -1,0 +1,10 @@
+use Prim.Native.Nat.{◌-◌}
+use Rattle.word_chars.specs.Stretches.{Stretch}
+use Rattle.text_escape.specs.Escaped.{Itself}
+use Rattle.text_escape.proofs.plain_bytes.Given as goal
+
+abbrev pub invariant-loop-k : goal.invariant-loop-k
+invariant-loop-k l = Stretch Itself l.ws l.at l.end l.i l.k
+
+abbrev pub decreases-loop-k : goal.decreases-loop-k
+decreases-loop-k l = l.end - l.k
