@@ -121,8 +121,8 @@ no_address [] h = refl
 no_address (a ∷ []) h = refl
 no_address (a ∷ b ∷ s) h = absurd (let z : ⊥ = omega arith in z)
 
-pub memory_end_lem : (s : List ℕ) (i : ℕ) → length s < i + 3 → memory_words (drop i s) ≡ []
-memory_end_lem s i h = no_memory (drop i s) (omega (arith, length-drop i s))
+pub memory_end : (s : List ℕ) (i : ℕ) → length s < i + 3 → memory_words (drop i s) ≡ []
+memory_end s i h = no_memory (drop i s) (omega (arith, length-drop i s))
 
 pub address-end : (s : List ℕ) (i : ℕ) → length s < i + 2 → address_words (drop i s) ≡ []
 address-end s i h = no_address (drop i s) (omega (arith, length-drop i s))

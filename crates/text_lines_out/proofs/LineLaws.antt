@@ -182,13 +182,13 @@ module _ (ws : List ℕ) (at n start : ℕ) where
   abbrev text : List ℕ
   text = text_bytes ws at n
 
-  pass_each_lem : (d : ℕ) → start + d ≤ n → EachByte Other ws at start (start + d) → Passing text start (start + d)
-  pass_each_lem zero h f = let e : start ≡ start + 0 = omega arith in subst (Passing text start) e (passing_start text start)
-  pass_each_lem (suc d) h f =
+  pass_each : (d : ℕ) → start + d ≤ n → EachByte Other ws at start (start + d) → Passing text start (start + d)
+  pass_each zero h f = let e : start ≡ start + 0 = omega arith in subst (Passing text start) e (passing_start text start)
+  pass_each (suc d) h f =
       let e : start + d + 1 ≡ start + suc d = omega arith in
       let l : start + d < n = omega arith in
       subst (Passing text start) e
-      (pass_on text start (start + d) (pass_each_lem d (omega arith) (λ k a b. f k a (omega arith))) (omega (arith, size_is ws at n, l))
+      (pass_on text start (start + d) (pass_each d (omega arith) (λ k a b. f k a (omega arith))) (omega (arith, size_is ws at n, l))
       (λ z. f (start + d) (omega arith) (omega arith) (byte_is ws at n (start + d) l ∙ z)))
 
 -- line 0, and from line to line
@@ -215,11 +215,11 @@ escape-none : (k : ℕ) → escape_from 0 (take k []) ≡ escape_from 0 []
 escape-none zero = refl
 escape-none (suc k) = refl
 
-pub cell_is_lem :
+pub cell_is :
     (s : List ℕ) (m start next : ℕ) → At s m start → Next s start next
     → escape_from 0 (take (smaller next (length s) - start) (drop start s)) ≡ source_cell s m
 unfolding source_cell escape_from
-cell_is_lem s m start next a n =
+cell_is s m start next a n =
     let e : ℕ = smaller next (length s) in
     let z : m + 0 ≡ m = omega arith in
     let cell : Outcome Span → List ℕ = λ o. given_or (o >>= λ r. given (escape (span_bytes s r))) [] in
@@ -265,13 +265,13 @@ row_is ws at n width m start next end a h k e =
     by_test (leb start (length s))
     (λ t. let g = leb-true start (length s) t in
     ap (escape_from 0) (bytes-part ws at start end n (omega (arith, q, k.on g)) (omega arith))
-    ∙ ap (λ (x : ℕ). escape_from 0 (take (x - start) (drop start s))) q ∙ cell_is_lem s m start next h k)
+    ∙ ap (λ (x : ℕ). escape_from 0 (take (x - start) (drop start s))) q ∙ cell_is s m start next h k)
     (λ t. let g = leb-false start (length s) t in
     let short : length (text_bytes ws at end) ≤ start = omega (arith, size_is ws at end) in
     ap (escape_from 0) (drop_of_length-le (text_bytes ws at end) short)
     ∙ sym (ap (λ (r : List ℕ). escape_from 0 (take (smaller next (length s) - start) r)) (drop_of_length-le s
     (let y : length s ≤ start = omega arith in y)) ∙ escape-none (smaller next (length s) - start))
-    ∙ cell_is_lem s m start next h k) in
+    ∙ cell_is s m start next h k) in
     ap (line_line width m a) cell ∙ sym (append-nil (line_line width m a (source_cell s m)))
 
 -- A RUN OF ROWS, row by row

@@ -113,9 +113,9 @@ module _ (kind : ℕ) (t : List ℕ) (at a e n : ℕ) (l : RowAt t at a e n) whe
   unfolding rows_in
   row-none h = ap (rows_in kind 0) (rows_on t at a e n l) ∙ rw h
 
-  pub first_bar_lem : (kind ≡ 0 → ⊥) → ends_table kind first ≡ true → FirstRow kind t at at
+  pub first_bar : (kind ≡ 0 → ⊥) → ends_table kind first ≡ true → FirstRow kind t at at
   unfolding under_header rows_in
-  first_bar_lem z y =
+  first_bar z y =
       record {
         from = omega arith;
         inside = λ h. h;
@@ -148,15 +148,15 @@ module _ (kind : ℕ) (t : List ℕ) (at a e n : ℕ) (l : RowAt t at a e n) whe
         inside = s.inside l.next;
         same = ap (λ (xs : List (List ℕ)). rows_in kind 0 xs ++ g (parts_from t at).groups) r
             ∙ rw h (ap (λ (xs : List (List ℕ)). row_in kind xs ∷ (rows_in kind (lines_after kind ls) ls ++ g (parts_from t at).groups)) (sym r))
-            ∙ ap (λ (rs : List Record). row_in kind (parts_from t at).before ∷ (rs ++ g (parts_from t at).groups)) (skip_rows_lem (lines_after kind ls) ls ∙ ap (rows_in kind 0) (sym b))
+            ∙ ap (λ (rs : List Record). row_in kind (parts_from t at).before ∷ (rs ++ g (parts_from t at).groups)) (skip_rows (lines_after kind ls) ls ∙ ap (rows_in kind 0) (sym b))
             ∙ ap (λ (x : List Group). row_in kind (parts_from t at).before ∷ (rows_in kind 0 (parts_from t q).before ++ g x)) (sym gs);
       }
     where
-      skip_rows_lem : (k : ℕ) (ls : List (List ℕ)) → rows_in kind k ls ≡ rows_in kind 0 (drop k ls)
-      skip_rows_lem zero [] = refl
-      skip_rows_lem (suc k) [] = refl
-      skip_rows_lem zero (x ∷ xs) = refl
-      skip_rows_lem (suc k) (x ∷ xs) = skip_rows_lem k xs
+      skip_rows : (k : ℕ) (ls : List (List ℕ)) → rows_in kind k ls ≡ rows_in kind 0 (drop k ls)
+      skip_rows zero [] = refl
+      skip_rows (suc k) [] = refl
+      skip_rows zero (x ∷ xs) = refl
+      skip_rows (suc k) (x ∷ xs) = skip_rows k xs
 
   pub row_block : (q : ℕ) → kind ≡ 0 → Skips t n (suc (count_in (parts_from t n).before)) q → FoundAt kind t at at q
   unfolding lines_after
