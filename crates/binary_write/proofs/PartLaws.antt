@@ -47,9 +47,9 @@ module _ (ws : List ℕ) (i : ℕ) where
       flat_map_at (λ w. memory_bytes (memory_in w)) 0 ws i h
       ∙ ap (λ bs. bs ++ flat_map (λ w. memory_bytes (memory_in w)) (drop (i + 1) ws)) (memory_bytes_lem (get_or ws i 0))
 
-  pub memory_end_lem : length ws ≤ i → memory_part (drop i ws) ≡ []
+  pub memory_end : length ws ≤ i → memory_part (drop i ws) ≡ []
   unfolding memory_part flat_map
-  memory_end_lem h = ap memory_part (drop_of_length-le ws h)
+  memory_end h = ap memory_part (drop_of_length-le ws h)
 
   pub addresses-here : i < length ws → address_part (drop i ws)
       ≡ get_or ws i 0 % 256 ∷ get_or ws i 0 / 256 % 256 ∷ address_part (drop (i + 1) ws)

@@ -443,11 +443,11 @@ module _ (ws : List ℕ) (v : Value) where
     some_lines (no_source_in h e s n) q = n4 n
     some_lines (source_in_lem h s e q n l) p = absurd (omega arith)
 
-    pub well_formed_lem : Counted ws v → checked ws ≡ 0
+    pub well_formed : Counted ws v → checked ws ≡ 0
     unfolding checked
-    well_formed_lem (ill_formed e n) = absurd (n1 n)
-    well_formed_lem (no_source_in h e s n) = absurd (n4 n)
-    well_formed_lem (source_in_lem h s e q n l) = ap refusal_of e
+    well_formed (ill_formed e n) = absurd (n1 n)
+    well_formed (no_source_in h e s n) = absurd (n4 n)
+    well_formed (source_in_lem h s e q n l) = ap refusal_of e
 
     pub answer_0 : Counted ws v → (last : ℕ) → last + 1 ≡ v.value → (r : Bool) → FairIn ws last r
         → record { number = 0; fair = r } ≡ fair_answer (object_of ws)

@@ -6,7 +6,7 @@ use Rattle.record_words.proofs.RecordLaws.{memory_words}
 use Rattle.record_words.proofs.put_memory_words.Given as goal
 
 abbrev pub invariant-loop-at : goal.invariant-loop-at
-invariant-loop-at l =    (l.i ≡ 3 * l.at) × (l.at ≤ length l.s / 3) × Emits (memory_words l.s) l.initial.out (memory_words (drop l.i l.s)) (record { at = l.at; out = l.out })
+invariant-loop-at l = (l.i ≡ 3 * l.at) × (l.at ≤ length l.s / 3) × Emits (memory_words l.s) l.initial.out (memory_words (drop l.i l.s)) (record { at = l.at; out = l.out })
 
 abbrev pub decreases-loop-at : goal.decreases-loop-at
 decreases-loop-at l = length l.s / 3 - l.at

@@ -35,12 +35,11 @@ pub returns-then-a-last : goal.returns-then-a-last
 returns-then-a-last c = sym (from-here (goal.at.returns-then-a-last c).In-loop-w) ∙ address_falls _ _ _ c.if-w-ne8193.false c.if-a-last.true
 
 pub loop-w-preserved : goal.loop-w-preserved
-loop-w-preserved c =
-    (
-      omega (arith, ap length (going (goal.at.loop-w-preserved c).In-loop-w).1),
-      sym (address-next _ _ _ c.if-w-ne8193.false c.if-a-last.false) ∙ from-here (goal.at.loop-w-preserved c).In-loop-w,
-      omega arith,
-    )
+loop-w-preserved c = (
+  omega (arith, ap length (going (goal.at.loop-w-preserved c).In-loop-w).1),
+  sym (address-next _ _ _ c.if-w-ne8193.false c.if-a-last.false) ∙ from-here (goal.at.loop-w-preserved c).In-loop-w,
+  omega arith,
+)
 
 pub returns : goal.returns
 returns c =

@@ -4,7 +4,7 @@ use Rattle.object.proofs.WordLaws.{addresses_on}
 use Rattle.word_checks.proofs.addresses_end.Given as goal
 
 abbrev pub invariant-loop-w : goal.invariant-loop-w
-invariant-loop-w l =    (l.i + length (body_at l.ws l.i) ≡ l.at + length (body_at l.ws l.at)) × (addresses_on l.last (body_at l.ws l.i) ≡ good_addresses (body_at l.ws l.at))
+invariant-loop-w l = (l.i + length (body_at l.ws l.i) ≡ l.at + length (body_at l.ws l.at)) × (addresses_on l.last (body_at l.ws l.i) ≡ good_addresses (body_at l.ws l.at))
     × (l.last < 2 ^ 16)
 
 abbrev pub decreases-loop-w : goal.decreases-loop-w

@@ -36,12 +36,11 @@ pub loop-at-smaller : goal.loop-at-smaller
 loop-at-smaller c = omega (arith, (going (goal.at.loop-at-smaller c).In-loop-at).0)
 
 pub loop-at-preserved : goal.loop-at-preserved
-loop-at-preserved c =
-    (
-      omega (arith, ap length (going (goal.at.loop-at-preserved c).In-loop-at).1),
-      sym (memory_cons _ _ ∙ ap (λ b. b && good_memory (body_at (ws (goal.at.loop-at-preserved c).In-loop-at) (i (goal.at.loop-at-preserved c).In-loop-at + 1)))
-          (sym c.is_memory.ensures ∙ c.if-not-is_memory.false)) ∙ from-here (goal.at.loop-at-preserved c).In-loop-at,
-    )
+loop-at-preserved c = (
+  omega (arith, ap length (going (goal.at.loop-at-preserved c).In-loop-at).1),
+  sym (memory_cons _ _ ∙ ap (λ b. b && good_memory (body_at (ws (goal.at.loop-at-preserved c).In-loop-at) (i (goal.at.loop-at-preserved c).In-loop-at + 1)))
+      (sym c.is_memory.ensures ∙ c.if-not-is_memory.false)) ∙ from-here (goal.at.loop-at-preserved c).In-loop-at,
+)
 
 pub returns : goal.returns
 unfolding good_memory memories_of

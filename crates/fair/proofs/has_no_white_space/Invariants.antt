@@ -1,0 +1,14 @@
+use mathlib.Core.Path.{◌≡◌}
+use mathlib.Core.Bool.{true}
+use Prim.Native.Nat.{◌-◌}
+use lib.ListN.{drop}
+use Rattle.format.specs.Utf8.{is_utf8}
+use Rattle.format.specs.Fair.{no_white_space}
+use Rattle.object.specs.Texts.{text_bytes}
+use Rattle.fair.proofs.has_no_white_space.Given as goal
+
+abbrev pub invariant-loop-value : goal.invariant-loop-value
+invariant-loop-value l = (is_utf8 (drop l.p (text_bytes l.ws l.at l.n)) ≡ true) × (no_white_space (drop l.p (text_bytes l.ws l.at l.n)) ≡ no_white_space (text_bytes l.ws l.at l.n))
+
+abbrev pub decreases-loop-value : goal.decreases-loop-value
+decreases-loop-value l = l.n - l.p
