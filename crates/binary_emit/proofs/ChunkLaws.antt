@@ -7,7 +7,8 @@ use Prim.Native.Nat.{ℕ, ◌+◌, ◌-◌, ◌*◌, ◌/◌, ◌≤◌, ◌<◌
 use native.Mathlib.Omega.{arith}
 use lib.ListN.{length, take, drop, length-append, length-drop, take-append-drop}
 use lib.Seq.{drop-drop, take_at, drop_at, length-take-le}
-use Rattle.format.specs.Basics.{if◌then◌else◌, is_empty, is_some}
+use Rattle.std.specs.Prelude.{if◌then◌else◌}
+use Rattle.format.specs.Basics.{is_empty, is_some}
 use Rattle.format.specs.Digits.{value_of}
 use Rattle.format.specs.Records.{source_records}
 use Rattle.format.specs.Words.{word, text_words, record_words}

@@ -1,7 +1,7 @@
 -- Where the records of an object stand, and what is asked of it before it is written in the binary form. Assumes nothing.
-use Rattle.std.specs.Prelude.{◌≡◌, Bool, true, ℕ, ◌+◌, ◌≤◌, ◌<◌, length, get_or, leb, eqb}
+use Rattle.std.specs.Prelude.{◌≡◌, Bool, true, ℕ, ◌+◌, ◌≤◌, ◌<◌, length, get_or, leb, eqb, if◌then◌else◌}
 use mathlib.Core.List.{List, [], flat_map}
-use Rattle.format.specs.Basics.{given, if◌then◌else◌, given_or, every}
+use Rattle.format.specs.Basics.{given, given_or, every}
 use Rattle.format.specs.Records.{Record, block, label, line_block, source, relocation}
 use Rattle.format.specs.Words.{is_head, text_from, record_from, records_from}
 use Rattle.format.specs.Binary.{record_bytes}

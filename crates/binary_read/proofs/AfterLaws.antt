@@ -5,7 +5,8 @@ use mathlib.Core.List.{List, [], ◌∷◌, ◌++◌, map, flat_map, append_asso
 use Prim.Native.Nat.{ℕ}
 use lib.ListN.{drop}
 use borrow.Author.Tests.{ne_eqb}
-use Rattle.format.specs.Basics.{refused, given, if◌then◌else◌, is_empty, is_some}
+use Rattle.std.specs.Prelude.{if◌then◌else◌}
+use Rattle.format.specs.Basics.{refused, given, is_empty, is_some}
 use Rattle.format.specs.Tokens.{tokens}
 use Rattle.format.specs.Sorted.{upsert, upsert_all, sorted}
 use Rattle.format.specs.ObjectFile.{ObjectFile, apart}

@@ -1,6 +1,6 @@
 -- What a binary file gives after its header. Assumes nothing.
-use Rattle.std.specs.Prelude.{List, ℕ, drop, eqb}
-use Rattle.format.specs.Basics.{Outcome, refused, given, ◌>>=◌, if◌then◌else◌}
+use Rattle.std.specs.Prelude.{List, ℕ, drop, eqb, if◌then◌else◌}
+use Rattle.format.specs.Basics.{Outcome, refused, given, ◌>>=◌}
 use Rattle.format.specs.Tokens.{tokens}
 use Rattle.format.specs.Records.{gather_records, empty_object, binary_questions, concluded}
 use Rattle.format.specs.Binary.{record_at}

@@ -9,7 +9,8 @@ use lib.ListN.{length, take, drop, get_or, length-drop, drop_of_length-le}
 use lib.Seq.{drop-cons, drop-drop}
 use lib.Dec.{eqb}
 use borrow.Author.Tests.{ne_eqb, le-leb, lt-leb, leb-true, leb-false, lt-ltb, le-ltb}
-use Rattle.format.specs.Basics.{Outcome, refused, given, ◌>>=◌, if◌then◌else◌, chain}
+use Rattle.std.specs.Prelude.{if◌then◌else◌}
+use Rattle.format.specs.Basics.{Outcome, refused, given, ◌>>=◌, chain}
 use Rattle.format.specs.Digits.{value_of}
 use Rattle.format.specs.Tokens.{tokens}
 use Rattle.format.specs.Utf8.{is_utf8}

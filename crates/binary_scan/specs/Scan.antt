@@ -1,7 +1,6 @@
 -- What the questions 12 to 14 ask of a binary record, for all kinds alike: so many bytes that every record of the kind has, then a body
 -- whose length a number among them tells, then one question of the body. Assumes nothing.
-use Rattle.std.specs.Prelude.{List, ℕ, ◌+◌, ◌*◌, drop, eqb}
-use Rattle.format.specs.Basics.{if◌then◌else◌}
+use Rattle.std.specs.Prelude.{List, ℕ, ◌+◌, ◌*◌, drop, eqb, if◌then◌else◌}
 use Rattle.format.specs.Utf8.{is_utf8}
 use Rattle.format.specs.ObjectFile.{strictly_rise}
 use Rattle.format.specs.Binary.{number_at, has_bytes, addresses_from}

@@ -1,7 +1,7 @@
 -- The words of the object of a binary file, part by part as they are written. Assumes nothing.
-use Rattle.std.specs.Prelude.{Bool, not, ◌||◌, ℕ}
+use Rattle.std.specs.Prelude.{Bool, not, ◌||◌, ℕ, if◌then◌else◌}
 use mathlib.Core.List.{List, [], ◌++◌, flat_map}
-use Rattle.format.specs.Basics.{if◌then◌else◌, is_empty, is_some}
+use Rattle.format.specs.Basics.{is_empty, is_some}
 use Rattle.format.specs.Records.{source_records}
 use Rattle.format.specs.Words.{record_words}
 use Rattle.gather.specs.Places.{places_of}

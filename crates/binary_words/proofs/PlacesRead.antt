@@ -9,7 +9,8 @@ use lib.ListN.{take, drop}
 use lib.Seq.{drop-drop}
 use lib.Dec.{eqb}
 use borrow.Author.Tests.{ne_eqb}
-use Rattle.format.specs.Basics.{Outcome, refused, given, ◌>>=◌, if◌then◌else◌, is_empty}
+use Rattle.std.specs.Prelude.{if◌then◌else◌}
+use Rattle.format.specs.Basics.{Outcome, refused, given, ◌>>=◌, is_empty}
 use Rattle.format.specs.Digits.{value_of}
 use Rattle.format.specs.Utf8.{is_utf8}
 use Rattle.format.specs.Tokens.{tokens}

@@ -9,7 +9,8 @@ use lib.ListN.{length, drop, length-append, length-take, length-drop}
 use lib.Seq.{drop-drop}
 use lib.Dec.{eqb, leb}
 use borrow.Author.Tests.{eqb-true, leb-true, leb-false}
-use Rattle.format.specs.Basics.{if◌then◌else◌, is_empty, is_some}
+use Rattle.std.specs.Prelude.{if◌then◌else◌}
+use Rattle.format.specs.Basics.{is_empty, is_some}
 use Rattle.format.specs.Records.{source_records}
 use Rattle.format.specs.Words.{record_words, text_words}
 use Rattle.format.specs.Binary.{number_at}

@@ -1,8 +1,8 @@
 -- The record that stands at a place of a binary file, for every place, and the object that the places make. Assumes nothing.
-use Rattle.std.specs.Prelude.{not, ◌&&◌, ℕ, ◌+◌, ◌*◌, length, eqb}
+use Rattle.std.specs.Prelude.{not, ◌&&◌, ℕ, ◌+◌, ◌*◌, length, eqb, if◌then◌else◌}
 use mathlib.Core.List.{List, [], map, flat_map}
 use Rattle.std.proofs.Math.Option.{Option, none, some}
-use Rattle.format.specs.Basics.{if◌then◌else◌, is_empty}
+use Rattle.format.specs.Basics.{is_empty}
 use Rattle.format.specs.Sorted.{sorted}
 use Rattle.format.specs.ObjectFile.{Block, Label, LineBlock, Relocation, ObjectFile}
 use Rattle.format.specs.Records.{block, label, line_block, source, relocation}

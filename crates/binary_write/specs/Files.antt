@@ -1,7 +1,7 @@
 -- Binary write: the file of an object after the bytes that begin it, and the bytes of its records by their words. Assumes nothing.
-use Rattle.std.specs.Prelude.{◌≡◌, ℕ, ◌+◌, ◌%◌, ◌^◌, ◌≤◌, length, eqb}
+use Rattle.std.specs.Prelude.{◌≡◌, ℕ, ◌+◌, ◌%◌, ◌^◌, ◌≤◌, length, eqb, if◌then◌else◌}
 use mathlib.Core.List.{List, [], ◌∷◌, ◌++◌, flat_map}
-use Rattle.format.specs.Basics.{Outcome, given, ◌>>=◌, ask, if◌then◌else◌}
+use Rattle.format.specs.Basics.{Outcome, given, ◌>>=◌, ask}
 use Rattle.format.specs.ObjectFile.{Label, Relocation}
 use Rattle.format.specs.Records.{Record, block, label, line_block, source, relocation, records_of}
 use Rattle.format.specs.Words.{object_of, flag_bit}

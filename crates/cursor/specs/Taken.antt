@@ -1,7 +1,6 @@
 -- What is taken at a place of the input: document 01's number, every value and the next place, all 0 where bytes are missing ("All its
 -- bytes there? 12"). One definition for each enum, and the answers that the contracts equate them with. Assumes nothing.
-use Rattle.std.specs.Prelude.{List, ℕ, ◌+◌}
-use Rattle.format.specs.Basics.{if◌then◌else◌}
+use Rattle.std.specs.Prelude.{List, ℕ, ◌+◌, if◌then◌else◌}
 use Rattle.format.specs.Binary.{number_at, has_bytes}
 use Rattle.cursor.specs.declared.TookU8.{TookU8}
 use Rattle.cursor.specs.declared.TookU8.TheVariants as u8

@@ -1,6 +1,5 @@
 -- What `encode_scalar` writes. Assumes nothing.
-use Rattle.std.specs.Prelude.{List, [], ◌∷◌, ℕ, ◌+◌, ◌/◌, ◌%◌, ◌^◌}
-use Rattle.format.specs.Basics.{if◌then◌else◌}
+use Rattle.std.specs.Prelude.{List, [], ◌∷◌, ℕ, ◌+◌, ◌/◌, ◌%◌, ◌^◌, if◌then◌else◌}
 use Rattle.format.specs.Utf8.{is_scalar, encode_scalar}
 
 -- the four forms of Unicode's table 3-6

@@ -9,7 +9,8 @@ use native.Mathlib.Numerals.{add-one}
 use lib.ListN.{length, get_or}
 use lib.Dec.{leb, ltb, eqb}
 use borrow.Author.Tests.{eq-eqb, ne_eqb, eqb-false, le-leb, lt-leb, ltb-true, ltb-false, leb-true, leb-false}
-use Rattle.format.specs.Basics.{Outcome, refused, given, is_given, if◌then◌else◌, every, chain, is_empty, is_some}
+use Rattle.std.specs.Prelude.{if◌then◌else◌}
+use Rattle.format.specs.Basics.{Outcome, refused, given, is_given, every, chain, is_empty, is_some}
 use Rattle.format.specs.ObjectFile.{LineBlock, ObjectFile, line_end, strictly_rise, never_fall, apart, names_of, source_text, consistent}
 use Rattle.format.specs.Records.{Record, block, label, line_block, source, relocation, placed, empty_object}
 use Rattle.format.specs.Source.{newlines, line_count}

@@ -1,7 +1,7 @@
 -- Whether an object is fair, record by record. Assumes nothing.
-use Rattle.std.specs.Prelude.{◌≡◌, Bool, true, ◌&&◌, List, [], ◌∷◌, ℕ, ◌+◌, length, leb}
+use Rattle.std.specs.Prelude.{◌≡◌, Bool, true, ◌&&◌, List, [], ◌∷◌, ℕ, ◌+◌, length, leb, if◌then◌else◌}
 use Rattle.std.proofs.Math.Option.{Option, none, some}
-use Rattle.format.specs.Basics.{given, if◌then◌else◌, every}
+use Rattle.format.specs.Basics.{given, every}
 use Rattle.format.specs.ObjectFile.{LineBlock, ObjectFile, line_end, strictly_rise, names_of}
 use Rattle.format.specs.Records.{Record, block, label, line_block, source, relocation}
 use Rattle.format.specs.Words.{object_of}

@@ -9,7 +9,8 @@ use lib.ListN.{length, take, drop, length-append, length-take, length-drop, take
 use lib.Seq.{take-append-le, drop-append-le}
 use lib.Dec.{leb, ltb, eqb}
 use borrow.Author.Tests.{ltb-true, leb-true, le-leb}
-use Rattle.format.specs.Basics.{Outcome, refused, given, if◌then◌else◌, chain, All, begins_with}
+use Rattle.std.specs.Prelude.{if◌then◌else◌}
+use Rattle.format.specs.Basics.{Outcome, refused, given, chain, All, begins_with}
 use Rattle.format.specs.Digits.{value_of}
 use Rattle.format.specs.Utf8.{is_utf8}
 use Rattle.format.specs.ObjectFile.{LineBlock, never_fall, strictly_rise, ObjectFile, apart}

@@ -8,7 +8,8 @@ use native.Mathlib.Omega.{arith}
 use lib.ListN.{length, replicate}
 use lib.Dec.{ltb, eqb}
 use borrow.Author.Tests.{ltb-true}
-use Rattle.format.specs.Basics.{given, ◌>>=◌, if◌then◌else◌, ascii, is_empty, chain, All, is_some}
+use Rattle.std.specs.Prelude.{if◌then◌else◌}
+use Rattle.format.specs.Basics.{given, ◌>>=◌, ascii, is_empty, chain, All, is_some}
 use Rattle.format.specs.Utf8.{trim, characters}
 use Rattle.format.specs.ObjectFile.{LineBlock, ObjectFile, line_end}
 use Rattle.format.specs.Records.{with_lines}

@@ -9,7 +9,8 @@ use lib.ListN.{length, take, drop, length-append}
 use lib.Seq.{take-append_seam, drop_at}
 use lib.Dec.{leb, eqb}
 use borrow.Author.Tests.{leb-true, lt-ltb, le-leb, eqb-true}
-use Rattle.format.specs.Basics.{given, ◌>>=◌, if◌then◌else◌, ascii, begins_with, All, is_some}
+use Rattle.std.specs.Prelude.{if◌then◌else◌}
+use Rattle.format.specs.Basics.{given, ◌>>=◌, ascii, begins_with, All, is_some}
 use Rattle.format.specs.Tokens.{tokens}
 use Rattle.format.specs.Utf8.{is_between, encode_scalar}
 use Rattle.format.specs.TextWriter.{numeral, escape_char, escape}

@@ -5,7 +5,7 @@ use mathlib.Core.Option.{Option, none, some, or_else}
 use Prim.Native.Nat.{ℕ, Ordering}
 use native.Mathlib.Omega.{arith}
 use lib.Dec.{compare_is_eq}
-use Rattle.format.specs.Basics.{if◌then◌else◌}
+use Rattle.std.specs.Prelude.{if◌then◌else◌}
 use Rattle.format.specs.Sorted.{order, upsert, at_key, upsert_all, sorted}
 use Rattle.format.proofs.SortedLaws.{order_self, order_eq, at_key-upsert, Rises, rises-upsert, at_key_above, ext_at_key}
 use Rattle.format.specs.ObjectFile.{Label, ObjectFile, label_key}

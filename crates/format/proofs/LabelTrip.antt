@@ -7,7 +7,8 @@ use Prim.Native.Nat.{ℕ, ◌-◌, ◌^◌, ◌<◌, Ordering}
 use native.Mathlib.Omega.{arith}
 use lib.ListN.{length}
 use lib.Dec.{compare_is_eq}
-use Rattle.format.specs.Basics.{given, ascii, if◌then◌else◌, begins_with, eqs, is_empty, All}
+use Rattle.std.specs.Prelude.{if◌then◌else◌}
+use Rattle.format.specs.Basics.{given, ascii, begins_with, eqs, is_empty, All}
 use Rattle.format.specs.Tokens.{fold_outcome}
 use Rattle.format.specs.Sorted.{order, upsert, at_key, upsert_all}
 use Rattle.format.proofs.SortedLaws.{order_self, order_eq, at_key-upsert, Rises, ext_at_key}

@@ -5,7 +5,8 @@ use mathlib.Core.List.{List, [], ◌∷◌, ◌++◌, map, flat_map}
 use mathlib.Core.Option.{Option, some}
 use Prim.Native.Nat.{ℕ}
 use borrow.Author.Tests.{eq-eqb}
-use Rattle.format.specs.Basics.{if◌then◌else◌, keep, all_some, eqs, All}
+use Rattle.std.specs.Prelude.{if◌then◌else◌}
+use Rattle.format.specs.Basics.{keep, all_some, eqs, All}
 use Rattle.format.specs.Tokens.{parts_at}
 use Rattle.format.proofs.ListLaws.{both, all_append, flat_map-append}
 

@@ -9,7 +9,7 @@ use native.Mathlib.Omega.{arith}
 use lib.ListN.{length, take, drop}
 use lib.Dec.{leb, eqb}
 use Rattle.format.specs.Basics.{Outcome, refused, given, ◌>>=◌, ask, need, all_some, is_some, is_empty, eqs, begins_with, ascii, All}
-use Rattle.format.specs.Basics.{if◌then◌else◌}
+use Rattle.std.specs.Prelude.{if◌then◌else◌}
 use Rattle.format.specs.Tokens.{tokens, scan_tokens, fold_outcome, parts_at}
 use Rattle.format.specs.Sorted.{at_key}
 use Rattle.format.specs.Utf8.{is_between, is_scalar, is_utf8, trim}

@@ -9,7 +9,8 @@ use native.Mathlib.Omega.{arith}
 use lib.ListN.{length}
 use lib.Dec.{ltb, eqb}
 use borrow.Author.Tests.{ltb-true, ltb-false, lt-ltb, le-ltb, le-leb, lt-leb, ne_eqb}
-use Rattle.format.specs.Basics.{if◌then◌else◌, is_empty, ascii, eqs, All}
+use Rattle.std.specs.Prelude.{if◌then◌else◌}
+use Rattle.format.specs.Basics.{is_empty, ascii, eqs, All}
 use Rattle.format.specs.Digits.{digits_of}
 use Rattle.format.specs.TextWriter.{lower_digit, upper_digit, numeral, hex4, decimal, memory_text}
 use Rattle.format.specs.TextReader.{digit_value, digits_from, parse_number, hex2u16, parse_decimal, maybe_hex2u16}

@@ -8,7 +8,7 @@ use native.Mathlib.Nat.{pow-suc, pow-zero, div-add-mod', div-lt_iff_lt-mul, mod-
 use native.Mathlib.Omega.{arith}
 use lib.Dec.{ltb}
 use borrow.Author.Tests.{ltb-true, ltb-false, lt-ltb, le-leb, lt-leb}
-use Rattle.format.specs.Basics.{if◌then◌else◌}
+use Rattle.std.specs.Prelude.{if◌then◌else◌}
 use Rattle.format.specs.TextWriter.{lower_digit, numeral}
 use Rattle.format.specs.TextReader.{digit_value, digits_from}
 

@@ -6,7 +6,8 @@ use mathlib.Core.Option.{Option, none, some}
 use Prim.Native.Nat.{ℕ, compare, Ordering}
 use native.Mathlib.Omega.{arith}
 use lib.Dec.{compare_is_eq}
-use Rattle.format.specs.Basics.{if◌then◌else◌, All}
+use Rattle.std.specs.Prelude.{if◌then◌else◌}
+use Rattle.format.specs.Basics.{All}
 use Rattle.format.specs.Sorted.{order, then_by, upsert, at_key}
 use Rattle.format.proofs.SortedLaws.{order_self, order_eq, at_key-upsert, at_key-first, Above}
 use Rattle.format.proofs.GatherLaws.{Distinct}

@@ -6,7 +6,8 @@ use mathlib.Core.Bool.{Bool, true, false}
 use mathlib.Core.List.{List, [], ◌∷◌}
 use mathlib.Core.Option.{Option, none, some}
 use Prim.Native.Nat.{ℕ, zero, suc}
-use Rattle.format.specs.Basics.{Outcome, refused, given, ◌>>=◌, ask, need, and_then, if◌then◌else◌, All}
+use Rattle.std.specs.Prelude.{if◌then◌else◌}
+use Rattle.format.specs.Basics.{Outcome, refused, given, ◌>>=◌, ask, need, and_then, All}
 use Rattle.format.specs.Tokens.{tokens, scan_tokens, fold_outcome}
 
 -- both ways of a test

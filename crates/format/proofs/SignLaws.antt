@@ -9,7 +9,8 @@ use native.Mathlib.Omega.{arith}
 use lib.ListN.{length, take, drop, replicate}
 use lib.Dec.{leb, eqb}
 use borrow.Author.Tests.{eqb-true, eqb-false, ne_eqb, lt-ltb}
-use Rattle.format.specs.Basics.{Outcome, refused, given, ◌>>=◌, ask, need, and_then, if◌then◌else◌, is_some, all_some, ascii}
+use Rattle.std.specs.Prelude.{if◌then◌else◌}
+use Rattle.format.specs.Basics.{Outcome, refused, given, ◌>>=◌, ask, need, and_then, is_some, all_some, ascii}
 use Rattle.format.specs.Basics.{is_empty, every, eqs, begins_with, All}
 use Rattle.format.specs.Tokens.{scan_tokens, fold_outcome, parts_at}
 use Rattle.format.specs.Sorted.{at_key}

@@ -9,7 +9,8 @@ use lib.ListN.{length, take, drop, get_or, length-append}
 use lib.Seq.{take-append_seam, drop_at, get_or_at}
 use lib.Dec.{ltb, eqb}
 use borrow.Author.Tests.{ltb-true, ltb-false, lt-ltb, le-ltb, eqb-true, eqb-false, ne_eqb}
-use Rattle.format.specs.Basics.{given, if◌then◌else◌, All}
+use Rattle.std.specs.Prelude.{if◌then◌else◌}
+use Rattle.format.specs.Basics.{given, All}
 use Rattle.format.specs.Utf8.{encode_scalar}
 use Rattle.format.specs.Source.{line_count, nl_indices_from, nl_indices, line_start, raw_line_span, span_bytes, newlines}
 use Rattle.format.specs.TextWriter.{escape, escape_char, source_cell, Row}

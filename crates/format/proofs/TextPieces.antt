@@ -10,7 +10,8 @@ use lib.ListN.{length, take, drop, get_or, length-append, take-append-drop}
 use lib.Seq.{append_snoc, drop-drop}
 use lib.Dec.{eqb}
 use borrow.Author.Tests.{lt-ltb, eqb-true}
-use Rattle.format.specs.Basics.{Outcome, given, ◌>>=◌, if◌then◌else◌, and_then, is_some, is_empty, ascii, keep, begins_with, All}
+use Rattle.std.specs.Prelude.{if◌then◌else◌}
+use Rattle.format.specs.Basics.{Outcome, given, ◌>>=◌, and_then, is_some, is_empty, ascii, keep, begins_with, All}
 use Rattle.format.specs.Tokens.{tokens}
 use Rattle.format.specs.Utf8.{is_between, is_scalar, encode_scalar, char_at, scalars, is_utf8, is_white_space, white_space_length, pass_over, trim_from, trim_start, is_blank, trim_end, trim}
 use Rattle.format.specs.TextReader.{on_first, lines, kept_lines, split_once, first_cell, splitn, cell_at, digits_from, hex_digits, scalar_of, unicode_escape, after_backslash, unescape_at, unescape}

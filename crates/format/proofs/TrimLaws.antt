@@ -7,7 +7,8 @@ use Prim.Native.Nat.{ℕ, zero, suc, ◌+◌, ◌/◌, ◌%◌, ◌≤◌, ◌<�
 use native.Mathlib.Omega.{arith}
 use lib.ListN.{length, replicate}
 use borrow.Author.Tests.{ne_eqb, not-true}
-use Rattle.format.specs.Basics.{if◌then◌else◌, is_empty, every, All}
+use Rattle.std.specs.Prelude.{if◌then◌else◌}
+use Rattle.format.specs.Basics.{is_empty, every, All}
 use Rattle.format.specs.Utf8.{encode_scalar, char_at, scalars, is_white_space, white_space_length, pass_over, trim_from, trim_start, is_blank, trim_end, trim}
 use Rattle.format.specs.Fair.{no_white_space}
 use Rattle.format.specs.TextWriter.{spaces}

@@ -10,7 +10,8 @@ use lib.ListN.{length, drop}
 use lib.Seq.{take-append_seam}
 use lib.Dec.{leb, ltb}
 use borrow.Author.Tests.{leb-true, leb-false, le-leb, lt-ltb, le-ltb}
-use Rattle.format.specs.Basics.{Outcome, given, if◌then◌else◌, every, All}
+use Rattle.std.specs.Prelude.{if◌then◌else◌}
+use Rattle.format.specs.Basics.{Outcome, given, every, All}
 use Rattle.format.specs.ObjectFile.{Label, Relocation, ObjectFile, source_text}
 use Rattle.format.specs.Records.{source_records}
 use Rattle.format.specs.Words.{words_of, object_of}

@@ -9,7 +9,8 @@ use native.Mathlib.Omega.{arith}
 use lib.ListN.{length, drop}
 use lib.Dec.{ltb, leb}
 use borrow.Author.Tests.{ltb-true, ltb-false, leb-true, lt-ltb, le-ltb, le-leb, lt-leb}
-use Rattle.format.specs.Basics.{if◌then◌else◌, and_then, is_some, All}
+use Rattle.std.specs.Prelude.{if◌then◌else◌}
+use Rattle.format.specs.Basics.{and_then, is_some, All}
 use Rattle.format.specs.Utf8.{is_between, is_scalar, encode_scalar, follow, shortest_form, char_at, scalars_from, scalars, is_utf8}
 use Rattle.format.proofs.ListFacts.{and_left, and_right}
 use Rattle.format.proofs.Outcomes.{by_if}

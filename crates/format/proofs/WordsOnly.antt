@@ -9,7 +9,8 @@ use native.Mathlib.Omega.{arith}
 use lib.ListN.{length}
 use lib.Dec.{leb, ltb, eqb}
 use borrow.Author.Tests.{eqb-true, ltb-true, leb-true, leb-false}
-use Rattle.format.specs.Basics.{Outcome, refused, given, ◌>>=◌, ask, if◌then◌else◌, All}
+use Rattle.std.specs.Prelude.{if◌then◌else◌}
+use Rattle.format.specs.Basics.{Outcome, refused, given, ◌>>=◌, ask, All}
 use Rattle.format.specs.Digits.{value_of, digits_of}
 use Rattle.format.specs.Utf8.{is_between}
 use Rattle.format.specs.Records.{Record, block, label, line_block, source, relocation}

@@ -4,7 +4,8 @@ use mathlib.Core.Path.{◌≡◌, refl, sym, ◌∙◌, ap}
 use mathlib.Core.Bool.{Bool, true, false}
 use mathlib.Core.List.{List, [], ◌∷◌, ◌++◌, map, append-nil, flat_map}
 use Prim.Native.Nat.{ℕ}
-use Rattle.format.specs.Basics.{given, ◌>>=◌, ask, if◌then◌else◌, is_empty, All}
+use Rattle.std.specs.Prelude.{if◌then◌else◌}
+use Rattle.format.specs.Basics.{given, ◌>>=◌, ask, is_empty, All}
 use Rattle.format.specs.Tokens.{parts_at, head_of, body_of}
 use Rattle.format.specs.Sorted.{rises}
 use Rattle.format.specs.ObjectFile.{ObjectFile, consistent}

@@ -1,12 +1,11 @@
 -- What a sequence of questions comes to, and tests on lists that compute. Assumes nothing.
-use Rattle.std.specs.Prelude.{Bool, true, false, ◌&&◌, ℕ, zero, suc, eqb}
+use Rattle.std.specs.Prelude.{if◌then◌else◌, Bool, true, false, ◌&&◌, ℕ, zero, suc, eqb}
 use mathlib.Core.List.{List, [], ◌∷◌, flat_map}
 use Rattle.std.proofs.Math.Option.{Option, none, some}
 use Prim.Native.Char.{code}
 use Prim.Native.String.{String, [] as []ˢ, ◌∷◌ as ◌∷ˢ◌}
 
 infixl 10 ◌>>=◌
-infixr 5 if◌then◌else◌
 -- "Asked in this order; 'no' gives the number": a refusal's number, or what was asked for.
 pub data Outcome (A : Type 0) : Type 0 where
   refused : ℕ → Outcome A
@@ -43,11 +42,6 @@ and_then (some a) f = f a
 unfoldable pub is_some : {A : Type 0} → Option A → Bool  -- it is not missing
 is_some none = false
 is_some (some a) = true
-
--- both branches are computed
-abbrev pub if◌then◌else◌ : {A : Type 0} → Bool → A → A → A
-if◌then◌else◌ true a b = a
-if◌then◌else◌ false a b = b
 
 -- the codes of a text's characters: of an ASCII text, its bytes
 unfoldable pub ascii : String → List ℕ

@@ -1,9 +1,9 @@
 -- The binary form (document 01, "Binary form (000)"): the file of an object, and the object of a file by the questions 10 to 15.
 -- Assumes nothing.
-use Rattle.std.specs.Prelude.{Bool, not, ℕ, ◌+◌, ◌*◌, length, take, drop, leb, eqb}
+use Rattle.std.specs.Prelude.{Bool, not, ℕ, ◌+◌, ◌*◌, length, take, drop, leb, eqb, if◌then◌else◌}
 use mathlib.Core.List.{List, [], ◌∷◌, ◌++◌, flat_map}
 use Rattle.std.proofs.Math.Option.{Option, none, some}
-use Rattle.format.specs.Basics.{Outcome, refused, given, ◌>>=◌, ask, if◌then◌else◌, every, begins_with}
+use Rattle.format.specs.Basics.{Outcome, refused, given, ◌>>=◌, ask, every, begins_with}
 use Rattle.format.specs.Digits.{value_of, digits_of}
 use Rattle.format.specs.Tokens.{tokens}
 use Rattle.format.specs.Utf8.{is_utf8}

@@ -1,7 +1,7 @@
 -- What each public call hands back and leaves in every lent word and byte, for each input (document 01, "Checks, by number" and "Terms on
 -- each call"). A contract cites a definition of this module and nothing else. Assumes nothing.
-use Rattle.std.specs.Prelude.{◌≡◌, Bool, false, List, [], ◌∷◌, ◌++◌, ℕ, length, drop, leb}
-use Rattle.format.specs.Basics.{Outcome, refused, given, ◌>>=◌, ask, need, if◌then◌else◌}
+use Rattle.std.specs.Prelude.{◌≡◌, Bool, false, List, [], ◌∷◌, ◌++◌, ℕ, length, drop, leb, if◌then◌else◌}
+use Rattle.format.specs.Basics.{Outcome, refused, given, ◌>>=◌, ask, need}
 use Rattle.format.specs.ObjectFile.{Label, Relocation, ObjectFile}
 use Rattle.format.specs.Words.{words_of, object_of}
 use Rattle.format.specs.Source.{Span, Position, line_count, raw_line_span, line_span, get_pos_pair, get_address, find_line}

@@ -1,8 +1,8 @@
 -- Records: what the words of an object and a binary file are made of, one after the other; how a reader gathers them; and the questions
 -- that it asks after the last. Assumes nothing.
-use Rattle.std.specs.Prelude.{Bool, false, ◌&&◌, not, List, [], ◌∷◌, ◌++◌, map, ℕ}
+use Rattle.std.specs.Prelude.{Bool, false, ◌&&◌, not, List, [], ◌∷◌, ◌++◌, map, ℕ, if◌then◌else◌}
 use Rattle.std.proofs.Math.Option.{Option, none, some, get_or}
-use Rattle.format.specs.Basics.{Outcome, given, ◌>>=◌, ask, if◌then◌else◌, every, is_empty, is_some}
+use Rattle.format.specs.Basics.{Outcome, given, ◌>>=◌, ask, every, is_empty, is_some}
 use Rattle.format.specs.Sorted.{upsert, at_key}
 use Rattle.format.specs.ObjectFile.{Block, Label, LineBlock, Relocation, ObjectFile, block_key, label_key, line_key}
 use Rattle.format.specs.ObjectFile.{relocation_key, apart, never_fall, source_text}

@@ -1,9 +1,9 @@
 -- Which cells of a text hold a number, and that none with a leading `+` is read or written (document 02, P8), as statements.
 -- Assumes nothing.
-use Rattle.std.specs.Prelude.{◌≡◌, Bool, true, false, not, ℕ, ◌^◌, ◌≤◌, ◌<◌, take, drop, replicate}
+use Rattle.std.specs.Prelude.{◌≡◌, Bool, true, false, not, ℕ, ◌^◌, ◌≤◌, ◌<◌, take, drop, replicate, if◌then◌else◌}
 use mathlib.Core.List.{List, [], ◌∷◌, ◌++◌, map, flat_map}
 use Rattle.std.proofs.Math.Option.{Option, get_or}
-use Rattle.format.specs.Basics.{refused, given, and_then, if◌then◌else◌, ascii, is_empty, every, eqs, begins_with}
+use Rattle.format.specs.Basics.{refused, given, and_then, ascii, is_empty, every, eqs, begins_with}
 use Rattle.format.specs.Tokens.{parts_at}
 use Rattle.format.specs.Utf8.{trim}
 use Rattle.format.specs.ObjectFile.{ObjectFile}

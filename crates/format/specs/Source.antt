@@ -1,9 +1,9 @@
 -- "Line and source tables (001)": lines of a source, and line blocks asked by line and by address. A source is its bytes; line numbers,
 -- source byte indices and memory addresses are plain numbers here and separate types in the code. Assumes nothing.
-use Rattle.std.specs.Prelude.{List, [], ◌∷◌, ℕ, zero, suc, ◌+◌, ◌-◌, ◌%◌, ◌^◌, min, length, take, drop, get_or, leb, ltb, eqb}
+use Rattle.std.specs.Prelude.{List, [], ◌∷◌, ℕ, zero, suc, ◌+◌, ◌-◌, ◌%◌, ◌^◌, min, length, take, drop, get_or, leb, ltb, eqb, if◌then◌else◌}
 use Rattle.std.proofs.Math.Option.{Option, none, some, or_else}
 use Rattle.std.proofs.Math.ListN.{get_elem?}
-use Rattle.format.specs.Basics.{Outcome, given, ◌>>=◌, ask, and_then, if◌then◌else◌}
+use Rattle.format.specs.Basics.{Outcome, given, ◌>>=◌, ask, and_then}
 use Rattle.format.specs.Utf8.{trim_start, trim_end}
 use Rattle.format.specs.ObjectFile.{LineBlock}
 

@@ -1,8 +1,8 @@
 -- Reading the text form (document 01, "Text form (000)", questions 20 to 31). Texts, lines and cells are bytes. Assumes nothing.
-use Rattle.std.specs.Prelude.{Bool, true, false, ◌&&◌, not, ℕ, zero, suc, ◌+◌, ◌-◌, ◌*◌, ◌^◌, length, take, drop, get_or, leb, ltb, eqb}
+use Rattle.std.specs.Prelude.{Bool, true, false, ◌&&◌, not, ℕ, zero, suc, ◌+◌, ◌-◌, ◌*◌, ◌^◌, length, take, drop, get_or, leb, ltb, eqb, if◌then◌else◌}
 use mathlib.Core.List.{List, [], ◌∷◌, ◌++◌, map, flat_map}
 use Rattle.std.proofs.Math.Option.{Option, none, some}
-use Rattle.format.specs.Basics.{Outcome, refused, given, ◌>>=◌, ask, need, and_then, is_some, if◌then◌else◌, ascii}
+use Rattle.format.specs.Basics.{Outcome, refused, given, ◌>>=◌, ask, need, and_then, is_some, ascii}
 use Rattle.format.specs.Basics.{is_empty, keep, all_some, eqs, begins_with}
 use Rattle.format.specs.Tokens.{tokens, scan_tokens, fold_outcome, parts_at}
 use Rattle.format.specs.Sorted.{at_key}

@@ -1,8 +1,8 @@
 -- Writing the text form (document 01, "Text form (000)"): "Writing follows `serialize` byte for byte." Assumes nothing.
-use Rattle.std.specs.Prelude.{Bool, ◌&&◌, not, ℕ, zero, suc, ◌+◌, ◌-◌, ◌/◌, ◌%◌, ◌^◌, max, length, replicate, ltb, eqb}
+use Rattle.std.specs.Prelude.{Bool, ◌&&◌, not, ℕ, zero, suc, ◌+◌, ◌-◌, ◌/◌, ◌%◌, ◌^◌, max, length, replicate, ltb, eqb, if◌then◌else◌}
 use mathlib.Core.List.{List, [], ◌∷◌, ◌++◌, map, reverse, flat_map}
 use Rattle.std.proofs.Math.Option.{Option, none, some, get_or}
-use Rattle.format.specs.Basics.{given, ◌>>=◌, given_or, and_then, is_some, if◌then◌else◌, ascii, is_empty}
+use Rattle.format.specs.Basics.{given, ◌>>=◌, given_or, and_then, is_some, ascii, is_empty}
 use Rattle.format.specs.Digits.{digits_of}
 use Rattle.format.specs.Sorted.{upsert, sorted}
 use Rattle.format.specs.Utf8.{scalars_of, characters, is_between}

@@ -1,6 +1,6 @@
 -- Walks along a list: cut into tokens, with a state, and cut before each head. Assumes nothing.
-use Rattle.std.specs.Prelude.{Bool, List, [], ◌∷◌, ℕ, zero, suc}
-use Rattle.format.specs.Basics.{Outcome, given, ◌>>=◌, if◌then◌else◌}
+use Rattle.std.specs.Prelude.{Bool, List, [], ◌∷◌, ℕ, zero, suc, if◌then◌else◌}
+use Rattle.format.specs.Basics.{Outcome, given, ◌>>=◌}
 
 module _ {A B : Type 0} (one : List A → Outcome (B × ℕ)) where
   -- Cut a list into tokens. `one` is asked at the start of each token: it gives the token and how many elements it has after its first.

@@ -1,6 +1,6 @@
 -- Trips (document 01, "Trips"), and demand 3 as one statement about every list of them. Assumes nothing.
-use Rattle.std.specs.Prelude.{◌≡◌, Bool, ◌||◌, List, [], ◌∷◌, ℕ, ◌*◌, ◌^◌, ◌<◌, length, take, ltb}
-use Rattle.format.specs.Basics.{given, ◌>>=◌, given_or, if◌then◌else◌, All}
+use Rattle.std.specs.Prelude.{◌≡◌, Bool, ◌||◌, List, [], ◌∷◌, ℕ, ◌*◌, ◌^◌, ◌<◌, length, take, ltb, if◌then◌else◌}
+use Rattle.format.specs.Basics.{given, ◌>>=◌, given_or, All}
 use Rattle.format.specs.ObjectFile.{ObjectFile}
 use Rattle.format.specs.Words.{object_of}
 use Rattle.format.specs.Fair.{Fair}

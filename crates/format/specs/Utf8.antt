@@ -1,8 +1,8 @@
 -- UTF-8 and White_Space, from the public tables (RFC 3629; Unicode, tables 3-6 and 3-7; the property White_Space): the bytes of a scalar
 -- value, the character that a text begins with, and trimming. A text is its bytes. Assumes nothing.
-use Rattle.std.specs.Prelude.{Bool, ◌&&◌, ◌||◌, List, [], ◌∷◌, ℕ, zero, suc, ◌+◌, ◌-◌, ◌*◌, ◌/◌, ◌%◌, ◌^◌, leb, ltb, eqb}
+use Rattle.std.specs.Prelude.{Bool, ◌&&◌, ◌||◌, List, [], ◌∷◌, ℕ, zero, suc, ◌+◌, ◌-◌, ◌*◌, ◌/◌, ◌%◌, ◌^◌, leb, ltb, eqb, if◌then◌else◌}
 use Rattle.std.proofs.Math.Option.{Option, none, some, get_or}
-use Rattle.format.specs.Basics.{if◌then◌else◌, and_then, is_some, is_empty}
+use Rattle.format.specs.Basics.{and_then, is_some, is_empty}
 
 -- both ends included
 abbrev pub is_between : ℕ → ℕ → ℕ → Bool

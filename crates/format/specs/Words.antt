@@ -1,9 +1,9 @@
 -- An object as 32-bit words, both ways (document 01, "The holding"): "an object is a slice of 32-bit words, the top 3 bits their kind,
 -- unused bits 0". Words are well formed where the way back gives an object. Assumes nothing.
-use Rattle.std.specs.Prelude.{Bool, true, false, ◌&&◌, ◌||◌, ℕ, ◌+◌, ◌-◌, ◌*◌, ◌/◌, ◌%◌, ◌^◌, length, leb, ltb, eqb}
+use Rattle.std.specs.Prelude.{Bool, true, false, ◌&&◌, ◌||◌, ℕ, ◌+◌, ◌-◌, ◌*◌, ◌/◌, ◌%◌, ◌^◌, length, leb, ltb, eqb, if◌then◌else◌}
 use mathlib.Core.List.{List, [], ◌∷◌, ◌++◌, map, flat_map}
 use Rattle.std.proofs.Math.Option.{Option, none, some}
-use Rattle.format.specs.Basics.{Outcome, refused, given, ◌>>=◌, ask, if◌then◌else◌, is_empty}
+use Rattle.format.specs.Basics.{Outcome, refused, given, ◌>>=◌, ask, is_empty}
 use Rattle.format.specs.Digits.{value_of, digits_of}
 use Rattle.format.specs.Tokens.{parts_at}
 use Rattle.format.specs.Utf8.{is_between}

@@ -4,7 +4,8 @@ use mathlib.Core.List.{List, [], ◌∷◌, ◌++◌, append_assoc, flat_map}
 use Prim.Native.Nat.{ℕ, ◌+◌, ◌-◌}
 use native.Mathlib.Omega.{arith}
 use lib.ListN.{length, length-append}
-use Rattle.format.specs.Basics.{if◌then◌else◌, is_empty, ascii}
+use Rattle.std.specs.Prelude.{if◌then◌else◌}
+use Rattle.format.specs.Basics.{is_empty, ascii}
 use Rattle.format.specs.TextWriter.{text_line, spaces, symbol_header, label_header}
 use Rattle.format.specs.Utf8.{characters}
 use Rattle.text_numerals.proofs.DigitLaws.{spaces-length}

@@ -4,7 +4,8 @@ use mathlib.Core.List.{List, [], ◌∷◌, ◌++◌, map, flat_map}
 use Prim.Native.Nat.{ℕ, ◌+◌, max}
 use native.Mathlib.Omega.{arith}
 use lib.ListN.{length, length-append}
-use Rattle.format.specs.Basics.{Outcome, given, given_or, if◌then◌else◌, is_empty, All}
+use Rattle.std.specs.Prelude.{if◌then◌else◌}
+use Rattle.format.specs.Basics.{Outcome, given, given_or, is_empty, All}
 use Rattle.format.specs.ObjectFile.{Label, ObjectFile, label_key}
 use Rattle.format.specs.Sorted.{sorted}
 use Rattle.format.specs.TextWriter.{decimal, widest, text_line, symbol_header, symbol_row, by_address, symbol_table, label_width, index_width}

@@ -1,8 +1,8 @@
 -- The tables of labels by the labels' places in the words of an object, and how long they are, for every slice of words. That they
 -- are a well formed object's tables is said in proofs/TableLaws. Assumes nothing.
 use mathlib.Core.List.{List, [], ◌++◌, flat_map}
-use Rattle.std.specs.Prelude.{ℕ, length}
-use Rattle.format.specs.Basics.{if◌then◌else◌, is_empty}
+use Rattle.std.specs.Prelude.{ℕ, length, if◌then◌else◌}
+use Rattle.format.specs.Basics.{is_empty}
 use Rattle.format.specs.Sorted.{sorted}
 use Rattle.format.specs.TextWriter.{decimal, widest, text_line, symbol_header, label_header}
 use Rattle.object.specs.Access.{label_at}

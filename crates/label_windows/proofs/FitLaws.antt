@@ -5,7 +5,8 @@ use Prim.Native.Nat.{ℕ, ◌+◌, ◌-◌, ◌≤◌, ◌<◌}
 use native.Mathlib.Omega.{arith}
 use lib.ListN.{length, take, drop, get_or, length-append, drop_of_length-le, length-take, take-append-drop}
 use lib.Seq.{get_or-take, length-take-le, take-take, take_all}
-use Rattle.format.specs.Basics.{if◌then◌else◌, is_empty}
+use Rattle.std.specs.Prelude.{if◌then◌else◌}
+use Rattle.format.specs.Basics.{is_empty}
 use Rattle.format.specs.TextWriter.{text_line}
 use Rattle.writing.specs.Written.{Put}
 use Rattle.writing.proofs.EachLaws.{drop_at_place}

@@ -1,6 +1,6 @@
 -- The tables of labels as they are written into any room: header and rows, each that still fits. Assumes nothing.
-use Rattle.std.specs.Prelude.{List, [], ◌++◌, ℕ, ◌-◌, length}
-use Rattle.format.specs.Basics.{if◌then◌else◌, is_empty}
+use Rattle.std.specs.Prelude.{List, [], ◌++◌, ℕ, ◌-◌, length, if◌then◌else◌}
+use Rattle.format.specs.Basics.{is_empty}
 use Rattle.format.specs.Sorted.{sorted}
 use Rattle.format.specs.TextWriter.{text_line}
 use Rattle.measuring.specs.Fitting.{keep, fitting}

@@ -8,7 +8,7 @@ use lib.ListN.{length, take, drop, length-drop, drop_of_length-le}
 use lib.Seq.{drop-drop}
 use lib.Dec.{eqb}
 use borrow.Author.Tests.{le-leb, lt-leb}
-use Rattle.format.specs.Basics.{if◌then◌else◌}
+use Rattle.std.specs.Prelude.{if◌then◌else◌}
 use Rattle.format.specs.Utf8.{char_at, white_space_length, trim_start, trim_end}
 use Rattle.format.specs.Source.{span_bytes, trimmed}
 use Rattle.trim.specs.WhiteSpace.{white_at, ends_white, white_before}

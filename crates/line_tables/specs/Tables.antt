@@ -1,8 +1,8 @@
 -- Line blocks asked by line and by address: what the calls hand back, and what their parts say of the records. Assumes nothing.
-use Rattle.std.specs.Prelude.{◌≡◌, List, ℕ, ◌+◌, ◌-◌, ◌%◌, ◌^◌, ◌≤◌, ◌<◌, length, ltb}
+use Rattle.std.specs.Prelude.{◌≡◌, List, ℕ, ◌+◌, ◌-◌, ◌%◌, ◌^◌, ◌≤◌, ◌<◌, length, ltb, if◌then◌else◌}
 use Rattle.std.proofs.Math.Option.{Option, none, some}
 use Rattle.std.proofs.Math.ListN.{get_elem?}
-use Rattle.format.specs.Basics.{given, need, and_then, if◌then◌else◌}
+use Rattle.format.specs.Basics.{given, need, and_then}
 use Rattle.format.specs.ObjectFile.{ObjectFile, LineBlock}
 use Rattle.format.specs.Words.{object_of}
 use Rattle.format.specs.Source.{last_starting, offset_of, find_line}

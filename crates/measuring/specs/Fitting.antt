@@ -1,6 +1,5 @@
 -- What is written of several parts where the room may be too short for all: each that still fits, one after the other. Assumes nothing.
-use Rattle.std.specs.Prelude.{List, [], ◌∷◌, ◌++◌, ℕ, ◌-◌, length, leb}
-use Rattle.format.specs.Basics.{if◌then◌else◌}
+use Rattle.std.specs.Prelude.{List, [], ◌∷◌, ◌++◌, ℕ, ◌-◌, length, leb, if◌then◌else◌}
 
 -- a part, if there is room for it
 unfoldable pub keep : ℕ → List ℕ → List ℕ

@@ -1,7 +1,6 @@
 -- Room counted down. Assumes nothing.
-use Rattle.std.specs.Prelude.{List, ℕ, ◌-◌, length, leb}
+use Rattle.std.specs.Prelude.{List, ℕ, ◌-◌, length, leb, if◌then◌else◌}
 use Rattle.std.proofs.Math.Option.{Option, none, some}
-use Rattle.format.specs.Basics.{if◌then◌else◌}
 use Rattle.measuring.specs.declared.Room.{Room}
 use Rattle.measuring.specs.declared.Room.TheVariants as room
 

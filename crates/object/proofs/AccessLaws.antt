@@ -8,7 +8,8 @@ use native.Mathlib.Omega.{arith}
 use lib.ListN.{length, get_or}
 use lib.Dec.{leb, ltb, eqb}
 use borrow.Author.Tests.{ltb-true, leb-true, leb-false, eqb-true, eqb-false, eq-eqb, ne_eqb}
-use Rattle.format.specs.Basics.{Outcome, refused, given, ◌>>=◌, ask, if◌then◌else◌, is_given, given_or}
+use Rattle.std.specs.Prelude.{if◌then◌else◌}
+use Rattle.format.specs.Basics.{Outcome, refused, given, ◌>>=◌, ask, is_given, given_or}
 use Rattle.format.specs.Records.{Record, block, label, line_block, source, relocation}
 use Rattle.format.specs.Words.{bits_of, memory_of, memories_of, addresses_of, number_from, text_from, record_from, records_from}
 use Rattle.format.proofs.ListLaws.{by_test}

@@ -5,7 +5,8 @@ use mathlib.Core.List.{List, [], ◌∷◌}
 use Prim.Native.Nat.{ℕ, ◌*◌, ◌/◌, ◌%◌, ◌^◌}
 use lib.ListN.{length}
 use lib.Dec.{leb, ltb, eqb}
-use Rattle.format.specs.Basics.{Outcome, refused, given, ◌>>=◌, ask, if◌then◌else◌, is_empty}
+use Rattle.std.specs.Prelude.{if◌then◌else◌}
+use Rattle.format.specs.Basics.{Outcome, refused, given, ◌>>=◌, ask, is_empty}
 use Rattle.format.specs.Tokens.{parts_at}
 use Rattle.format.specs.Sorted.{rises}
 use Rattle.format.specs.Basics.{is_given}

@@ -1,8 +1,7 @@
 -- The records of an object by their places: what stands in the words of each, for every slice of words and every place. That a well formed
 -- object's records are these is said in proofs/AccessLaws. Assumes nothing.
-use Rattle.std.specs.Prelude.{List, map, ℕ, ◌+◌, ◌/◌, ◌%◌, ◌^◌, get_or, leb, eqb}
+use Rattle.std.specs.Prelude.{List, map, ℕ, ◌+◌, ◌/◌, ◌%◌, ◌^◌, get_or, leb, eqb, if◌then◌else◌}
 use Rattle.std.proofs.Math.Option.{Option, none, some}
-use Rattle.format.specs.Basics.{if◌then◌else◌}
 use Rattle.format.specs.ObjectFile.{Block, Label, LineBlock, Relocation}
 use Rattle.format.specs.Records.{Record, block, label, line_block, source, relocation}
 use Rattle.object.specs.Bodies.{body_at, text_at, number_at}

@@ -1,7 +1,6 @@
 -- The bytes of a text by their places in its words, for every slice of words: of words that are no text these say what stands in their
 -- bits. That they are a text's bytes is said in proofs/ByteLaws. Assumes nothing.
-use Rattle.std.specs.Prelude.{◌&&◌, List, [], ◌∷◌, ℕ, zero, suc, ◌+◌, ◌-◌, ◌*◌, ◌/◌, ◌%◌, ◌^◌, ◌≤◌, ◌<◌, length, get_or, leb, ltb}
-use Rattle.format.specs.Basics.{if◌then◌else◌}
+use Rattle.std.specs.Prelude.{◌&&◌, List, [], ◌∷◌, ℕ, zero, suc, ◌+◌, ◌-◌, ◌*◌, ◌/◌, ◌%◌, ◌^◌, ◌≤◌, ◌<◌, length, get_or, leb, ltb, if◌then◌else◌}
 use Rattle.format.specs.Digits.{digits_of}
 
 -- how many bytes: three for each word from `at` up to `end` but the last, which has its count in bits 25..24

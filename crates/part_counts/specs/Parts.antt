@@ -1,6 +1,5 @@
 -- How many records of each kind an object has. Assumes nothing.
-use Rattle.std.specs.Prelude.{List, [], ◌∷◌, ℕ, ◌+◌, ◌/◌, ◌^◌, length, eqb}
-use Rattle.format.specs.Basics.{if◌then◌else◌}
+use Rattle.std.specs.Prelude.{List, [], ◌∷◌, ℕ, ◌+◌, ◌/◌, ◌^◌, length, eqb, if◌then◌else◌}
 use Rattle.format.specs.ObjectFile.{ObjectFile}
 use Rattle.format.specs.Records.{source_records}
 use Rattle.part_counts.specs.declared.PartCounts.{PartCounts}

@@ -8,7 +8,8 @@ use lib.ListN.{length, take, drop, replicate, length-append, length-replicate}
 use lib.Seq.{take_at, length-take-le}
 use lib.Dec.{eqb, leb}
 use borrow.Author.Tests.{le-leb, lt-leb, leb-true, eqb-true, eqb-false}
-use Rattle.format.specs.Basics.{Outcome, refused, given, ◌>>=◌, if◌then◌else◌}
+use Rattle.std.specs.Prelude.{if◌then◌else◌}
+use Rattle.format.specs.Basics.{Outcome, refused, given, ◌>>=◌}
 use Rattle.format.specs.Calls.{Filled, fill, message, fitting}
 use Rattle.format.proofs.ListLaws.{by_test}
 use Rattle.units.specs.declared.Filled as units

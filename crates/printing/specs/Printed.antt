@@ -1,7 +1,7 @@
 -- What the programs print. Their buffers have 65,536 bytes of input and 16,384 words; the length of the output's is a parameter.
 -- Assumes nothing.
-use Rattle.std.specs.Prelude.{◌≡◌, List, ℕ, ◌≤◌, length, take, eqb}
-use Rattle.format.specs.Basics.{Outcome, given, ◌>>=◌, if◌then◌else◌}
+use Rattle.std.specs.Prelude.{◌≡◌, List, ℕ, ◌≤◌, length, take, eqb, if◌then◌else◌}
+use Rattle.format.specs.Basics.{Outcome, given, ◌>>=◌}
 use Rattle.format.specs.TextWriter.{text_line, decimal}
 use Rattle.format.specs.Calls.{fitting}
 use Rattle.units.specs.declared.Filled.{Filled}

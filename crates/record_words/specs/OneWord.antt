@@ -1,7 +1,6 @@
 -- Single words of a binary file's records. Assumes nothing.
-use Rattle.std.specs.Prelude.{List, [], ◌∷◌, ℕ, ◌+◌, ◌*◌, ◌^◌, eqb}
+use Rattle.std.specs.Prelude.{List, [], ◌∷◌, ℕ, ◌+◌, ◌*◌, ◌^◌, eqb, if◌then◌else◌}
 use Rattle.std.proofs.Math.Option.{none, some}
-use Rattle.format.specs.Basics.{if◌then◌else◌}
 use Rattle.format.specs.Digits.{value_of}
 use Rattle.format.specs.Words.{word, flag_bit, memory_word}
 use Rattle.binary_words.specs.RecordAt.{label_at, relocation_at}

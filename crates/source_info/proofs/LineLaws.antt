@@ -10,7 +10,8 @@ use lib.ListN.{length, drop, get_or, drop_of_length-le}
 use lib.Seq.{drop-cons}
 use lib.Dec.{ltb, eqb}
 use borrow.Author.Tests.{ltb-true, ltb-false, lt-ltb, le-ltb, eq-eqb, ne_eqb, eqb-true, eqb-false}
-use Rattle.format.specs.Basics.{Outcome, refused, ◌>>=◌, ask, if◌then◌else◌}
+use Rattle.std.specs.Prelude.{if◌then◌else◌}
+use Rattle.format.specs.Basics.{Outcome, refused, ◌>>=◌, ask}
 use Rattle.format.specs.Source.{newlines, Span, line_count, nl_indices_from, nl_indices, line_start, raw_line_span, Position, count_below}
 use Rattle.format.specs.Source.{get_pos_pair}
 use Rattle.format.proofs.ListLaws.{by_test}

@@ -1,6 +1,6 @@
 -- A source from a place on: the same answers, given what the bytes before the place leave to know. Assumes nothing.
-use Rattle.std.specs.Prelude.{List, [], ◌∷◌, ℕ, zero, suc, ◌+◌, ◌-◌, get_or, ltb, eqb}
-use Rattle.format.specs.Basics.{Outcome, refused, given, if◌then◌else◌}
+use Rattle.std.specs.Prelude.{List, [], ◌∷◌, ℕ, zero, suc, ◌+◌, ◌-◌, get_or, ltb, eqb, if◌then◌else◌}
+use Rattle.format.specs.Basics.{Outcome, refused, given}
 use Rattle.format.specs.Source.{Span, Position, newlines, nl_indices_from, count_below}
 
 abbrev pub span : ℕ → ℕ → Outcome Span

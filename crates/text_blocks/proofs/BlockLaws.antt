@@ -7,7 +7,8 @@ use Prim.Native.Nat.{compare, Ordering}
 use lib.ListN.{length-map}
 use lib.Dec.{compare_is_eq}
 use borrow.Author.Tests.{eqb-false}
-use Rattle.format.specs.Basics.{Outcome, refused, given, ◌>>=◌, ask, need, and_then, all_some, if◌then◌else◌, is_some}
+use Rattle.std.specs.Prelude.{if◌then◌else◌}
+use Rattle.format.specs.Basics.{Outcome, refused, given, ◌>>=◌, ask, need, and_then, all_some, is_some}
 use Rattle.format.specs.Tokens.{Parts, scan_tokens}
 use Rattle.format.specs.Sorted.{order, by_ordering, then_by, upsert, at_key}
 use Rattle.format.proofs.SortedLaws.{at_key-upsert}

@@ -1,9 +1,9 @@
 -- .TEXT from a place on: blocks, parsed first and put then, and the addresses seen so far.
 -- Assumes nothing.
-use Rattle.std.specs.Prelude.{◌≡◌, ℕ, zero, suc, ◌+◌, ◌*◌, ◌/◌, ◌%◌, ◌^◌, ◌<◌, ◌≤◌, Bool, true, false, ◌&&◌, List, [], ◌∷◌, map, length, drop, ◌==◌, ◌≢◌, nat_lt, slice_index, slice_set}
+use Rattle.std.specs.Prelude.{◌≡◌, ℕ, zero, suc, ◌+◌, ◌*◌, ◌/◌, ◌%◌, ◌^◌, ◌<◌, ◌≤◌, Bool, true, false, ◌&&◌, List, [], ◌∷◌, map, length, drop, ◌==◌, ◌≢◌, nat_lt, slice_index, slice_set, if◌then◌else◌}
 use mathlib.Core.List.{flat_map}
 use Rattle.std.proofs.Math.Option.{Option, none, some}
-use Rattle.format.specs.Basics.{Outcome, refused, given, and_then, is_some, if◌then◌else◌}
+use Rattle.format.specs.Basics.{Outcome, refused, given, and_then, is_some}
 use Rattle.format.specs.Sorted.{at_key}
 use Rattle.format.specs.TextReader.{hex2u16, parse_decimal, parse_number, maybe_hex2u16, parse_text_group}
 use Rattle.format.specs.ObjectFile.{ObjectFile, Block, block_key}

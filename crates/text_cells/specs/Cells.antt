@@ -1,8 +1,8 @@
 -- What a cell says, and where the first divider stands.
 -- Assumes nothing.
-use Rattle.std.specs.Prelude.{◌≡◌, Bool, List, [], ◌∷◌, ℕ, ◌+◌, ◌-◌, ◌≤◌, length, take, drop}
+use Rattle.std.specs.Prelude.{◌≡◌, Bool, List, [], ◌∷◌, ℕ, ◌+◌, ◌-◌, ◌≤◌, length, take, drop, if◌then◌else◌}
 use Rattle.std.proofs.Math.Option.{Option, none, some}
-use Rattle.format.specs.Basics.{if◌then◌else◌, begins_with}
+use Rattle.format.specs.Basics.{begins_with}
 use Rattle.format.specs.Utf8.{is_between}
 use Rattle.format.specs.TextReader.{split_once}
 use Rattle.text_cells.specs.declared.Number.{Number}

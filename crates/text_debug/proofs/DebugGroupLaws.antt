@@ -2,7 +2,8 @@
 use Rattle.std.proofs.Common.{◌≡◌, ℕ, suc, ◌<◌, Bool, true, false, not, eqb, List, [], ◌∷◌, map, drop, sym, refl, ap, ◌∙◌, subst, true≢false, arith}
 use mathlib.Core.List.{flat_map}
 use mathlib.Core.Option.{Option, none, some}
-use Rattle.format.specs.Basics.{Outcome, refused, given, ◌>>=◌, ask, need, and_then, all_some, given_or, is_some, is_empty, if◌then◌else◌}
+use Rattle.std.specs.Prelude.{if◌then◌else◌}
+use Rattle.format.specs.Basics.{Outcome, refused, given, ◌>>=◌, ask, need, and_then, all_some, given_or, is_some, is_empty}
 use Rattle.format.specs.Tokens.{fold_outcome}
 use Rattle.format.specs.Utf8.{trim}
 use Rattle.format.specs.ObjectFile.{ObjectFile}
@@ -355,15 +356,15 @@ module _ (t : List ℕ) (at : ℕ) (full : is_empty (parts_from t at).before ≡
   first = some_line (parts_from t at).before full
 
   pub checked-first : (split_at_bar (parts_from t at).before).after ≡ none → DebugChecked t at b (without_rows 27 at)
-  checked-first q = checked_no t at b 27 (λ z. omega (arith, z)) λ h g. debug_first h _ _ _ first.2 _ q
+  checked-first q = checked_no t at b 27 (λ z. omega (arith, z)) λ h g. debug_first h _ _ _ first.2 (line_view t 0).0 q
 
   module _ (q : ℕ) (bar : BarAt t at q) where
     pub checked-last : up_to_bar (parts_from t q).before ≡ none → DebugChecked t at b (without_rows 27 at)
-    checked-last u = checked_no t at b 27 (λ z. omega (arith, z)) λ h g. debug_last h _ _ _ first.2 _ _ bar.after u
+    checked-last u = checked_no t at b 27 (λ z. omega (arith, z)) λ h g. debug_last h _ _ _ first.2 (line_view t 0).0 _ bar.after u
 
     pub checked-labels : (m : ℕ) → LastBar t q (pa.To m) → (k : ℕ) → k ≡ refusal_of (parse_label_table empty_object (label_view t at).0)
         → (k ≡ 0 → ⊥) → DebugChecked t at b (without_rows k at)
-    checked-labels m u k w ne = checked_no t at b k ne λ h g. debug_labels h _ _ _ first.2 _ _ _ bar.after u.2 k w ne
+    checked-labels m u k w ne = checked_no t at b k ne λ h g. debug_labels h _ _ _ first.2 (line_view t 0).0 _ _ bar.after u.2 k w ne
 
 module _ (t : List ℕ) (at q m : ℕ) (d : Barred t at q m) (b : Bool) (k : LineTable) (is : LineTableIs (line_view t q).0 b k) where
   abbrev line : (l : List ℕ) × (ks : List (List ℕ)) × ((parts_from t at).before ≡ l ∷ ks)
@@ -372,7 +373,7 @@ module _ (t : List ℕ) (at q m : ℕ) (d : Barred t at q m) (b : Bool) (k : Lin
   pub checked-lines : (k.number ≡ 0 → ⊥) → DebugChecked t at b (without_rows k.number at)
   checked-lines ne =
       checked_no t at b k.number ne
-      λ h g. debug_lines_lem h _ _ _ line.2 _ _ _ d.first.after d.last.2 d.labels b k.number is.0 g ne
+      λ h g. debug_lines_lem h _ _ _ line.2 (line_view t 0).0 _ _ d.first.after d.last.2 d.labels b k.number is.0 g ne
 
   after_bars_lem : parts_from t m ≡ record { before = []; groups = (parts_from t at).groups }
   after_bars_lem = d.last.1 ∙ ap (λ (g : List (List ℕ × List (List ℕ))). record { before = []; groups = g }) d.first.groups
@@ -386,7 +387,7 @@ module _ (t : List ℕ) (at q m : ℕ) (d : Barred t at q m) (b : Bool) (k : Lin
           inside = omega arith;
           makes = λ y. absurd (true≢false (sym y));
           settles = λ h g.
-              debug_unlined h _ _ _ line.2 _ _ _ d.first.after d.last.2 d.labels b k.number is.0 g z o;
+              debug_unlined h _ _ _ line.2 (line_view t 0).0 _ _ d.first.after d.last.2 d.labels b k.number is.0 g z o;
         }
 
     pub checked-lined : (p : ℕ) → FirstRow t q (pa.To p)

@@ -2,7 +2,8 @@
 use Rattle.std.proofs.Common.{◌≡◌, ℕ, suc, Bool, true, false, not, eqb, List, [], ◌∷◌, ◌++◌, map, drop, sym, refl, ap, ◌∙◌, subst, true≢false, arith}
 use mathlib.Core.List.{flat_map}
 use mathlib.Core.Option.{Option, none, some}
-use Rattle.format.specs.Basics.{Outcome, refused, given, ◌>>=◌, ask, need, is_some, is_empty, if◌then◌else◌}
+use Rattle.std.specs.Prelude.{if◌then◌else◌}
+use Rattle.format.specs.Basics.{Outcome, refused, given, ◌>>=◌, ask, need, is_some, is_empty}
 use Rattle.format.specs.Utf8.{trim}
 use Rattle.format.specs.ObjectFile.{ObjectFile}
 use Rattle.format.specs.Records.{with_lines}

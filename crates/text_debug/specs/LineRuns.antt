@@ -1,7 +1,7 @@
 -- The rows of a line table, one after the other: their numbers, and the runs of rows with an address. Assumes nothing.
-use Rattle.std.specs.Prelude.{◌≡◌, ℕ, ◌+◌, ◌%◌, ◌^◌, true, false, not, ◌&&◌, ◌||◌, List, [], ◌∷◌, map, ◌==◌, nat_lt}
+use Rattle.std.specs.Prelude.{◌≡◌, ℕ, ◌+◌, ◌%◌, ◌^◌, true, false, not, ◌&&◌, ◌||◌, List, [], ◌∷◌, map, ◌==◌, nat_lt, if◌then◌else◌}
 use Rattle.std.proofs.Math.Option.{Option, none, some}
-use Rattle.format.specs.Basics.{and_then, if◌then◌else◌}
+use Rattle.format.specs.Basics.{and_then}
 use Rattle.format.specs.TextReader.{parse_line_rows}
 use Rattle.format.specs.Calls.{refusal_of}
 use Rattle.text_tables.specs.declared.LineRow.{LineRow}

@@ -12,7 +12,8 @@ use borrow.Author.Rules.{part_to_end}
 use lib.Seq.{drop-drop}
 use lib.Dec.{ltb, eqb}
 use borrow.Author.Tests.{ltb-true, ltb-false, lt-ltb, le-leb, lt-leb, ne_eqb, eqb-true, eqb-false}
-use Rattle.format.specs.Basics.{if◌then◌else◌, ascii, and_then, is_some}
+use Rattle.std.specs.Prelude.{if◌then◌else◌}
+use Rattle.format.specs.Basics.{ascii, and_then, is_some}
 use Rattle.format.specs.Utf8.{char_at, scalars_from, is_utf8, is_between}
 use Rattle.format.specs.TextWriter.{lower_digit, numeral, escape_char, escape}
 use Rattle.format.proofs.ListLaws.{by_test}

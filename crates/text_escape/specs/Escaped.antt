@@ -1,8 +1,8 @@
 -- `escape_default`, character by character. That the escapes of a text are those of its scalar values is said in proofs/EscapeLaws.
 -- Assumes nothing.
-use Rattle.std.specs.Prelude.{◌≡◌, Bool, true, List, [], ◌∷◌, ◌++◌, ℕ, zero, suc, ◌<◌, drop, eqb}
+use Rattle.std.specs.Prelude.{◌≡◌, Bool, true, List, [], ◌∷◌, ◌++◌, ℕ, zero, suc, ◌<◌, drop, eqb, if◌then◌else◌}
 use Rattle.std.proofs.Math.Option.{Option, none, some}
-use Rattle.format.specs.Basics.{if◌then◌else◌, ascii}
+use Rattle.format.specs.Basics.{ascii}
 use Rattle.format.specs.Utf8.{char_at}
 use Rattle.format.specs.TextWriter.{numeral, escape_char}
 use Rattle.object.specs.Texts.{text_bytes}

@@ -1,7 +1,7 @@
 -- Groups from a place on: the lines left of the group that a place is in, and the groups after it.
 -- Assumes nothing.
-use Rattle.std.specs.Prelude.{◌≡◌, Bool, false, List, [], ℕ, ◌≤◌, ◌<◌, length, drop, get_or}
-use Rattle.format.specs.Basics.{if◌then◌else◌, ascii, eqs, begins_with, is_empty}
+use Rattle.std.specs.Prelude.{◌≡◌, Bool, false, List, [], ℕ, ◌≤◌, ◌<◌, length, drop, get_or, if◌then◌else◌}
+use Rattle.format.specs.Basics.{ascii, eqs, begins_with, is_empty}
 use Rattle.format.specs.Tokens.{Parts, head_of, parts_at}
 use Rattle.text_lines.specs.declared.Line.{Line}
 use Rattle.text_lines.specs.declared.Line.TheVariants as ln

@@ -1,7 +1,7 @@
 -- What the scanner's calls find at a place of the input, said of the rest of the input from that place.
 -- Assumes nothing.
-use Rattle.std.specs.Prelude.{◌≡◌, Bool, false, ◌&&◌, not, List, [], ◌∷◌, ℕ, suc, ◌+◌, ◌≤◌, ◌<◌, length, drop, get_or, eqb, ltb}
-use Rattle.format.specs.Basics.{if◌then◌else◌, ascii, keep, begins_with}
+use Rattle.std.specs.Prelude.{◌≡◌, Bool, false, ◌&&◌, not, List, [], ◌∷◌, ℕ, suc, ◌+◌, ◌≤◌, ◌<◌, length, drop, get_or, eqb, ltb, if◌then◌else◌}
+use Rattle.format.specs.Basics.{ascii, keep, begins_with}
 use Rattle.format.specs.Utf8.{is_blank}
 use Rattle.format.specs.TextReader.{lines}
 use Rattle.trim.specs.Span.{part}

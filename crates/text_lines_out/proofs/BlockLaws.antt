@@ -8,7 +8,8 @@ use lib.ListN.{length, drop, length-drop}
 use lib.Seq.{take_all, length-take-le}
 use lib.Dec.{leb, eqb}
 use borrow.Author.Tests.{le-leb, leb-true, leb-false, eq-eqb, ne_eqb, eqb-true, eqb-false}
-use Rattle.format.specs.Basics.{given_or, if◌then◌else◌}
+use Rattle.std.specs.Prelude.{if◌then◌else◌}
+use Rattle.format.specs.Basics.{given_or}
 use Rattle.format.specs.ObjectFile.{ObjectFile, LineBlock, line_end}
 use Rattle.format.specs.Records.{placed, empty_object}
 use Rattle.format.specs.Source.{line_count}

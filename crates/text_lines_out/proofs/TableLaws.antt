@@ -8,7 +8,8 @@ use lib.ListN.{length, take, drop, get_or, length-map, length-drop, take-append-
 use lib.Seq.{get_or-drop, length-take-le}
 use lib.Dec.{leb, ltb, eqb}
 use borrow.Author.Tests.{leb-true, leb-false, ltb-true, ltb-false, eq-eqb, ne_eqb, eqb-true, eqb-false}
-use Rattle.format.specs.Basics.{given_or, if◌then◌else◌}
+use Rattle.std.specs.Prelude.{if◌then◌else◌}
+use Rattle.format.specs.Basics.{given_or}
 use Rattle.format.specs.ObjectFile.{LineBlock, line_end}
 use Rattle.format.specs.Records.{placed, empty_object}
 use Rattle.format.specs.Calls.{checked}

@@ -1,7 +1,7 @@
 -- A source line by line, in words: where a line starts is known from the line before it. Assumes nothing.
-use Rattle.std.specs.Prelude.{◌≡◌, true, ℕ, suc, ◌+◌, ◌-◌, ◌≤◌, ◌<◌, length, take, drop, leb}
+use Rattle.std.specs.Prelude.{◌≡◌, true, ℕ, suc, ◌+◌, ◌-◌, ◌≤◌, ◌<◌, length, take, drop, leb, if◌then◌else◌}
 use mathlib.Core.List.{List, flat_map}
-use Rattle.format.specs.Basics.{Outcome, refused, if◌then◌else◌}
+use Rattle.format.specs.Basics.{Outcome, refused}
 use Rattle.format.specs.Utf8.{is_utf8}
 use Rattle.format.specs.Source.{Span, raw_line_span}
 use Rattle.format.specs.TextWriter.{Row, text_line, line_row, source_cell}

@@ -1,7 +1,7 @@
 -- What a record adds to the rows of the line table, in a walk along the records of an object. Assumes nothing.
-use Rattle.std.specs.Prelude.{◌≡◌, true, List, [], ◌∷◌, ◌++◌, ℕ, ◌+◌, ◌-◌, ◌^◌, ◌≤◌, ◌<◌, length, drop, eqb}
+use Rattle.std.specs.Prelude.{◌≡◌, true, List, [], ◌∷◌, ◌++◌, ℕ, ◌+◌, ◌-◌, ◌^◌, ◌≤◌, ◌<◌, length, drop, eqb, if◌then◌else◌}
 use Rattle.std.proofs.Math.Option.{none, some, get_or}
-use Rattle.format.specs.Basics.{given_or, and_then, if◌then◌else◌}
+use Rattle.format.specs.Basics.{given_or, and_then}
 use Rattle.format.specs.ObjectFile.{LineBlock, line_end}
 use Rattle.format.specs.Records.{empty_object}
 use Rattle.format.specs.Words.{object_of}

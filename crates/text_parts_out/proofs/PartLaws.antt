@@ -7,7 +7,7 @@ use native.Mathlib.Omega.{arith}
 use lib.ListN.{length, get_or, length-append}
 use lib.Dec.{ltb}
 use borrow.Author.Tests.{eq-eqb, ne_eqb}
-use Rattle.format.specs.Basics.{if◌then◌else◌}
+use Rattle.std.specs.Prelude.{if◌then◌else◌}
 use Rattle.format.specs.TextWriter.{hex4, lower_digit, numeral, decimal, memory_text, text_line}
 use Rattle.format.proofs.ListLaws.{by_test}
 use Rattle.writing.specs.Written.{Put}

@@ -1,8 +1,7 @@
 -- Blocks and relocations by the words of an object, for every slice of words. That they are those of a well formed object is said where it
 -- is written. Assumes nothing.
 use mathlib.Core.List.{List, [], ◌∷◌, ◌++◌, flat_map}
-use Rattle.std.specs.Prelude.{ℕ, zero, suc, ◌+◌, ◌-◌, length, get_or, ltb, eqb}
-use Rattle.format.specs.Basics.{if◌then◌else◌}
+use Rattle.std.specs.Prelude.{ℕ, zero, suc, ◌+◌, ◌-◌, length, get_or, ltb, eqb, if◌then◌else◌}
 use Rattle.format.specs.TextWriter.{hex4, decimal, memory_text, text_line}
 use Rattle.object.specs.Bodies.{body_at}
 use Rattle.object.specs.Texts.{text_len, text_bytes}

@@ -1,6 +1,5 @@
 -- A text written into words byte by byte. Words past the end of the output are left out. Assumes nothing.
-use Rattle.std.specs.Prelude.{◌≡◌, List, [], ◌∷◌, ℕ, ◌+◌, ◌*◌, length, set, eqb, ltb}
-use Rattle.format.specs.Basics.{if◌then◌else◌}
+use Rattle.std.specs.Prelude.{◌≡◌, List, [], ◌∷◌, ℕ, ◌+◌, ◌*◌, length, set, eqb, ltb, if◌then◌else◌}
 use Rattle.text_push.specs.declared.Held.{Held}
 
 -- the words of three bytes, and of one and two at the end

@@ -6,7 +6,8 @@ use Prim.Native.Nat.{ℕ}
 use native.Mathlib.Omega.{arith}
 use lib.Dec.{eqb}
 use borrow.Author.Tests.{eqb-true}
-use Rattle.format.specs.Basics.{given, if◌then◌else◌, is_empty, is_some, ascii, eqs, begins_with}
+use Rattle.std.specs.Prelude.{if◌then◌else◌}
+use Rattle.format.specs.Basics.{given, is_empty, is_some, ascii, eqs, begins_with}
 use Rattle.format.specs.Utf8.{is_utf8, trim}
 use Rattle.format.specs.Tokens.{parts_at, fold_outcome}
 use Rattle.format.specs.Sorted.{upsert_all, sorted}

@@ -5,7 +5,7 @@ use mathlib.Core.List.{List, [], ◌∷◌, map}
 use mathlib.Core.Option.{Option, none, some}
 use Prim.Native.Nat.{ℕ, Ordering}
 use lib.Dec.{compare_is_eq}
-use Rattle.format.specs.Basics.{if◌then◌else◌}
+use Rattle.std.specs.Prelude.{if◌then◌else◌}
 use Rattle.format.specs.Sorted.{order, by_ordering, upsert, at_key}
 use Rattle.format.specs.ObjectFile.{Label, label_key}
 use Rattle.format.specs.Records.{label_named}

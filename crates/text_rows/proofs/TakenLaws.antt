@@ -7,7 +7,8 @@ use Prim.Native.Nat.{ℕ, zero, suc, ◌-◌, Ordering}
 use lib.ListN.{length, drop, get_or}
 use lib.Dec.{eqb}
 use borrow.Author.Tests.{eqb-true}
-use Rattle.format.specs.Basics.{Outcome, refused, given, ◌>>=◌, ask, need, and_then, is_some, if◌then◌else◌, ascii, is_empty}
+use Rattle.std.specs.Prelude.{if◌then◌else◌}
+use Rattle.format.specs.Basics.{Outcome, refused, given, ◌>>=◌, ask, need, and_then, is_some, ascii, is_empty}
 use Rattle.format.specs.Utf8.{trim}
 use Rattle.format.specs.Tokens.{fold_outcome, scan_tokens}
 use Rattle.format.specs.Sorted.{order, by_ordering, upsert, upsert_all, at_key}

@@ -1,10 +1,9 @@
 -- The rows of a text file by kind: 0 the blocks of .TEXT, 1 the rows of .SYMBOL, 2 those of .LINKER_INFO, 3 those of .DEBUG's label table.
 -- What a row says stands for every text: a number that doesn't read is 0. Of a file that reads, these are what the reader puts in its
 -- object. Assumes nothing.
-use Rattle.std.specs.Prelude.{Bool, false, ◌&&◌, not, ℕ, zero, suc, drop, get_or, eqb}
+use Rattle.std.specs.Prelude.{Bool, false, ◌&&◌, not, ℕ, zero, suc, drop, get_or, eqb, if◌then◌else◌}
 use mathlib.Core.List.{List, [], ◌∷◌, ◌++◌, map, flat_map}
 use Rattle.std.proofs.Math.Option.{Option, none, some}
-use Rattle.format.specs.Basics.{if◌then◌else◌}
 use Rattle.format.specs.Utf8.{trim}
 use Rattle.format.specs.Sorted.{order, by_ordering}
 use Rattle.format.specs.TextReader.{hex2u16, parse_decimal, splitn, is_bar}

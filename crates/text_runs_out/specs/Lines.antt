@@ -1,9 +1,8 @@
 -- Rows of the line table with the lines that follow each other from a byte of the source on, for any words, rows and byte. That they are
 -- the rows of a well formed object is said where it is written. Assumes nothing.
-use Rattle.std.specs.Prelude.{◌≡◌, ℕ, ◌+◌, ◌-◌, ◌%◌, ◌^◌, length, drop, ltb, eqb}
+use Rattle.std.specs.Prelude.{◌≡◌, ℕ, ◌+◌, ◌-◌, ◌%◌, ◌^◌, length, drop, ltb, eqb, if◌then◌else◌}
 use mathlib.Core.List.{List, [], ◌∷◌, ◌++◌, flat_map}
 use Rattle.std.proofs.Math.Option.{Option, none, some}
-use Rattle.format.specs.Basics.{if◌then◌else◌}
 use Rattle.format.specs.TextWriter.{Row, plain_rows}
 use Rattle.measuring.specs.Room.{less_part}
 use Rattle.text_escape.specs.Escaped.{escaped_in}

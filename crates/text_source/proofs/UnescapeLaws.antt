@@ -5,7 +5,8 @@ use mathlib.Core.List.{flat_map}
 use mathlib.Core.Option.{Option, none, some}
 use native.Mathlib.Nat.{pow-zero, pow-le-pow_right}
 use borrow.Author.Tests.{lt-leb, eqb-false}
-use Rattle.format.specs.Basics.{Outcome, refused, given, ◌>>=◌, ask, begins_with, ascii, if◌then◌else◌, is_some}
+use Rattle.std.specs.Prelude.{if◌then◌else◌}
+use Rattle.format.specs.Basics.{Outcome, refused, given, ◌>>=◌, ask, begins_with, ascii, is_some}
 use Rattle.format.proofs.ListLaws.{flat_map-append}
 use Rattle.format.specs.Tokens.{tokens}
 use Rattle.format.specs.Utf8.{encode_scalar, is_scalar, is_between}

@@ -1,8 +1,7 @@
 -- The source column of the line table as one text: a cursor over its bytes, which lie in pieces.
 -- Assumes nothing.
-use Rattle.std.specs.Prelude.{◌≡◌, ℕ, ◌<◌, ◌≤◌, List, [], ◌∷◌, ◌++◌, length, nat_lt, slice_index_or}
+use Rattle.std.specs.Prelude.{◌≡◌, ℕ, ◌<◌, ◌≤◌, List, [], ◌∷◌, ◌++◌, length, nat_lt, slice_index_or, if◌then◌else◌}
 use mathlib.Core.List.{flat_map}
-use Rattle.format.specs.Basics.{if◌then◌else◌}
 use Rattle.format.specs.TextReader.{splitn}
 use Rattle.text_source.specs.declared.Source.{Source}
 use Rattle.text_source.specs.declared.Piece.{Piece}

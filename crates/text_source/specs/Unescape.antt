@@ -1,8 +1,8 @@
 -- Unescaping the source column, token by token.
 -- Assumes nothing.
-use Rattle.std.specs.Prelude.{◌≡◌, ℕ, ◌+◌, ◌%◌, ◌^◌, ◌<◌, ◌≤◌, Bool, true, false, List, [], ◌∷◌, ◌++◌, length, drop, ◌==◌, ◌≢◌, nat_eq, slice_index}
+use Rattle.std.specs.Prelude.{◌≡◌, ℕ, ◌+◌, ◌%◌, ◌^◌, ◌<◌, ◌≤◌, Bool, true, false, List, [], ◌∷◌, ◌++◌, length, drop, ◌==◌, ◌≢◌, nat_eq, slice_index, if◌then◌else◌}
 use mathlib.Core.List.{flat_map}
-use Rattle.format.specs.Basics.{Outcome, refused, given, ◌>>=◌, given_or, if◌then◌else◌}
+use Rattle.format.specs.Basics.{Outcome, refused, given, ◌>>=◌, given_or}
 use Rattle.format.specs.Calls.{refusal_of}
 use Rattle.format.specs.Tokens.{tokens}
 use Rattle.format.specs.Utf8.{encode_scalar, is_scalar}

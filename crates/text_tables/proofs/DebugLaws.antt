@@ -6,7 +6,8 @@ use mathlib.Core.List.{List, [], ◌∷◌}
 use mathlib.Core.Option.{Option, none, some}
 use Prim.Native.Nat.{ℕ}
 use native.Mathlib.Omega.{arith}
-use Rattle.format.specs.Basics.{and_then, begins_with, ascii, if◌then◌else◌, is_some, is_empty}
+use Rattle.std.specs.Prelude.{if◌then◌else◌}
+use Rattle.format.specs.Basics.{and_then, begins_with, ascii, is_some, is_empty}
 use Rattle.format.specs.TextReader.{Split, in_front, split_at_bar, up_to_bar, is_bar}
 use Rattle.trim.specs.Span.{part}
 use Rattle.text_lines.specs.Views.{StepAt}

@@ -4,7 +4,8 @@ use mathlib.Core.Path.{◌≡◌, sym, ap, ◌∙◌}
 use mathlib.Core.List.{List}
 use Prim.Native.Nat.{ℕ}
 use lib.Dec.{eqb}
-use Rattle.format.specs.Basics.{Outcome, refused, ◌>>=◌, if◌then◌else◌, ascii, eqs}
+use Rattle.std.specs.Prelude.{if◌then◌else◌}
+use Rattle.format.specs.Basics.{Outcome, refused, ◌>>=◌, ascii, eqs}
 use Rattle.format.specs.Tokens.{Parts, fold_outcome}
 use Rattle.format.specs.TextReader.{parse_group, parse_text_group, parse_symbol_group, parse_linker_group, parse_debug_group}
 use Rattle.format.specs.ObjectFile.{ObjectFile}

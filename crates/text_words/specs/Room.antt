@@ -1,7 +1,7 @@
 -- How much of a room parts leave: counted down, so that no sum can pass 64 bits. Assumes nothing.
-use Rattle.std.specs.Prelude.{List, [], ◌∷◌, ℕ, ◌-◌, length, leb}
+use Rattle.std.specs.Prelude.{List, [], ◌∷◌, ℕ, ◌-◌, length, leb, if◌then◌else◌}
 use Rattle.std.proofs.Math.Option.{Option, none, some}
-use Rattle.format.specs.Basics.{if◌then◌else◌, and_then}
+use Rattle.format.specs.Basics.{and_then}
 use Rattle.text_words.specs.declared.Room.{Room}
 use Rattle.text_words.specs.declared.Room.TheVariants as room
 

@@ -7,7 +7,8 @@ use lib.ListN.{length, take, drop, get_or, length-drop, drop_of_length-le}
 use lib.Seq.{length-take-le, take_all, take-nil, take-take, drop-drop, get_or-take, get_or-drop}
 use lib.Dec.{ltb, eqb}
 use borrow.Author.Tests.{lt-ltb, le-ltb, ltb-true, ltb-false, eq-eqb, ne_eqb, eqb-true, eqb-false}
-use Rattle.format.specs.Basics.{if◌then◌else◌, is_empty}
+use Rattle.std.specs.Prelude.{if◌then◌else◌}
+use Rattle.format.specs.Basics.{is_empty}
 use Rattle.format.specs.Utf8.{trim_start, trim_end, trim, is_blank}
 use Rattle.format.proofs.ListLaws.{by_test}
 use Rattle.trim.specs.declared.Span.{Span}

@@ -11,7 +11,8 @@ use lib.ListN.{length, take, drop, get_or, length-drop}
 use lib.Seq.{drop-drop, get_or-drop, drop-length, drop-nil}
 use lib.Dec.{leb, ltb, eqb}
 use borrow.Author.Tests.{le-leb, eq-eqb, ltb-true, ltb-false, leb-true, leb-false, eqb-true, eqb-false, lt-ltb, ne_eqb}
-use Rattle.format.specs.Basics.{if◌then◌else◌, is_empty}
+use Rattle.std.specs.Prelude.{if◌then◌else◌}
+use Rattle.format.specs.Basics.{is_empty}
 use Rattle.format.specs.Utf8.{is_between, is_scalar, follow, shortest_form, char_at, is_white_space, white_space_length, pass_over, trim_from}
 use Rattle.format.specs.Utf8.{trim_start, is_blank, trim_end}
 use Rattle.format.proofs.ListLaws.{by_test, both}

@@ -1,6 +1,5 @@
 -- Ranges of a text: from a byte to a byte, the second left out. Assumes nothing.
-use Rattle.std.specs.Prelude.{◌≡◌, List, ℕ, ◌+◌, ◌-◌, ◌≤◌, length, take, drop, ltb}
-use Rattle.format.specs.Basics.{if◌then◌else◌}
+use Rattle.std.specs.Prelude.{◌≡◌, List, ℕ, ◌+◌, ◌-◌, ◌≤◌, length, take, drop, ltb, if◌then◌else◌}
 use Rattle.format.specs.Utf8.{trim_start, trim_end, trim}
 use Rattle.trim.specs.declared.Span.{Span}
 

@@ -1,6 +1,5 @@
 -- White_Space at a place of a text and before it. Assumes nothing.
-use Rattle.std.specs.Prelude.{Bool, ◌&&◌, List, ℕ, ◌-◌, drop, leb, ltb, eqb}
-use Rattle.format.specs.Basics.{if◌then◌else◌}
+use Rattle.std.specs.Prelude.{Bool, ◌&&◌, List, ℕ, ◌-◌, drop, leb, ltb, eqb, if◌then◌else◌}
 use Rattle.format.specs.Utf8.{char_at, white_space_length}
 
 -- how many bytes the White_Space character at a place has; 0 if none begins there

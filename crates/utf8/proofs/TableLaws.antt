@@ -11,7 +11,8 @@ use native.Mathlib.Omega.{arith}
 use lib.ListN.{length, drop, length-drop}
 use lib.Dec.{leb, ltb, eqb}
 use borrow.Author.Tests.{lt-ltb, le-ltb, le-leb, lt-leb, ne_eqb, ltb-true, ltb-false, leb-true, leb-false, eqb-true, eqb-false}
-use Rattle.format.specs.Basics.{if◌then◌else◌, and_then, is_some}
+use Rattle.std.specs.Prelude.{if◌then◌else◌}
+use Rattle.format.specs.Basics.{and_then, is_some}
 use Rattle.format.specs.Utf8.{is_utf8, scalars_from, char_at, follow, shortest_form, is_scalar}
 use Rattle.format.proofs.ListLaws.{by_test}
 use Rattle.format.proofs.Utf8Laws.{char_one, char_middle}

@@ -1,7 +1,6 @@
 -- What a part writer hands back and leaves in the room that it is lent: "Each part is written into the unused rest of the output". Bytes
 -- and words alike. Assumes nothing.
-use Rattle.std.specs.Prelude.{◌≡◌, Bool, List, ◌++◌, ℕ, length, drop, leb}
-use Rattle.format.specs.Basics.{if◌then◌else◌}
+use Rattle.std.specs.Prelude.{◌≡◌, Bool, List, ◌++◌, ℕ, length, drop, leb, if◌then◌else◌}
 
 module _ {A : Type 0} (part room : List A) where
   -- the room with the part at its front; what lies past it stays
