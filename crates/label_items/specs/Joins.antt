@@ -1,7 +1,6 @@
 -- Labels of .SYMBOL and of the label table, joined by name. Assumes nothing.
-use Rattle.std.specs.Prelude.{Bool, true, false}
+use Rattle.std.specs.Prelude.{Bool, true, false, if◌then◌else◌}
 use Prim.Native.Nat.{Ordering}
-use Rattle.format.specs.Basics.{if◌then◌else◌}
 use Rattle.format.specs.Sorted.{by_ordering}
 use Rattle.label_items.specs.declared.Item.{Item}
 use Rattle.label_items.specs.declared.Next.{Next}

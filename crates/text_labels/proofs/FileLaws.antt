@@ -3,7 +3,8 @@ use mathlib.Core.Path.{◌≡◌, refl, sym, ap, ◌∙◌}
 use mathlib.Core.Bool.{Bool, true, false, ◌&&◌, not}
 use mathlib.Core.List.{List, [], map, flat_map}
 use Prim.Native.Nat.{ℕ}
-use Rattle.format.specs.Basics.{if◌then◌else◌, is_empty, is_some, given}
+use Rattle.std.specs.Prelude.{if◌then◌else◌}
+use Rattle.format.specs.Basics.{is_empty, is_some, given}
 use Rattle.format.specs.Sorted.{sorted}
 use Rattle.format.specs.Utf8.{trim}
 use Rattle.format.specs.ObjectFile.{ObjectFile}

@@ -9,7 +9,7 @@ use lib.ListN.{length, take, drop, get_or}
 use lib.Dec.{ltb}
 use borrow.Author.Tests.{ltb-true, ltb-false}
 use lib.Seq.{drop-cons, get_or-take, length-take-le}
-use Rattle.format.specs.Basics.{if◌then◌else◌}
+use Rattle.std.specs.Prelude.{if◌then◌else◌}
 use Rattle.format.specs.Sorted.{order, by_ordering}
 use Rattle.format.specs.Records.{Record, label}
 use Rattle.format.specs.Words.{record_words}

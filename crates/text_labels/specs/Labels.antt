@@ -1,7 +1,6 @@
 -- The labels of a text file, of the rows of their two tables, each handed out in the order of names. Assumes nothing.
-use Rattle.std.specs.Prelude.{◌≡◌, Bool, true, false, List, [], ◌++◌, map, length, take, drop}
+use Rattle.std.specs.Prelude.{◌≡◌, Bool, true, false, List, [], ◌++◌, map, length, take, drop, if◌then◌else◌}
 use Prim.Native.Nat.{ℕ, ◌+◌, ◌≤◌, Ordering}
-use Rattle.format.specs.Basics.{if◌then◌else◌}
 use Rattle.format.specs.Sorted.{by_ordering, sorted}
 use Rattle.format.specs.ObjectFile.{Label}
 use Rattle.format.specs.Records.{Record}

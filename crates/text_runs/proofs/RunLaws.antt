@@ -9,7 +9,8 @@ use lib.Seq.{take_at, length-take-le}
 use borrow.Author.Tests.{ne_eqb, eq-eqb}
 use borrow.Author.Rules.{part_to_end}
 use borrow.Rule.Slice.PartMut.{mid_of, put_mid}
-use Rattle.format.specs.Basics.{and_then, is_empty, if◌then◌else◌}
+use Rattle.std.specs.Prelude.{if◌then◌else◌}
+use Rattle.format.specs.Basics.{and_then, is_empty}
 use Rattle.format.specs.TextReader.{runs_from}
 use Rattle.format.specs.ObjectFile.{LineBlock}
 use Rattle.format.specs.Records.{line_block}

@@ -1,7 +1,7 @@
 -- The line blocks of a text file, run by run, from the rows of its line table. Assumes nothing.
-use Rattle.std.specs.Prelude.{◌≡◌, List, [], ◌∷◌, ◌++◌, map, ℕ, ◌+◌, ◌≤◌, ◌<◌, length, take, set}
+use Rattle.std.specs.Prelude.{◌≡◌, List, [], ◌∷◌, ◌++◌, map, ℕ, ◌+◌, ◌≤◌, ◌<◌, length, take, set, if◌then◌else◌}
 use Rattle.std.proofs.Math.Option.{Option, none, some}
-use Rattle.format.specs.Basics.{if◌then◌else◌, is_empty}
+use Rattle.format.specs.Basics.{is_empty}
 use Rattle.format.specs.ObjectFile.{LineBlock}
 use Rattle.format.specs.Records.{line_block}
 use Rattle.format.specs.Words.{word, memory_word, number_words, record_words}

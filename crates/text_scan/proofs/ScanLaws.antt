@@ -96,8 +96,8 @@ module _ (t : List ℕ) (n : ℕ) where
     Agreed h = Lined t w.sourced w.rows w.lines h × Counts h w.words
 
     -- 22 to 30
-    pub scan_groups_lem : (w.number ≡ 0 → ⊥) → groups_object t n ≡ refused w.number
-    scan_groups_lem ne = go (groups_from t n empty_object) refl c
+    pub scan_groups : (w.number ≡ 0 → ⊥) → groups_object t n ≡ refused w.number
+    scan_groups ne = go (groups_from t n empty_object) refl c
       where
         go : (o : Outcome ObjectFile) → groups_from t n empty_object ≡ o → Comes Agreed w.number o
             → groups_object t n ≡ refused w.number

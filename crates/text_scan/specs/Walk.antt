@@ -1,8 +1,8 @@
 -- The walk over the groups of a text file: what it knows of the object so far. Assumes nothing.
-use Rattle.std.specs.Prelude.{◌≡◌, Bool, true, false, ℕ, ◌≤◌, ◌<◌}
+use Rattle.std.specs.Prelude.{◌≡◌, Bool, true, false, ℕ, ◌≤◌, ◌<◌, if◌then◌else◌}
 use mathlib.Core.List.{List, [], flat_map}
 use Rattle.std.proofs.Math.Option.{Option, none, some}
-use Rattle.format.specs.Basics.{Outcome, refused, given, ◌>>=◌, ask, every, is_empty, if◌then◌else◌}
+use Rattle.format.specs.Basics.{Outcome, refused, given, ◌>>=◌, ask, every, is_empty}
 use Rattle.format.specs.Tokens.{fold_outcome}
 use Rattle.format.specs.ObjectFile.{LineBlock, ObjectFile, never_fall}
 use Rattle.format.specs.Records.{empty_object}

@@ -1,0 +1,11 @@
+use mathlib.Core.Path.{◌≡◌}
+use Prim.Native.Nat.{◌-◌}
+use lib.ListN.{length}
+use Rattle.text_runs.proofs.RunLaws.{Lining}
+use Rattle.text_runs.proofs.put_runs.Given as goal
+
+abbrev pub invariant-loop-n : goal.invariant-loop-n
+invariant-loop-n l = Lining l.t l.rows l.initial.out l.out l.at l.row l.line × (length l.kept ≡ length l.initial.kept)
+
+abbrev pub decreases-loop-n : goal.decreases-loop-n
+decreases-loop-n l = length l.t - l.row
