@@ -16,9 +16,9 @@ use Rattle.printing.proofs.PrintLaws.{fitting-last, words_numbered, printed}
 use Rattle.binary_to_text.specs.ToText.{binary_to_text, PrintsText}
 
 -- no refusal of a write has number 0
-text_write_lem : (ws : List ℕ) → Numbered (write_text ws)
+text_write : (ws : List ℕ) → Numbered (write_text ws)
 unfolding write_text
-text_write_lem ws = numbered_bind 0 (object_of ws) _ (object_numbered ws) λ h. tt
+text_write ws = numbered_bind 0 (object_of ws) _ (object_numbered ws) λ h. tt
 
 module _ (input buffer : List ℕ) where
   pub stops : (n : ℕ) → words_read read_binary input ≡ refused n → filled_of (handed_back n 0) buffer ≡ fill (binary_to_text input) buffer
@@ -39,6 +39,6 @@ module _ (input buffer : List ℕ) where
       (f : units.Filled) (left : List ℕ) → filled_of f left ≡ fill (binary_to_text input) buffer → (r : ℕ) (after : List ℕ)
       → PrintsFilled f left r after → PrintsText input buffer r after × Counts r after
   prints f left e r after p =
-      let n = numbered_bind 0 (words_read read_binary input) _ (words_numbered read_binary binary-read input) text_write_lem in
+      let n = numbered_bind 0 (words_read read_binary input) _ (words_numbered read_binary binary-read input) text_write in
       let q = printed (binary_to_text input) buffer f left e n r after p in
       (subst (λ (x : List ℕ). Put x buffer r after) (sym as_printed) q.0, q.1)

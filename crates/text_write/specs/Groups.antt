@@ -1,7 +1,7 @@
 -- The text file of an object in words, part by part as it is written. Assumes nothing.
-use Rattle.std.specs.Prelude.{List, [], ◌++◌, ℕ}
+use Rattle.std.specs.Prelude.{List, [], ◌++◌, ℕ, if◌then◌else◌}
 use Rattle.std.proofs.Math.Option.{some, get_or}
-use Rattle.format.specs.Basics.{and_then, if◌then◌else◌, ascii}
+use Rattle.format.specs.Basics.{and_then, ascii}
 use Rattle.format.specs.ObjectFile.{ObjectFile}
 use Rattle.format.specs.TextWriter.{text_line, symbol_table, linker_table, label_table, line_table, bar_line, blocks_only, symbol_groups, text_file}
 use Rattle.text_lines_out.specs.Walk.{source_table}

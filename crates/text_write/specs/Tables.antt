@@ -1,7 +1,7 @@
 -- The parts of the text form by the words of an object. Assumes nothing.
 use mathlib.Core.List.{List, [], flat_map}
-use Rattle.std.specs.Prelude.{ℕ, eqb}
-use Rattle.format.specs.Basics.{given_or, if◌then◌else◌}
+use Rattle.std.specs.Prelude.{ℕ, eqb, if◌then◌else◌}
+use Rattle.format.specs.Basics.{given_or}
 use Rattle.format.specs.ObjectFile.{ObjectFile}
 use Rattle.format.specs.Records.{empty_object}
 use Rattle.format.specs.Words.{object_of}
