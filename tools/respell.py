@@ -44,7 +44,7 @@ def is_of_function(root, path):
 
 
 def snake(name):
-    return re.sub(r"(?<=[a-z0-9])[A-Z]", lambda m: "_" + m[0].lower(), name)
+    return re.sub(r"(?<=[a-z])[A-Z]|(?<=[a-z][0-9])[A-Z]", lambda m: "_" + m[0].lower(), name)
 
 
 def parts_snake(name):

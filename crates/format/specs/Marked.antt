@@ -115,8 +115,8 @@ flag_01 =
     reads-binary (header7 ++ (0x00 ∷ 0x00 ∷ 0x30 ∷ 0x01 ∷ 0x00 ∷ 0x01 ∷ 0x34 ∷ 0x12 ∷ [])) (given (0x00003000 ∷ 0x20000000 ∷ []))
 
 -- "`+0FF`", and of P8 "The marked `+0FF` case becomes a no."
-abbrev pub plus_0_fF : Case
-plus_0_fF = reads-text (ascii "LC-3 OBJ FILE\n.TEXT\n+0FF\n0") (refused 24)
+abbrev pub plus_0FF : Case
+plus_0FF = reads-text (ascii "LC-3 OBJ FILE\n.TEXT\n+0FF\n0") (refused 24)
 
 -- "one `=` line (27)"
 abbrev pub one_bar : Case
@@ -201,7 +201,7 @@ number_cells_lem =
 abbrev pub marked : List Case
 marked =
     words_to_bytes ∷ bytes_back ∷ bytes_to_words ∷ printing ∷ header_alone ∷ six_header-bytes ∷ equal_addresses-binary ∷ equal_addresses-text
-    ∷ block_twice_binary ∷ block_twice_text ∷ flag_01 ∷ plus_0_fF ∷ one_bar ∷ lines_1_and_3 ∷ lines_1_and_2 ∷ white_space ∷ just_enough
+    ∷ block_twice_binary ∷ block_twice_text ∷ flag_01 ∷ plus_0FF ∷ one_bar ∷ lines_1_and_3 ∷ lines_1_and_2 ∷ white_space ∷ just_enough
     ∷ one-word-less ∷ no_room ∷ plus_in_a_block_twice ∷ plus_without_bars ∷ plus_in_a_second_table ∷ plus_in_a_name
     ∷ plus_in_the_source ∷ number_cells_lem ∷ []
 

@@ -26,7 +26,7 @@ follow zero c bs = some c
 follow (suc n) c [] = none
 follow (suc n) c (b ∷ bs) = if is_between 0x80 0xBF b then follow n (c * 2 ^ 6 + (b - 0x80)) bs else none
 
--- only the shortest form of a scalar value is well_formed (table 3-7): one that needs as many bytes as it has
+-- only the shortest form of a scalar value is well-formed (table 3-7): one that needs as many bytes as it has
 abbrev pub shortest_form : ℕ → ℕ → Option ℕ → Option (ℕ × ℕ)
 shortest_form least n none = none
 shortest_form least n (some c) = if leb least c && is_scalar c then some (c, n) else none

@@ -8,7 +8,8 @@ use native.Mathlib.Omega.{arith}
 use lib.ListN.{length, take, length-append, length-take}
 use borrow.Author.Tests.{lt-leb}
 use Rattle.format.specs.Calls.{fill, measured, read_text}
-use Rattle.format.specs.Basics.{Outcome, refused, given, ◌>>=◌, if◌then◌else◌, is_empty, is_some}
+use Rattle.std.specs.Prelude.{if◌then◌else◌}
+use Rattle.format.specs.Basics.{Outcome, refused, given, ◌>>=◌, is_empty, is_some}
 use Rattle.format.specs.Utf8.{trim}
 use Rattle.format.specs.ObjectFile.{Block, Label, LineBlock, ObjectFile, source_text}
 use Rattle.format.specs.Records.{Record, block, label, line_block, relocation, source_records, records_of, drop_stray_relocations}

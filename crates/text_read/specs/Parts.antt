@@ -1,9 +1,9 @@
 -- The words of a text file's object, part by part as they are written: from the trimmed file u, and from the file t up to the end of what
 -- trimming leaves, where the rows of the line table are. Assumes nothing.
-use Rattle.std.specs.Prelude.{Bool, ◌&&◌, not, ℕ, ◌+◌, ◌/◌, length}
+use Rattle.std.specs.Prelude.{Bool, ◌&&◌, not, ℕ, ◌+◌, ◌/◌, length, if◌then◌else◌}
 use mathlib.Core.List.{List, [], ◌++◌, map, flat_map}
 use Rattle.std.proofs.Math.Option.{Option}
-use Rattle.format.specs.Basics.{if◌then◌else◌, is_empty, and_then}
+use Rattle.format.specs.Basics.{is_empty, and_then}
 use Rattle.format.specs.Sorted.{sorted}
 use Rattle.format.specs.Records.{source_records}
 use Rattle.format.specs.Words.{record_words}

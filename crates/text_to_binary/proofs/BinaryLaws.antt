@@ -20,9 +20,9 @@ use Rattle.printing.proofs.PrintLaws.{fitting-last, words_numbered, printed}
 use Rattle.text_to_binary.specs.ToBinary.{text_to_binary, ConvertsText, text2bin, PrintsBinary}
 
 -- no refusal of a write has number 0
-binary_write_lem : (ws : List ℕ) (ls : List Label) (rs : List Relocation) → Numbered (write_binary ws ls rs)
+binary_write : (ws : List ℕ) (ls : List Label) (rs : List Relocation) → Numbered (write_binary ws ls rs)
 unfolding write_binary
-binary_write_lem ws ls rs = numbered_bind 0 (object_of ws) _ (object_numbered ws) λ h. numbered_ask 0 2 (counts_fit h) _ (omega arith) tt
+binary_write ws ls rs = numbered_bind 0 (object_of ws) _ (object_numbered ws) λ h. numbered_ask 0 2 (counts_fit h) _ (omega arith) tt
 
 module _ (input buffer : List ℕ) where
   pub stops : (n : ℕ) → words_read read_text input ≡ refused n → ConvertsText input buffer (filled_of (handed_back n 0) buffer)
@@ -54,6 +54,6 @@ module _ (input buffer : List ℕ) where
 
     pub prints : (r : ℕ) (after : List ℕ) → PrintsFilled f left r after → PrintsBinary input buffer r after × Counts r after
     prints r after p =
-        let n = numbered_bind 0 (words_read read_text input) _ (words_numbered read_text text-read input) λ ws. binary_write_lem ws c.0 c.1 in
+        let n = numbered_bind 0 (words_read read_text input) _ (words_numbered read_text text-read input) λ ws. binary_write ws c.0 c.1 in
         let q = printed (text_to_binary input c.0 c.1) buffer f left c.3 n r after p in
         ((c.0, c.1, c.2, subst (λ (x : List ℕ). Put x buffer r after) (sym as_printed) q.0), q.1)

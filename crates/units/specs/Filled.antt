@@ -5,7 +5,7 @@ use Rattle.units.specs.declared.Filled.{Filled}
 use Rattle.units.specs.declared.Measured.{Measured}
 
 -- the number and the length handed back, with the buffer at exit: a contract reads
--- `filled_of r (now out.exit) ≡ fill answer (now out.entry)`
+-- `filled_of result out.new ≡ fill answer out.old`
 abbrev pub filled_of : Filled → List ℕ → calls.Filled
 filled_of r buffer = record { number = r.number; len = r.len; buffer = buffer }
 

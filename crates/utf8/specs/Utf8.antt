@@ -1,4 +1,4 @@
--- A reader of UTF-8 that takes a byte at a time, by the table of well_formed byte sequences (Unicode, table 3-7). That it takes exactly the
+-- A reader of UTF-8 that takes a byte at a time, by the table of well-formed byte sequences (Unicode, table 3-7). That it takes exactly the
 -- texts of the definition `is_utf8` is the law `run_is_utf8` of proofs/TableLaws. Assumes nothing.
 use Rattle.std.specs.Prelude.{Bool, List, [], ◌∷◌, ℕ, ◌-◌, ◌≤◌, ◌<◌, get_or, ltb, eqb, if◌then◌else◌}
 use Rattle.utf8.specs.declared.Utf8.{Utf8}
