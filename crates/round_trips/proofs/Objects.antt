@@ -29,7 +29,7 @@ fair_of_lem ws t = go (object_of ws) refl t
   where
     go : (o : Outcome ObjectFile) → object_of ws ≡ o → gives_fair o ≡ true → Fair ws
     go (refused n) e u = let z : ◌≡◌ {A = ℕ} 0 1 = cc in absurd (omega arith)
-    go (given h) e u = record { object = h; well_formed_lem = e; parts = test_fair h u }
+    go (given h) e u = record { object = h; well_formed = e; parts = test_fair h u }
 
 -- what stands after any list that `run` makes of words that are seen to be fair
 stands_of : (ws : List ℕ) → gives_fair (object_of ws) ≡ true → (rs : List TripRow) (last : List ℕ) → Ran rs ws last → last ≡ ws

@@ -9,7 +9,8 @@ use lib.ListN.{length, drop, length-append}
 use lib.Seq.{length-take-le}
 use lib.Dec.{eqb, leb}
 use borrow.Author.Tests.{ne_eqb}
-use Rattle.format.specs.Basics.{Outcome, refused, given, if◌then◌else◌}
+use Rattle.std.specs.Prelude.{if◌then◌else◌}
+use Rattle.format.specs.Basics.{Outcome, refused, given}
 use Rattle.format.specs.Calls.{Filled, fill}
 use Rattle.format.specs.Trips.{Form, binary, text, Writes, Reads, filled_part, TripMade, write_refused, read-refused, completed, IsSlice}
 use Rattle.io.specs.Counts.{IsPrefixLen}

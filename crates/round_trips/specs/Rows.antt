@@ -1,6 +1,5 @@
 -- The program's lists of trips: rows of three numbers, a trip's form and how many bytes and words it is lent. Assumes nothing.
-use Rattle.std.specs.Prelude.{◌≡◌, List, [], ◌∷◌, map, ℕ, min, length, eqb}
-use Rattle.format.specs.Basics.{if◌then◌else◌}
+use Rattle.std.specs.Prelude.{◌≡◌, List, [], ◌∷◌, map, ℕ, min, length, eqb, if◌then◌else◌}
 use Rattle.format.specs.Trips.{Form, binary, text, Trip, LogEntry}
 use Rattle.round_trips.specs.Steps.{StepsMade}
 

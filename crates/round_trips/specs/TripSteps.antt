@@ -1,6 +1,5 @@
 -- A trip through the public calls as a step of demand 3 (crate `format`, module Trips). Assumes nothing.
-use Rattle.std.specs.Prelude.{List, ℕ, take, eqb}
-use Rattle.format.specs.Basics.{if◌then◌else◌}
+use Rattle.std.specs.Prelude.{List, ℕ, take, eqb, if◌then◌else◌}
 use Rattle.format.specs.Trips.{Form, Trip, TripMade, IsSlice}
 use Rattle.round_trips.specs.declared.Made.{Made}
 
