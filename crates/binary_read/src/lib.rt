@@ -14,6 +14,9 @@ use binary_sizes::words_length;
 use binary_words::lines_apart;
 use units::{Filled, Measured};
 
+// The number of what isn't refused.
+const NOT_REFUSED: u8 = 0;
+
 // The number of the first question after the header that is answered no, or 0.
 fn refusal(s: &[u8]) -> u8
     ensures { after_header s.now ≡ answer_of result (object_words s.now) }
@@ -45,7 +48,7 @@ fn read_records(s: &[u8], out: &mut [u32]) -> Filled
     ensures { filled_of result out.new ≡ fill (after_header s.now) out.old }
 {
     let refused = refusal(s);
-    if refused != 0 {
+    if refused != NOT_REFUSED {
         return Filled::refused(refused);
     }
     put_words(s, out)

@@ -13,6 +13,9 @@ use bytes_at::{u16_at, u64_at};
 use cursor::{Cursor, TookBytes};
 use utf8::is_utf8;
 
+// Records are of kinds 0 to this.
+const LAST_KIND: u8 = 4;
+
 // How many bytes every record of a kind has after its kind byte.
 fn fixed_bytes(k: u8) -> u64
     ensures { result ≡ fixed_bytes k }
@@ -100,7 +103,7 @@ pub fn scan(s: &[u8]) -> u8
     let mut at = 7;
     while at < s.len() {
         let k = s[at];
-        if 4 < k {
+        if LAST_KIND < k {
             return 11;
         }
         let first = Cursor { at: at + 1 };

@@ -13,11 +13,14 @@ use printing::{INPUT, object_room, print_filled};
 use text_write::write_text;
 use units::Filled;
 
+// The most bytes that are taken.
+const MOST_INPUT: usize = INPUT;
+
 // The text file of a binary file, into the buffer lent.
 fn text_of_binary(input: &[u8], out: &mut [u8]) -> Filled
     ensures { filled_of result out.new ≡ fill (binary_to_text input.now) out.old }
 {
-    if INPUT < input.len() {
+    if MOST_INPUT < input.len() {
         return Filled::refused(3);
     }
     let mut words = object_room();

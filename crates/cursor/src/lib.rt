@@ -6,6 +6,9 @@ ghost use Rattle.std.specs.Prelude.{◌≡◌, ◌≤◌, length};
 ghost use Rattle.format.specs.Digits.{value_of};
 ghost use Rattle.cursor.specs.Taken.{taken8, taken16, taken64, taken_bytes, take_number, take_bytes};
 
+// The bytes of a 2-byte number.
+const U16_BYTES: usize = 2;
+
 #[derive(Clone, Copy)]
 pub struct Cursor {
     pub at: usize,
@@ -74,7 +77,7 @@ impl Cursor {
         if s.len() < at {
             return TookU16::Missing;
         }
-        if s.len() - at < 2 {
+        if s.len() - at < U16_BYTES {
             return TookU16::Missing;
         }
         let end = at + 2;

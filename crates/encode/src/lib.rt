@@ -6,6 +6,9 @@ ghost use Rattle.std.specs.Prelude.{◌<◌};
 ghost use Rattle.writing.specs.Written.{Put};
 ghost use Rattle.encode.specs.Scalar.{one, two, three, four, scalar_bytes};
 
+// The first code after the surrogates.
+const SURROGATES_END: u32 = 0xE000;
+
 // One byte, 0xxxxxxx.
 fn put_one(out: &mut [u8], c: u32) -> usize
     requires { c < 0x80 }
@@ -81,7 +84,7 @@ pub fn encode_scalar(out: &mut [u8], c: u32) -> usize
     if c < 0xD800 {
         return put_low(out, c);
     }
-    if c < 0xE000 {
+    if c < SURROGATES_END {
         return 0;
     }
     if c < 0x10000 {

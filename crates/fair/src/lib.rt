@@ -16,6 +16,12 @@ ghost use Rattle.fair.specs.FairRecords.{answer_of, fair_lines, fair_step, step_
 
 use utf8::Char;
 
+// A fair name doesn't begin with it, since a line that does is a comment.
+const HASH: u8 = b'#';
+
+// The most addresses of a fair line block.
+const MOST_ADDRESSES: usize = 65535;
+
 // Number 1, or 0 and whether the object is fair.
 #[derive(Clone, Copy)]
 pub struct FairAnswer {
@@ -53,7 +59,7 @@ fn is_fair_name(ws: &[u32], at: usize) -> bool
     if first == b'.' {
         return false;
     }
-    if first == b'#' {
+    if first == HASH {
         return false;
     }
     if first == b'=' {
@@ -93,7 +99,7 @@ fn is_fair_line_block(ws: &[u32], at: usize, last: u64, least: u64) -> bool
     if n < 1 {
         return false;
     }
-    if 65535 < n {
+    if MOST_ADDRESSES < n {
         return false;
     }
     if !rises(ws, body + 3) {

@@ -22,6 +22,9 @@ use object::{body_end, number_at, put_text, text_byte, text_len, whole_words};
 use text_numerals::{count_digits, put_hex4, put_right, put_spaces};
 use writing::put_bytes;
 
+// The largest byte that continues a character.
+const LAST_CONTINUATION: u8 = 0xBF;
+
 // A label's name: where its words begin, and how many bytes it has.
 #[derive(Clone, Copy)]
 struct Name {
@@ -103,7 +106,7 @@ fn begins(b: u8) -> usize
     if b < 0x80 {
         return 1;
     }
-    if 0xBF < b {
+    if LAST_CONTINUATION < b {
         return 1;
     }
     0

@@ -12,6 +12,9 @@ ghost use Rattle.line_tables.specs.Tables.{line_answer, address_answer, offset_i
 use source_info::{Source, source_of};
 use units::{Address, Line};
 
+// The number of an answer that is there.
+const FOUND: u8 = 0;
+
 // The address of a line.
 #[derive(Clone, Copy)]
 pub struct AddressOf {
@@ -76,7 +79,7 @@ fn find_in(ws: &[u32], a: u16) -> LineOf
         let body = at + 1;
         if object::kind(ws[at]) == 3 {
             let found = line_in(ws, at, a);
-            if found.number == 0 {
+            if found.number == FOUND {
                 return found;
             }
         }

@@ -8,6 +8,9 @@ ghost use Rattle.printing.specs.Printed.{PrintsFilled};
 use text_rows_out::put_count_line;
 use units::Filled;
 
+// The number of what isn't refused.
+const NOT_REFUSED: u8 = 0;
+
 // The longest input, in bytes.
 pub const INPUT: usize = 65536;
 
@@ -23,7 +26,7 @@ pub fn object_room() -> [u32; 16384]
 pub fn print_filled(f: Filled, out: &mut [u8]) -> usize
     ensures { PrintsFilled f out.old result out.new }
 {
-    if f.number != 0 {
+    if f.number != NOT_REFUSED {
         return put_count_line(out, f.number as u64);
     }
     f.len

@@ -13,6 +13,9 @@ ghost use Rattle.round_trips.specs.Rows.{form_of, row, rows, Ran};
 use binary_format::BinaryFormat;
 use text_format::TextFormat;
 
+// The number of a trip that isn't refused.
+const NOT_REFUSED: u8 = 0;
+
 // The forms of trips in a list.
 const BINARY: u16 = 0;
 
@@ -139,7 +142,7 @@ fn next(stands: &mut [u32], n: usize, form: u16, room: u16, space: u16) -> usize
     let w = least(space as usize, 64);
     let r = trip(form, &stands[..n], &mut bytes[..b], &mut words[..w]);
     print::number(r.number);
-    if r.number != 0 {
+    if r.number != NOT_REFUSED {
         return n;
     }
     let len = r.len;

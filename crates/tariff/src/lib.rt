@@ -6,6 +6,9 @@ ghost use Rattle.tariff.specs.Tariff.{addends, payable, refused_fee, fee_of, len
 
 use part_counts::count_parts;
 
+// The most words of an object that is lent.
+const MOST_WORDS: u64 = 16_777_216;
+
 // The number of the question that was answered no, or 0; the fee, and its three addends before the reduction.
 #[derive(Clone, Copy)]
 pub struct Fee {
@@ -64,7 +67,7 @@ pub fn lending_fee(object: &[u32], member: bool) -> Fee
         return refused(number);
     }
     let words = object.len() as u64;
-    if 16_777_216 < words {
+    if MOST_WORDS < words {
         return refused(38);
     }
     let counts = count_parts(object);

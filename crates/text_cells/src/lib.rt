@@ -12,6 +12,18 @@ ghost use Rattle.text_cells.specs.Cells.{bar_at, digit_or16, number_read, entry_
 use text_lines::equals;
 use trim::{Span, trim};
 
+// A count of bad digits from which on there is one.
+const FIRST_BAD: u64 = 1;
+
+// The digits of an address.
+const HEX_DIGITS: usize = 4;
+
+// The digit 0.
+const ZERO: u8 = 0x30;
+
+// The most that has room for one more digit: a tenth of the largest 64-bit number, rounded down.
+const MOST_TENTH: u64 = 1844674407370955161;
+
 // What a cell says.
 #[derive(Clone, Copy)]
 pub enum Number {
@@ -92,14 +104,14 @@ pub fn decimal(s: &[u8], max: u64) -> Number
     let mut i = 0;
     while i < s.len() {
         let b = s[i];
-        if b < 0x30 {
+        if b < ZERO {
             return Number::Nothing;
         }
         if 0x39 < b {
             return Number::Nothing;
         }
         // Past 64 bits it is past any `max`, whatever follows.
-        if 1844674407370955161 < v {
+        if MOST_TENTH < v {
             return Number::Nothing;
         }
         let d = (b % 16) as u64;
@@ -119,7 +131,7 @@ pub fn decimal(s: &[u8], max: u64) -> Number
 pub fn hex2u16(s: &[u8]) -> Number
     ensures { number_read result ≡ hex2u16 s.now }
 {
-    if s.len() != 4 {
+    if s.len() != HEX_DIGITS {
         return Number::Nothing;
     }
     let mut v = 0;
@@ -131,7 +143,7 @@ pub fn hex2u16(s: &[u8]) -> Number
         v = v * 16 + d;
         i += 1;
     }
-    if bad == 0 {
+    if bad < FIRST_BAD {
         return Number::Value(v);
     }
     Number::Nothing

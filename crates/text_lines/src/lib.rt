@@ -9,6 +9,9 @@ ghost use Rattle.text_lines.specs.Groups.{parts_from, RowAt, NextRow, Spaces, Sh
 
 use trim::is_blank;
 
+// A line's end may have it before the LF.
+const CR: u8 = 0x0D;
+
 // A line: where it starts and ends, and the place after it.
 #[derive(Clone, Copy)]
 pub enum Line {
@@ -103,7 +106,7 @@ fn next_line(s: &[u8], at: usize) -> Line
         };
     }
     if at < e {
-        if s[e - 1] == 0x0D {
+        if s[e - 1] == CR {
             return Line::At {
                 start: at,
                 end: e - 1,

@@ -15,6 +15,9 @@ use object::put_text;
 use text_numerals::{count_digits, put_decimal, put_hex4, put_memory};
 use writing::{put_bytes, put_u8};
 
+// The bytes of a linker row beside its name.
+const LINKER_ROW: usize = 8;
+
 // 000's TABLE_DIV.
 const TABLE_DIV: [u8; 3] = [0x20, 0x7C, 0x20];
 
@@ -63,7 +66,7 @@ pub fn put_memory_line(out: &mut [u8], w: u32) -> usize
 pub fn measure_linker_row(room: usize, address: u16, ws: &[u32], at: usize, n: usize) -> Room
     ensures { room_of result ≡ less_part room (linker_line address (text_bytes ws.now at n)) }
 {
-    if room < 8 {
+    if room < LINKER_ROW {
         return Room::Short;
     }
     measuring::take(room - 8, n)

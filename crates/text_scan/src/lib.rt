@@ -16,6 +16,9 @@ use text_tables::parse_symbol_table;
 use trim::trim;
 use utf8::is_utf8;
 
+// The number of what isn't refused.
+const NOT_REFUSED: u8 = 0;
+
 // What the groups up to a place come to: their number, the place after them, whether there is a source, where its rows are, what they make, and
 // how many words the blocks have.
 #[derive(Clone, Copy)]
@@ -192,7 +195,7 @@ fn scan_groups(t: &[u8], first: usize) -> Scanned
 {
     let mut seen = [0u8; 8192];
     let w = parse_groups(t, first, &mut seen);
-    if w.number != 0 {
+    if w.number != NOT_REFUSED {
         return refuse(w.number);
     }
     let lines = w.lines;

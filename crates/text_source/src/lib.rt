@@ -14,6 +14,9 @@ use text_lines::Line;
 use text_tables::next_source_line;
 use trim::Span;
 
+// The first code after the surrogates.
+const SURROGATES_END: u32 = 0xE000;
+
 // A place in the source column: in a cell, and the place of the next line.
 #[derive(Clone, Copy)]
 pub struct Source {
@@ -139,7 +142,7 @@ fn is_scalar(v: u32) -> bool
     if v < 0xD800 {
         return true;
     }
-    if v < 0xE000 {
+    if v < SURROGATES_END {
         return false;
     }
     v <= 0x10FFFF

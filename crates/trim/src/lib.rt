@@ -8,6 +8,9 @@ ghost use Rattle.trim.specs.WhiteSpace.{shown_white, white_at, ends_white, white
 
 use utf8::Char;
 
+// A control character that is White_Space and no ASCII.
+const NEXT_LINE: u32 = 0x85;
+
 // From a byte to a byte, the second left out.
 #[derive(Clone, Copy)]
 pub struct Span {
@@ -39,7 +42,7 @@ pub fn is_white_space(c: u32) -> bool
     if c < 0x85 {
         return false;
     }
-    if c == 0x85 {
+    if c == NEXT_LINE {
         return true;
     }
     if c == 0xA0 {

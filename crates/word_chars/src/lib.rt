@@ -9,6 +9,9 @@ ghost use Rattle.word_chars.specs.Stretches.{Other, Clear};
 
 use utf8::Char;
 
+// The first byte that is no character by itself.
+const ASCII_END: u8 = 0x80;
+
 // Byte `p` of the first `end` bytes of a text; 0 past them.
 pub fn byte_in(ws: &[u32], at: usize, p: usize, end: usize) -> u8
     ensures { result ≡ get_or (text_bytes ws.now at end) p 0 }
@@ -40,7 +43,7 @@ pub fn char_in(ws: &[u32], at: usize, p: usize, end: usize) -> Char
         return Char::Nothing;
     }
     let a = object::text_byte(ws, at, p);
-    if a < 0x80 {
+    if a < ASCII_END {
         return Char::Scalar {
             value: a as u32,
             more: 0,

@@ -17,13 +17,13 @@ words q = object_words q.args.s.now
 abbrev room : After-refusal-refused → List ℕ
 room q = q.args.out.now
 
-pub returns-then-refused-ne0 : goal.returns-then-refused-ne0
-returns-then-refused-ne0 c =
+pub returns-then-refused-ne-NOT_REFUSED : goal.returns-then-refused-ne-NOT_REFUSED
+returns-then-refused-ne-NOT_REFUSED c =
     let n = c.refusal-refused.result in
-    ap (λ r. filled_of r (room (goal.at.returns-then-refused-ne0 c).After-refusal-refused)) c.refused.ensures ∙ ends-refused n (room (goal.at.returns-then-refused-ne0 c).After-refusal-refused)
-    ∙ ap (λ (o : Outcome (List ℕ)). fill o (room (goal.at.returns-then-refused-ne0 c).After-refusal-refused)) (sym (c.refusal-refused.ensures ∙ answer_refused n (words (goal.at.returns-then-refused-ne0 c).After-refusal-refused) c.if-refused-ne0.true))
+    ap (λ r. filled_of r (room (goal.at.returns-then-refused-ne-NOT_REFUSED c).After-refusal-refused)) c.refused.ensures ∙ ends-refused n (room (goal.at.returns-then-refused-ne-NOT_REFUSED c).After-refusal-refused)
+    ∙ ap (λ (o : Outcome (List ℕ)). fill o (room (goal.at.returns-then-refused-ne-NOT_REFUSED c).After-refusal-refused)) (sym (c.refusal-refused.ensures ∙ answer_refused n (words (goal.at.returns-then-refused-ne-NOT_REFUSED c).After-refusal-refused) c.if-refused-ne-NOT_REFUSED.true))
 
 pub returns : goal.returns
 returns c =
     c.put_words.ensures
-    ∙ ap (λ (o : Outcome (List ℕ)). fill o (room (goal.at.returns c).After-refusal-refused)) (sym (c.refusal-refused.ensures ∙ answer_given c.refusal-refused.result (words (goal.at.returns c).After-refusal-refused) c.if-refused-ne0.false))
+    ∙ ap (λ (o : Outcome (List ℕ)). fill o (room (goal.at.returns c).After-refusal-refused)) (sym (c.refusal-refused.ensures ∙ answer_given c.refusal-refused.result (words (goal.at.returns c).After-refusal-refused) c.if-refused-ne-NOT_REFUSED.false))

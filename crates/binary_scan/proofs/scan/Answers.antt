@@ -15,21 +15,21 @@ inside : (c : In-Between) → let l = c.loop-at in let s = c.args.s.now in (c.in
 inside c =
     let l = c.loop-at in
     let s = c.args.s.now in
-    scan_inside s l.at c.loop-at-test.true (get_or s l.at 0) refl c.if-k-gt4.false c.in-Between.a c.in-Between.e c.in-Between.next.at (took c)
+    scan_inside s l.at c.loop-at-test.true (get_or s l.at 0) refl c.if-k-gt-LAST_KIND.false c.in-Between.a c.in-Between.e c.in-Between.next.at (took c)
 
 -- src/lib.rt:104:13
-pub returns-then-k-gt4 : goal.returns-then-k-gt4
-returns-then-k-gt4 c =
+pub returns-then-k-gt-LAST_KIND : goal.returns-then-k-gt-LAST_KIND
+returns-then-k-gt-LAST_KIND c =
     let l = c.loop-at in
     let s = c.args.s.now in
-    sym (scan_unknown s l.at c.loop-at-test.true c.if-k-gt4.true) ∙ l.invariant
+    sym (scan_unknown s l.at c.loop-at-test.true c.if-k-gt-LAST_KIND.true) ∙ l.invariant
 
 -- src/lib.rt:108:13
 pub returns-in_default : goal.returns-in_default
 returns-in_default c =
     let l = c.loop-at in
     let s = c.args.s.now in
-    sym (scan_short s l.at c.loop-at-test.true (get_or s l.at 0) refl c.if-k-gt4.false
+    sym (scan_short s l.at c.loop-at-test.true (get_or s l.at 0) refl c.if-k-gt-LAST_KIND.false
     (sym c.take_record.ensures ∙ ap taken_bytes c.in_default.is)) ∙ l.invariant
 
 -- src/lib.rt:110:34
@@ -49,7 +49,7 @@ pub returns-then-number-ne0 : goal.returns-then-number-ne0
 returns-then-number-ne0 c =
     let l = c.loop-at in
     let s = c.args.s.now in
-    scan_bad s l.at c.loop-at-test.true (get_or s l.at 0) refl c.if-k-gt4.false c.in-Between.a c.in-Between.e c.in-Between.next.at (took (goal.at.returns-then-number-ne0 c).In-Between)
+    scan_bad s l.at c.loop-at-test.true (get_or s l.at 0) refl c.if-k-gt-LAST_KIND.false c.in-Between.a c.in-Between.e c.in-Between.next.at (took (goal.at.returns-then-number-ne0 c).In-Between)
     c.body_number-number.result c.body_number-number.ensures c.if-number-ne0.true ∙ l.invariant
 
 -- src/lib.rt:101:5
@@ -61,7 +61,7 @@ pub loop-at-preserved : goal.loop-at-preserved
 loop-at-preserved c =
     let l = c.loop-at in
     let s = c.args.s.now in
-    scan_good s l.at c.loop-at-test.true (get_or s l.at 0) refl c.if-k-gt4.false c.in-Between.a c.in-Between.e c.in-Between.next.at (took (goal.at.loop-at-preserved c).In-Between)
+    scan_good s l.at c.loop-at-test.true (get_or s l.at 0) refl c.if-k-gt-LAST_KIND.false c.in-Between.a c.in-Between.e c.in-Between.next.at (took (goal.at.loop-at-preserved c).In-Between)
     (sym c.body_number-number.ensures ∙ c.if-number-ne0.false) ∙ l.invariant
 
 -- src/lib.rt:97:1

@@ -20,20 +20,20 @@ f c = filled_of c.read_binary-r.result c.read_binary-r.new.out
 
 read : (c : After-read_binary-r) → (f c).number ≡ 0 → (words_read read_binary (input c) ≡ given (take (f c).len (f c).buffer)) × Counts (f c).len (f c).buffer
 read c z =
-    is_read read_binary (input c) c.if-input-gt-INPUT.false _ c.object_room-words.ensures (f c) c.read_binary-r.ensures (binary-read (input c)) z
+    is_read read_binary (input c) c.if-input-gt-MOST_INPUT.false _ c.object_room-words.ensures (f c) c.read_binary-r.ensures (binary-read (input c)) z
 
-pub returns-then-input-gt-INPUT : goal.returns-then-input-gt-INPUT
-returns-then-input-gt-INPUT c =
+pub returns-then-input-gt-MOST_INPUT : goal.returns-then-input-gt-MOST_INPUT
+returns-then-input-gt-MOST_INPUT c =
     let a = c.args in
     ap (λ x. filled_of x a.out.now) c.refused.ensures
-    ∙ stops a.input.now a.out.now 3 (too_long read_binary a.input.now c.if-input-gt-INPUT.true)
+    ∙ stops a.input.now a.out.now 3 (too_long read_binary a.input.now c.if-input-gt-MOST_INPUT.true)
 
 pub returns-then-r-ne0 : goal.returns-then-r-ne0
 returns-then-r-ne0 c =
     let out = c.args.out.now in
     ap (λ x. filled_of x out) c.refused-then-r-ne0.ensures
     ∙ stops (input (goal.at.returns-then-r-ne0 c).After-read_binary-r) out (f (goal.at.returns-then-r-ne0 c).After-read_binary-r).number
-    (not-read read_binary (input (goal.at.returns-then-r-ne0 c).After-read_binary-r) c.if-input-gt-INPUT.false _ c.object_room-words.ensures (f (goal.at.returns-then-r-ne0 c).After-read_binary-r) c.read_binary-r.ensures
+    (not-read read_binary (input (goal.at.returns-then-r-ne0 c).After-read_binary-r) c.if-input-gt-MOST_INPUT.false _ c.object_room-words.ensures (f (goal.at.returns-then-r-ne0 c).After-read_binary-r) c.read_binary-r.ensures
     c.if-r-ne0.true)
 
 pub slice_bounds-words-end : goal.slice_bounds-words-end

@@ -2,11 +2,11 @@
 use Rattle.encode.proofs.ScalarLaws.{is_three-high, is_four, is_surrogate, is_beyond, put-none, put_same}
 use Rattle.encode.proofs.encode_scalar.Goals as goal
 
-pub returns-then-c-lt57344 : goal.returns-then-c-lt57344
-returns-then-c-lt57344 c = put-none _ _ (is_surrogate _ c.if-c-lt55296.false c.if-c-lt57344.true)
+pub returns-then-c-lt-SURROGATES_END : goal.returns-then-c-lt-SURROGATES_END
+returns-then-c-lt-SURROGATES_END c = put-none _ _ (is_surrogate _ c.if-c-lt55296.false c.if-c-lt-SURROGATES_END.true)
 
 pub returns-then-c-lt65536 : goal.returns-then-c-lt65536
-returns-then-c-lt65536 c = put_same _ _ _ _ _ (is_three-high _ c.if-c-lt57344.false
+returns-then-c-lt65536 c = put_same _ _ _ _ _ (is_three-high _ c.if-c-lt-SURROGATES_END.false
     c.if-c-lt65536.true) c.put_three.ensures
 
 pub returns-then-c-lt1114112 : goal.returns-then-c-lt1114112

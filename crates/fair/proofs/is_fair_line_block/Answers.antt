@@ -53,7 +53,7 @@ some : (c : Else3) → 1 ≤ length (l c.before.before.before).addresses
 some c = omega (arith, count_is c.before.before.before, c.if-n-lt1.false)
 
 few : (c : Else3) → length (l c.before.before.before).addresses ≤ 65535
-few c = omega (arith, count_is c.before.before.before, c.if-n-gt65535.false)
+few c = omega (arith, count_is c.before.before.before, c.if-n-gt-MOST_ADDRESSES.false)
 
 -- the addresses rise
 rising : (c : Else4) → strictly_rise (l c.before.before.before.before.before).addresses ≡ true
@@ -66,10 +66,10 @@ pub returns-then-n-lt1 : goal.returns-then-n-lt1
 returns-then-n-lt1 c =
     lines-few (last c.before.before.before) (least c.before.before.before) (l c.before.before.before) (omega (arith, first_is c.before.before.before, c.if-first-least.false)) (omega (arith, count_is c.before.before.before, c.if-n-lt1.true))
 
-pub returns-then-n-gt65535 : goal.returns-then-n-gt65535
-returns-then-n-gt65535 c =
+pub returns-then-n-gt-MOST_ADDRESSES : goal.returns-then-n-gt-MOST_ADDRESSES
+returns-then-n-gt-MOST_ADDRESSES c =
     lines_many (last c.before.before.before.before) (least c.before.before.before.before) (l c.before.before.before.before) (omega (arith, first_is c.before.before.before.before, c.if-first-least.false))
-    (omega (arith, count_is c.before.before.before.before, c.if-n-lt1.false)) (omega (arith, count_is c.before.before.before.before, c.if-n-gt65535.true))
+    (omega (arith, count_is c.before.before.before.before, c.if-n-lt1.false)) (omega (arith, count_is c.before.before.before.before, c.if-n-gt-MOST_ADDRESSES.true))
 
 pub returns-then-not-rises : goal.returns-then-not-rises
 returns-then-not-rises c =

@@ -55,8 +55,8 @@ returns-then-n-eq0 c = name-empty _ (sym (size c.before.before) ∙ c.if-n-eq0.t
 pub returns-then-first-eq46 : goal.returns-then-first-eq46
 returns-then-first-eq46 c = name_dot _ (some c.before.before) (sym (first c.before.before) ∙ c.if-first-eq46.true)
 
-pub returns-then-first-eq35 : goal.returns-then-first-eq35
-returns-then-first-eq35 c = name_hash _ (some c.before.before.before) (sym (first c.before.before.before) ∙ c.if-first-eq35.true)
+pub returns-then-first-eq-HASH : goal.returns-then-first-eq-HASH
+returns-then-first-eq-HASH c = name_hash _ (some c.before.before.before) (sym (first c.before.before.before) ∙ c.if-first-eq-HASH.true)
 
 pub returns-then-first-eq61 : goal.returns-then-first-eq61
 returns-then-first-eq61 c = name_equals _ (some c.before.before.before.before) (sym (first c.before.before.before.before) ∙ c.if-first-eq61.true)
@@ -68,5 +68,5 @@ has_no_white_space-requires c =
 pub returns : goal.returns
 returns c =
     c.has_no_white_space.ensures ∙ ap no_white_space (bytes_is c.before.before)
-    ∙ name-rest _ (some c.before.before.before.before.before) (λ z. c.if-first-eq46.false (first c.before.before.before.before.before ∙ z)) (λ z. c.if-first-eq35.false (first c.before.before.before.before.before ∙ z))
+    ∙ name-rest _ (some c.before.before.before.before.before) (λ z. c.if-first-eq46.false (first c.before.before.before.before.before ∙ z)) (λ z. c.if-first-eq-HASH.false (first c.before.before.before.before.before ∙ z))
     (λ z. c.if-first-eq61.false (first c.before.before.before.before.before ∙ z))

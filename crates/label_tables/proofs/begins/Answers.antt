@@ -7,10 +7,10 @@ pub returns-then-b-lt128 : goal.returns-then-b-lt128
 unfolding begins
 returns-then-b-lt128 c = (simp (lt-leb _ _ c.if-b-lt128.true), omega arith)
 
-pub returns-then-b-gt191 : goal.returns-then-b-gt191
+pub returns-then-b-gt-LAST_CONTINUATION : goal.returns-then-b-gt-LAST_CONTINUATION
 unfolding begins
-returns-then-b-gt191 c = (simp (le-leb _ _ c.if-b-lt128.false, lt-leb _ _ c.if-b-gt191.true), omega arith)
+returns-then-b-gt-LAST_CONTINUATION c = (simp (le-leb _ _ c.if-b-lt128.false, lt-leb _ _ c.if-b-gt-LAST_CONTINUATION.true), omega arith)
 
 pub returns : goal.returns
 unfolding begins
-returns c = (simp (le-leb _ _ c.if-b-lt128.false, le-leb _ _ c.if-b-gt191.false), omega arith)
+returns c = (simp (le-leb _ _ c.if-b-lt128.false, le-leb _ _ c.if-b-gt-LAST_CONTINUATION.false), omega arith)

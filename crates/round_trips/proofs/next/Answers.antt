@@ -12,14 +12,14 @@ pub slice_bounds-trip-end-4 : goal.slice_bounds-trip-end-4
 slice_bounds-trip-end-4 c =
     sym (part_length _ 64 _ c.used_words-words.result c.used_words-words.ensures c.least-w.ensures.1 refl)
 
-pub returns-then-r-ne0 : goal.returns-then-r-ne0
-returns-then-r-ne0 c =
+pub returns-then-r-ne-NOT_REFUSED : goal.returns-then-r-ne-NOT_REFUSED
+returns-then-r-ne-NOT_REFUSED c =
     record {
       ran = ran_one c.args.form c.args.room c.args.space _ _ _ c.trip-r.result c.trip-r.new.words _
           c.trip-r.ensures.step
           (part_length _ 1024 _ c.used_bytes-bytes.result c.used_bytes-bytes.ensures c.least-b.ensures.1 c.least-b.ensures.0)
           (part_length _ 64 _ c.used_words-words.result c.used_words-words.ensures c.least-w.ensures.1 c.least-w.ensures.0)
-          (stood _ _ c.trip-r.result c.if-r-ne0.true);
+          (stood _ _ c.trip-r.result c.if-r-ne-NOT_REFUSED.true);
       prefix_len_2 = c.requires.prefix_len;
     }
 
@@ -44,6 +44,6 @@ returns c =
           c.trip-r.ensures.step
           (part_length _ 1024 _ c.used_bytes-bytes.result c.used_bytes-bytes.ensures c.least-b.ensures.1 c.least-b.ensures.0)
           (part_length _ 64 _ c.used_words-words.result c.used_words-words.ensures c.least-w.ensures.1 c.least-w.ensures.0)
-          (filled _ c.trip-r.new.words _ _ c.trip-r.result c.if-r-ne0.false c.trip-r.ensures.prefix_len.0 c.copy.ensures.to_after);
+          (filled _ c.trip-r.new.words _ _ c.trip-r.result c.if-r-ne-NOT_REFUSED.false c.trip-r.ensures.prefix_len.0 c.copy.ensures.to_after);
       prefix_len_2 = c.copy.ensures.prefix_len;
     }

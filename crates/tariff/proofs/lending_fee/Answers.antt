@@ -35,15 +35,15 @@ pub returns-then-number-ne0 : goal.returns-then-number-ne0
 returns-then-number-ne0 c =
     c.refused.ensures ∙ fee_ill_formed (ws c.before.before.before) (member c.before.before.before) c.check-number.result c.check-number.ensures c.if-number-ne0.true
 
-pub returns-then-words-gt16777216 : goal.returns-then-words-gt16777216
-returns-then-words-gt16777216 c =
+pub returns-then-words-gt-MOST_WORDS : goal.returns-then-words-gt-MOST_WORDS
+returns-then-words-gt-MOST_WORDS c =
     let f = well c.before.before.before in
-    c.refused-then-words-gt16777216.ensures ∙ fee_long (ws c.before.before.before.before) (member c.before.before.before.before) f.object f.is c.if-words-gt16777216.true
+    c.refused-then-words-gt-MOST_WORDS.ensures ∙ fee_long (ws c.before.before.before.before) (member c.before.before.before.before) f.object f.is c.if-words-gt-MOST_WORDS.true
 
 pub charge-requires : goal.charge-requires
 charge-requires c =
     let few = few-labels (ws c.before.before.before.before) in
-    (omega (arith, c.if-words-gt16777216.false), omega (arith, ap (λ (p : PartCounts). p.labels) c.count_parts-counts.ensures, few))
+    (omega (arith, c.if-words-gt-MOST_WORDS.false), omega (arith, ap (λ (p : PartCounts). p.labels) c.count_parts-counts.ensures, few))
 
 pub returns : goal.returns
 unfolding counts_of
@@ -51,4 +51,4 @@ returns c =
     let f = well c.before.before.before.before in
     let labels = ap (λ (p : PartCounts). p.labels) (c.count_parts-counts.ensures ∙ parts-counted (ws c.before.before.before.before.before) f.object f.is) in
     c.charge.ensures ∙ ap (λ m. fee_of (member c.before.before.before.before.before) (addends (length (ws c.before.before.before.before.before)) m)) labels
-    ∙ fee_charged (ws c.before.before.before.before.before) (member c.before.before.before.before.before) f.object f.is c.if-words-gt16777216.false
+    ∙ fee_charged (ws c.before.before.before.before.before) (member c.before.before.before.before.before) f.object f.is c.if-words-gt-MOST_WORDS.false

@@ -13,7 +13,7 @@ use Rattle.text_cells.proofs.decimal.Goals.{After-loop-i, Else-b-gt57}
 over : (e : Else-b-gt57) → let a = e.args in
     a.max + 1 ≤ e.loop-i.v * 10 + get_or a.s.now e.loop-i.i 0 % 16 → none ≡ parse_decimal (a.max + 1) a.s.now
 over e =
-    decimal-over _ e.loop-i.v e.loop-i.i e.loop-i-test.true e.args.max e.loop-i.invariant.1 e.if-b-lt48.false e.if-b-gt57.false
+    decimal-over _ e.loop-i.v e.loop-i.i e.loop-i-test.true e.args.max e.loop-i.invariant.1 e.if-b-lt-ZERO.false e.if-b-gt57.false
 
 -- after the last digit
 whole : (c : After-loop-i) (limit : ℕ) → parse_decimal limit c.args.s.now ≡ below_limit limit (some c.loop-i.v)
@@ -21,23 +21,23 @@ whole c limit =
     let s = c.args.s.now in
     digits_alone 10 s c.loop-i.v limit (omega (arith, c.if-s-eq0.false)) (sym c.loop-i.invariant.1 ∙ from_end 10 c.loop-i.v s c.loop-i.i c.loop-i-test.false)
 
-pub returns-then-b-lt48 : goal.returns-then-b-lt48
-returns-then-b-lt48 c =
-    decimal-low _ c.loop-i.v c.loop-i.i c.loop-i-test.true c.args.max c.loop-i.invariant.1 (omega (arith, c.if-b-lt48.true))
+pub returns-then-b-lt-ZERO : goal.returns-then-b-lt-ZERO
+returns-then-b-lt-ZERO c =
+    decimal-low _ c.loop-i.v c.loop-i.i c.loop-i-test.true c.args.max c.loop-i.invariant.1 (omega (arith, c.if-b-lt-ZERO.true))
 
 pub returns-then-b-gt57 : goal.returns-then-b-gt57
 returns-then-b-gt57 c =
     decimal-high _ c.loop-i.v c.loop-i.i c.loop-i-test.true c.args.max c.loop-i.invariant.1 c.if-b-gt57.true
 
-pub returns-then-v-gt1844674407370955161 : goal.returns-then-v-gt1844674407370955161
-returns-then-v-gt1844674407370955161 c = over (goal.at.returns-then-v-gt1844674407370955161 c).Else-b-gt57 (omega (arith, c.ranges.max))
+pub returns-then-v-gt-MOST_TENTH : goal.returns-then-v-gt-MOST_TENTH
+returns-then-v-gt-MOST_TENTH c = over (goal.at.returns-then-v-gt-MOST_TENTH c).Else-b-gt57 (omega (arith, c.ranges.max))
 
 pub returns-then-d-v : goal.returns-then-d-v
 returns-then-d-v c = over (goal.at.returns-then-d-v c).Else-b-gt57 (omega (arith, c.ranges.max))
 
 pub loop-i-preserved : goal.loop-i-preserved
 loop-i-preserved c =
-    (omega arith, decimal-on _ c.loop-i.v c.loop-i.i c.loop-i-test.true c.if-b-lt48.false c.if-b-gt57.false ∙ c.loop-i.invariant.1)
+    (omega arith, decimal-on _ c.loop-i.v c.loop-i.i c.loop-i-test.true c.if-b-lt-ZERO.false c.if-b-gt57.false ∙ c.loop-i.invariant.1)
 
 pub returns-then-max-v : goal.returns-then-max-v
 returns-then-max-v c =

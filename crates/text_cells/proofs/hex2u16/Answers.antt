@@ -18,7 +18,7 @@ loop-i-preserved c =
     let d = c.hex_digit-d.result in
     let q : d ≡ digit_or16 (get_or s l.i 0) = c.hex_digit-d.ensures.0 in
     let t = c.loop-i-test.true in
-    let n : length s ≡ 4 = c.if-s-ne4.false in (
+    let n : length s ≡ 4 = c.if-s-ne-HEX_DIGITS.false in (
       omega (arith, t),
       omega (arith, l.invariant.1, c.hex_digit-d.ensures.1),
       hex_room-on l.i l.v d l.invariant.2 c.hex_digit-d.ensures.1,
@@ -37,17 +37,17 @@ loop-i-preserved c =
           (λ z. l.invariant.4 (let c = eqb-false l.bad 0 z in omega arith)),
     )
 
-pub returns-then-bad-eq0 : goal.returns-then-bad-eq0
-returns-then-bad-eq0 c =
+pub returns-then-bad-lt-FIRST_BAD : goal.returns-then-bad-lt-FIRST_BAD
+returns-then-bad-lt-FIRST_BAD c =
     let l = c.loop-i in
     let s = c.args.s.now in
     let e : l.i ≡ 4 = omega (arith, l.invariant.0, c.loop-i-test.false) in
-    let p = rw e at (l.invariant.3 (omega (arith, c.if-bad-eq0.true))) in
-    hex_four s l.v c.if-s-ne4.false p.0 p.1
+    let p = rw e at (l.invariant.3 (omega (arith, c.if-bad-lt-FIRST_BAD.true))) in
+    hex_four s l.v c.if-s-ne-HEX_DIGITS.false p.0 p.1
 
 pub returns : goal.returns
 returns c =
-    hex_bad _ c.if-s-ne4.false (c.loop-i.invariant.4 (omega (arith, c.if-bad-eq0.false)))
+    hex_bad _ c.if-s-ne-HEX_DIGITS.false (c.loop-i.invariant.4 (omega (arith, c.if-bad-lt-FIRST_BAD.false)))
 
-pub returns-then-s-ne4 : goal.returns-then-s-ne4
-returns-then-s-ne4 c = hex_no _ c.if-s-ne4.true
+pub returns-then-s-ne-HEX_DIGITS : goal.returns-then-s-ne-HEX_DIGITS
+returns-then-s-ne-HEX_DIGITS c = hex_no _ c.if-s-ne-HEX_DIGITS.true

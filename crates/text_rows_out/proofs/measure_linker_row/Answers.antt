@@ -8,15 +8,15 @@ use Rattle.measuring.proofs.RoomLaws.{less_none, less-on}
 use Rattle.text_rows_out.proofs.RowLaws.{linker-length}
 use Rattle.text_rows_out.proofs.measure_linker_row.Goals as goal
 
-pub returns-then-room-lt8 : goal.returns-then-room-lt8
-returns-then-room-lt8 c =
+pub returns-then-room-lt-LINKER_ROW : goal.returns-then-room-lt-LINKER_ROW
+returns-then-room-lt-LINKER_ROW c =
     let a = c.args in
-    less_none _ _ (omega (arith, c.if-room-lt8.true, linker-length a.address (text_bytes a.ws.now a.at a.n)))
+    less_none _ _ (omega (arith, c.if-room-lt-LINKER_ROW.true, linker-length a.address (text_bytes a.ws.now a.at a.n)))
 
 pub returns : goal.returns
 returns c =
     let a = c.args in
-    c.take.ensures ∙ less-on a.room 8 a.n c.if-room-lt8.false
+    c.take.ensures ∙ less-on a.room 8 a.n c.if-room-lt-LINKER_ROW.false
     ∙ ap (less a.room)
     (sym (linker-length a.address (text_bytes a.ws.now a.at a.n) ∙ ap (λ (k : ℕ). 8 + k)
     (bytes-length a.ws.now a.at 0 a.n)))

@@ -23,7 +23,7 @@ pub returns : goal.returns
 returns c =
     let lines = sym c.is_between-3.ensures ∙ c.if-is_between-3.false in
     white_last _ (sym c.is_between.ensures ∙ c.if-is_between.false) c.if-c-eq32.false
-    c.if-c-eq133.false c.if-c-eq160.false c.if-c-eq5760.false
+    c.if-c-eq-NEXT_LINE.false c.if-c-eq160.false c.if-c-eq5760.false
     (sym c.is_between-2.ensures ∙ c.if-is_between-2.false)
     (λ e. true≢false (sym (ap (is_between 0x2028 0x2029) e) ∙ lines)) (λ e. true≢false (sym (ap (is_between 0x2028 0x2029) e) ∙ lines))
     c.if-c-eq8239.false c.if-c-eq8287.false
@@ -32,9 +32,9 @@ pub returns-then-c-eq32 : goal.returns-then-c-eq32
 unfolding is_white_space
 returns-then-c-eq32 c = sym (ap is_white_space c.if-c-eq32.true)
 
-pub returns-then-c-eq133 : goal.returns-then-c-eq133
+pub returns-then-c-eq-NEXT_LINE : goal.returns-then-c-eq-NEXT_LINE
 unfolding is_white_space
-returns-then-c-eq133 c = sym (ap is_white_space c.if-c-eq133.true)
+returns-then-c-eq-NEXT_LINE c = sym (ap is_white_space c.if-c-eq-NEXT_LINE.true)
 
 pub returns-then-c-eq160 : goal.returns-then-c-eq160
 unfolding is_white_space

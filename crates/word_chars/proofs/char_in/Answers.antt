@@ -15,13 +15,13 @@ returns-then-end-p c =
     (arith, size_is a.ws.now a.at a.end, c.if-end-p.true) in
     char_out (text_bytes a.ws.now a.at a.end) a.p h
 
-pub returns-then-a-lt128 : goal.returns-then-a-lt128
-returns-then-a-lt128 c =
+pub returns-then-a-lt-ASCII_END : goal.returns-then-a-lt-ASCII_END
+returns-then-a-lt-ASCII_END c =
     let a = c.args in
     let h : a.p < a.end = omega (arith, c.if-end-p.false) in
     let l : a.p < length (text_bytes a.ws.now a.at a.end) = omega (arith, h, size_is a.ws.now a.at a.end) in
     char_low (text_bytes a.ws.now a.at a.end) a.p c.text_byte-a.result l
-    (c.text_byte-a.ensures ∙ byte_is a.ws.now a.at a.end a.p h) c.if-a-lt128.true
+    (c.text_byte-a.ensures ∙ byte_is a.ws.now a.at a.end a.p h) c.if-a-lt-ASCII_END.true
 
 pub returns : goal.returns
 returns c =

@@ -9,8 +9,8 @@ use Rattle.cursor.proofs.Cursor.take_u16.Goals as goal
 pub returns-then-s-at : goal.returns-then-s-at
 returns-then-s-at c = number_missing 2 _ _ (omega arith)
 
-pub returns-then-s-at-lt2 : goal.returns-then-s-at-lt2
-returns-then-s-at-lt2 c = number_missing 2 _ _ (omega arith)
+pub returns-then-s-at-lt-U16_BYTES : goal.returns-then-s-at-lt-U16_BYTES
+returns-then-s-at-lt-U16_BYTES c = number_missing 2 _ _ (omega arith)
 
 -- two bytes fit
 pub overflow_cast-result : goal.overflow_cast-result
