@@ -3,19 +3,14 @@
 // theirs.
 #![tactic(auto)]
 
-// Does standard input go on after what was read of it?
-fn goes_on() -> bool {
-    let mut next = [0u8; 1];
-    io::read_full(0, &mut next) != 0
-}
+use printing::read_input;
 
 fn main() {
     let mut input = io::large_buffer();
-    let n = io::read_full(0, &mut input);
-    if n == input.len() && goes_on() {
+    let Ok(n) = read_input(&mut input) else {
         io::write_all(1, b"3\n");
         return;
-    }
+    };
     let mut out = io::large_buffer();
     let len = binary_to_text::bin2text(&input[..n], &mut out);
     io::write_all(1, &out[..len]);

@@ -7,7 +7,8 @@ ghost use Rattle.format.specs.Basics.{given};
 ghost use Rattle.format.specs.Words.{text_words};
 ghost use Rattle.format.specs.Calls.{fill};
 ghost use Rattle.writing.specs.Written.{Put};
-ghost use Rattle.units.specs.Filled.{filled_of};
+ghost use Rattle.units.specs.Refusal.{filled_of};
+ghost use Rattle.gather.specs.Kinds.{byte_of};
 ghost use Rattle.binary_words.specs.RecordAt.{words_at, part_words};
 ghost use Rattle.binary_sizes.specs.ObjectWords.{source_words, relocation_words, object_words};
 ghost use Rattle.binary_emit.specs.Chunks.{chunks_of, whole_words, Chunked};
@@ -15,12 +16,12 @@ ghost use Rattle.binary_emit.specs.Chunks.{chunks_of, whole_words, Chunked};
 use binary_sizes::{has_room, keeps_relocations};
 use binary_words::has_source;
 use bytes_at::{bytes_at, u16_at, u64_at};
-use gather::{Found, next_place};
+use gather::{Kind, next_place};
 use record_words::{
     label_head, put_address_words, put_memory_words, put_source_words, relocation_head,
 };
 use sorting::Sorting;
-use units::Filled;
+use units::Refusal;
 use writing::{put_bytes, put_number_words, put_text_words, put_word};
 
 // The words of the block at a place.
@@ -70,68 +71,62 @@ fn put_relocation(out: &mut [u32], s: &[u8], p: usize) -> usize
 }
 
 // The words of the record of a kind at a place.
-fn put_record(out: &mut [u32], s: &[u8], kind: u8, p: usize) -> usize
-    requires { length (words_at kind s.now p) ≤ length out.old }
-    ensures { Put (words_at kind s.now p) out.old result out.new }
+fn put_record(out: &mut [u32], s: &[u8], kind: Kind, p: usize) -> usize
+    requires { length (words_at (byte_of kind) s.now p) ≤ length out.old }
+    ensures { Put (words_at (byte_of kind) s.now p) out.old result out.new }
 {
-    if kind == 0 {
-        return put_block(out, s, p);
+    match kind {
+        Kind::Block => put_block(out, s, p),
+        Kind::Label => put_label(out, s, p),
+        Kind::LineBlock => put_lines(out, s, p),
+        Kind::Source => 0,
+        Kind::Relocation => put_relocation(out, s, p),
     }
-    if kind == 1 {
-        return put_label(out, s, p);
-    }
-    if kind == 2 {
-        return put_lines(out, s, p);
-    }
-    if kind == 4 {
-        return put_relocation(out, s, p);
-    }
-    0
 }
 
-// The words of the records at the first n places of a window.
-fn put_window(out: &mut [u32], s: &[u8], kind: u8, win: &[usize], n: usize) -> usize
-    requires { (n ≤ length win.now) × (length (flat_map (words_at kind s.now) (take n win.now)) ≤ length out.old) }
-    ensures { Put (flat_map (words_at kind s.now) (take n win.now)) out.old result out.new }
+// The words of the records at these places.
+fn put_places(out: &mut [u32], s: &[u8], kind: Kind, places: &[usize]) -> usize
+    requires { length (flat_map (words_at (byte_of kind) s.now) places.now) ≤ length out.old }
+    ensures { Put (flat_map (words_at (byte_of kind) s.now) places.now) out.old result out.new }
 {
     let mut at = 0;
-    let mut i = 0;
-    while i < n {
-        let p = win[i];
-        at += put_record(&mut out[at..], s, kind, p);
-        i += 1;
+    for p in places {
+        at += put_record(&mut out[at..], s, kind, *p);
     }
     at
 }
 
 // The words of the records of a kind, window by window.
-fn put_windows(out: &mut [u32], s: &[u8], kind: u8, win: &mut [usize]) -> usize
-    requires { (0 < length win.old) × (length (part_words kind s.now) ≤ length out.old) }
-    ensures { Put (part_words kind s.now) out.old result out.new }
+fn put_windows(out: &mut [u32], s: &[u8], kind: Kind, win: &mut [usize]) -> usize
+    requires { (0 < length win.old) × (length (part_words (byte_of kind) s.now) ≤ length out.old) }
+    ensures { Put (part_words (byte_of kind) s.now) out.old result out.new }
 {
     let mut at = 0;
     let mut sorting = Sorting::new(s, kind);
     loop {
-        let w = sorting.next_window(s, win);
-        at += put_window(&mut out[at..], s, kind, win, w.count);
-        if w.count < win.len() {
+        let n = sorting.next_window(s, win);
+        at += put_places(&mut out[at..], s, kind, &win[..n]);
+        if n < win.len() {
             return at;
         }
-        sorting = w.sorting;
     }
 }
 
 // The words of the records of a kind. Labels, of which a file has many in any order, go by larger windows.
-fn put_part(out: &mut [u32], s: &[u8], kind: u8) -> usize
-    requires { length (part_words kind s.now) ≤ length out.old }
-    ensures { Put (part_words kind s.now) out.old result out.new }
+fn put_part(out: &mut [u32], s: &[u8], kind: Kind) -> usize
+    requires { length (part_words (byte_of kind) s.now) ≤ length out.old }
+    ensures { Put (part_words (byte_of kind) s.now) out.old result out.new }
 {
-    if kind == 1 {
-        let mut names = [0usize; 4096];
-        return put_windows(out, s, kind, &mut names);
+    match kind {
+        Kind::Label => {
+            let mut names = [0usize; 4096];
+            put_windows(out, s, kind, &mut names)
+        }
+        _ => {
+            let mut win = [0usize; 1024];
+            put_windows(out, s, kind, &mut win)
+        }
     }
-    let mut win = [0usize; 1024];
-    put_windows(out, s, kind, &mut win)
 }
 
 // Bytes go after the n that are held over, until three are held: how many of them.
@@ -180,17 +175,15 @@ fn put_chunks(out: &mut [u32], s: &[u8], held: &mut [u8]) -> usize
     let mut at = 0;
     let mut n = 0;
     let mut place = 7;
-    loop {
-        let Found::At(p, next) = next_place(s, 3, place) else {
-            at += put_text_words(&mut out[at..], &held[0..n]);
-            return at;
-        };
+    while let Some((p, next)) = next_place(s, Kind::Source, place) {
         let chunk = bytes_at(s, p, 9, u64_at(s, p, 1));
         let c = put_chunk(&mut out[at..], chunk, held, n);
         at += c.at;
         n = c.count;
         place = next;
     }
+    at += put_text_words(&mut out[at..], &held[0..n]);
+    at
 }
 
 // The words of the source: none where it does not exist.
@@ -212,10 +205,10 @@ fn put_relocations(out: &mut [u32], s: &[u8]) -> usize
     requires { length (relocation_words s.now) ≤ length out.old }
     ensures { Put (relocation_words s.now) out.old result out.new }
 {
-    if keeps_relocations(s) {
-        return put_part(out, s, 4);
+    if !keeps_relocations(s) {
+        return 0;
     }
-    0
+    put_part(out, s, Kind::Relocation)
 }
 
 // The words of the five parts, one after the other.
@@ -223,21 +216,20 @@ fn put_object(out: &mut [u32], s: &[u8]) -> usize
     requires { length (object_words s.now) ≤ length out.old }
     ensures { Put (object_words s.now) out.old result out.new }
 {
-    let mut at = put_part(out, s, 0);
-    at += put_part(&mut out[at..], s, 1);
-    at += put_part(&mut out[at..], s, 2);
+    let mut at = put_part(out, s, Kind::Block);
+    at += put_part(&mut out[at..], s, Kind::Label);
+    at += put_part(&mut out[at..], s, Kind::LineBlock);
     at += put_source(&mut out[at..], s);
     at += put_relocations(&mut out[at..], s);
     at
 }
 
-// The words of the file's object; 3 where the buffer is too short.
-pub fn put_words(s: &[u8], out: &mut [u32]) -> Filled
+// The words of the file's object, where the buffer has room for them.
+pub fn put_words(s: &[u8], out: &mut [u32]) -> Result<usize, Refusal>
     ensures { filled_of result out.new ≡ fill (given (object_words s.now)) out.old }
 {
     if !has_room(s, out.len()) {
-        return Filled::refused(3);
+        return Err(Refusal::ShortBuffer);
     }
-    let n = put_object(out, s);
-    Filled::given(n)
+    Ok(put_object(out, s))
 }

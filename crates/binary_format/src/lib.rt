@@ -2,13 +2,13 @@
 #![tactic(auto)]
 
 ghost use Rattle.std.specs.Prelude.{◌≡◌};
-ghost use Rattle.format.specs.Calls.{read_binary, measured, WritesBinary, ReadsBinary};
-ghost use Rattle.units.specs.Filled.{filled_of, measured_of};
+ghost use Rattle.format.specs.Trips.{binary};
 ghost use Rattle.binary_format.specs.Formats.{binary_format};
 
 use binary_read::{binary_length, read_binary};
 use binary_write::write_binary;
-use units::{Filled, Measured};
+use object_format::ObjectFormat;
+use units::Refusal;
 
 // The binary format. Its magic and its version are those of the header that the calls write and ask for.
 #[derive(Clone, Copy)]
@@ -25,25 +25,20 @@ impl BinaryFormat {
     {
         BinaryFormat
     }
+}
 
-    // The file of an object, into the buffer lent: the length filled, or the number of the question that was answered no.
-    pub fn serialize(self, object: &[u32], out: &mut [u8]) -> Filled
-        ensures { WritesBinary object.now out.old (filled_of result out.new) }
-    {
+impl ObjectFormat for BinaryFormat {
+    ghost form = { binary };
+
+    fn serialize(self, object: &[u32], out: &mut [u8]) -> Result<usize, Refusal> {
         write_binary(object, out)
     }
 
-    // Whether a file reads, and how many words its object has; nothing is written.
-    pub fn length(self, s: &[u8]) -> Measured
-        ensures { measured_of result ≡ measured (read_binary s.now) }
-    {
-        binary_length(s)
+    fn length(self, file: &[u8]) -> Result<usize, Refusal> {
+        binary_length(file)
     }
 
-    // The object of a file, into the buffer lent: the length filled, or the number of the question that was answered no.
-    pub fn deserialize(self, s: &[u8], out: &mut [u32]) -> Filled
-        ensures { ReadsBinary s.now out.old (filled_of result out.new) }
-    {
-        read_binary(s, out)
+    fn deserialize(self, file: &[u8], out: &mut [u32]) -> Result<usize, Refusal> {
+        read_binary(file, out)
     }
 }

@@ -22,17 +22,7 @@ pub fn file_header() -> [u8; 7]
 fn begins_with(s: &[u8], front: &[u8]) -> bool
     ensures { result ≡ begins_with front.now s.now }
 {
-    if s.len() < front.len() {
-        return false;
-    }
-    let mut i = 0;
-    while i < front.len() {
-        if s[i] != front[i] {
-            return false;
-        }
-        i += 1;
-    }
-    true
+    s.starts_with(front)
 }
 
 // Whether the seven bytes come first.

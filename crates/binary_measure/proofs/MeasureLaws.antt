@@ -1,6 +1,7 @@
 -- The measuring walk: what is left to measure, and the number that it comes to. Assumes nothing.
 use mathlib.Core.Path.{◌≡◌, refl, sym, ap, subst, ◌∙◌}
 use mathlib.Core.Bool.{true, false, ◌&&◌}
+use Rattle.std.proofs.Common.{Option, Some, None}
 use mathlib.Core.List.{List, [], ◌∷◌, flat_map}
 use Prim.Native.Nat.{ℕ, ◌+◌, ◌≤◌, ◌<◌}
 use native.Mathlib.Omega.{arith}
@@ -11,14 +12,12 @@ use Rattle.format.specs.Records.{Record}
 use Rattle.format.specs.Binary.{record_bytes}
 use Rattle.format.specs.Calls.{checked}
 use Rattle.object.specs.Access.{record_at}
-use Rattle.object.proofs.Tests.{clash}
 use Rattle.binary_measure.specs.Measured.{records_in, bytes_in, count_fits, room_number}
 use Rattle.binary_measure.specs.Rooms.{Leaves, Takes}
-use Rattle.binary_measure.specs.declared.Room.{Room}
 use Rattle.binary_measure.proofs.WalkLaws.{From, Turn, start, no_more}
 
 -- of the records, these are left to measure; the others fit, and their bytes are taken from the room
-pub record Measures (ws : List ℕ) (used room at : ℕ) (space : Room) : Type 0 where
+pub record Measures (ws : List ℕ) (used room at : ℕ) (space : Option ℕ) : Type 0 where
   pub left : List Record
   pub need : ℕ
   pub from : From ws at left
@@ -26,7 +25,7 @@ pub record Measures (ws : List ℕ) (used room at : ℕ) (space : Room) : Type 0
   pub size : need + length (flat_map record_bytes left) ≡ used + length (bytes_in ws)
   pub counts : every count_fits (records_in ws) ≡ every count_fits left
 
-pub begins : (ws : List ℕ) (used room : ℕ) (space : Room) → checked ws ≡ 0 → Takes (record { left = room; short = false }) used space
+pub begins : (ws : List ℕ) (used room : ℕ) (space : Option ℕ) → checked ws ≡ 0 → Takes (Some room) used space
     → Measures ws used room 0 space
 begins ws used room space z t =
     let zero : 0 + used ≡ used = omega arith in
@@ -34,7 +33,7 @@ begins ws used room space z t =
       left = records_in ws;
       need = used;
       from = start ws z;
-      leaves = subst (λ n. Leaves room n space) zero (t room 0 (λ s. clash s refl, λ s. omega arith));
+      leaves = subst (λ n. Leaves room n space) zero (t room 0 (omega arith));
       size = refl;
       counts = refl;
     }
@@ -48,9 +47,9 @@ first-bytes : (r : Record) (rs : List Record)
 unfolding flat_map
 first-bytes r rs = length-append (record_bytes r) (flat_map record_bytes rs)
 
-module _ (ws : List ℕ) (used room at : ℕ) (space : Room) (m : Measures ws used room at space) where
+module _ (ws : List ℕ) (used room at : ℕ) (space : Option ℕ) (m : Measures ws used room at space) where
   -- past a record that fits
-  pub goes_on : (end n : ℕ) (after : Room) (t : Turn ws at end m.left) → count_fits (record_at ws at) ≡ true
+  pub goes_on : (end n : ℕ) (after : Option ℕ) (t : Turn ws at end m.left) → count_fits (record_at ws at) ≡ true
       → n ≡ length (record_bytes (record_at ws at)) → Takes space n after → Measures ws used room end after
   goes_on end n after t f e k = record {
     left = t.rest;
@@ -83,14 +82,14 @@ module _ (ws : List ℕ) (used room at : ℕ) (space : Room) (m : Measures ws us
     unfolding flat_map
     taken = omega (arith, m.size, ap (λ rs. length (flat_map record_bytes rs)) none_left)
 
-    pub is_short_lem : space.short ≡ true → 3 ≡ room_number ws used room
+    pub is_short_lem : space ≡ None → 3 ≡ room_number ws used room
     unfolding room_number
     is_short_lem e =
-        let h : room < used + length (bytes_in ws) = omega (arith, taken, m.leaves.0 e) in
+        let h : room < used + length (bytes_in ws) = omega (arith, taken, subst (Leaves room m.need) e m.leaves) in
         sym (rw (all_fit, lt-leb (used + length (bytes_in ws)) room h))
 
-    pub is_enough : space.short ≡ false → 0 ≡ room_number ws used room
+    pub is_enough : {rest : ℕ} → space ≡ Some rest → 0 ≡ room_number ws used room
     unfolding room_number
     is_enough e =
-        let h : used + length (bytes_in ws) ≤ room = omega (arith, taken, m.leaves.1 e) in
+        let h : used + length (bytes_in ws) ≤ room = omega (arith, taken, subst (Leaves room m.need) e m.leaves) in
         sym (rw (all_fit, le-leb (used + length (bytes_in ws)) room h))

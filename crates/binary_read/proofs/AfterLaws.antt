@@ -10,7 +10,7 @@ use Rattle.format.specs.Basics.{refused, given, is_empty, is_some}
 use Rattle.format.specs.Tokens.{tokens}
 use Rattle.format.specs.Sorted.{upsert, upsert_all, sorted}
 use Rattle.format.specs.ObjectFile.{ObjectFile, apart}
-use Rattle.format.specs.Records.{Record, block, label, line_block, source, relocation, records_of}
+use Rattle.format.specs.Records.{Record, block, label, line_block, relocation, records_of}
 use Rattle.format.specs.Records.{source_records}
 use Rattle.format.specs.Records.{ask_all, concluded, drop_stray_relocations, with_relocations}
 use Rattle.format.specs.Words.{record_words, words_of}

@@ -207,7 +207,7 @@ module _ (s : List ℕ) (at : ℕ) (h : at < length s) where
         scan_refused 12 (known ∙ rw (has fixed (leb-true (at + 1 + fixed) (length s) u), has_not (fixed + body) (omega arith)) refl))
         (λ u. scan_refused 12 (known ∙ rw (has_not fixed (leb-false (at + 1 + fixed) (length s) u)) refl))
 
-    module _ (a e next : ℕ) (t : take_record k s (at + 1) ≡ some_bytes a e next) where
+    module _ (a e next : ℕ) (t : take_record k s (at + 1) ≡ some_bytes a e next) (bs : List ℕ) (w : bs ≡ bytes_at (at + 1 + fixed) body s) where
       taken : (at + 1 + fixed + body ≤ length s) × (a ≡ at + 1 + fixed) × (e ≡ at + 1 + fixed + body) × (next ≡ at + 1 + fixed + body)
       unfolding take_record
       taken =
@@ -215,27 +215,23 @@ module _ (s : List ℕ) (at : ℕ) (h : at < length s) where
           (λ u. bytes_taken body s (at + 1 + fixed) a e next (sym (rw u at t)))
           (λ u. absurd (let z : ◌≡◌ {A = TakenBytes} no_bytes (some_bytes a e next) = rw u at t in let w : ⊥ = omega (arith, ap (λ (b : TakenBytes). b.number) z) in w))
 
-      pub scan_inside : (a ≤ e) × (e ≤ length s) × (next ≤ length s) × (at < next)
-      scan_inside = let p = taken in (omega arith, omega arith, omega arith, omega arith)
+      pub scan_inside : (next ≤ length s) × (at < next)
+      scan_inside = let p = taken in (omega arith, omega arith)
 
       there : asked k (drop (at + 1) s) ≡ numbered (body_number k (bytes_at fixed body (drop (at + 1) s))) (fixed + body)
       unfolding asked
       there = let p = taken in rw (has fixed (omega arith), has (fixed + body) (omega arith)) refl
 
-      its_body : bytes_at fixed body (drop (at + 1) s) ≡ take (e - a) (drop a s)
-      its_body =
-          let p = taken in
-          let m : e - a ≡ body = omega arith in
-          let d : drop fixed (drop (at + 1) s) ≡ drop a s = drop-drop fixed (at + 1) s ∙ ap (λ (i : ℕ). drop i s) (sym p.1) in
-          ap (take body) d ∙ ap (λ (i : ℕ). take i (drop a s)) (sym m)
+      its_body : bytes_at fixed body (drop (at + 1) s) ≡ bs
+      its_body = ap (take body) (drop-drop fixed (at + 1) s) ∙ sym w
 
-      asked_here : asked_of here ≡ numbered (body_number k (take (e - a) (drop a s))) (fixed + body)
+      asked_here : asked_of here ≡ numbered (body_number k bs) (fixed + body)
       asked_here = known ∙ there ∙ ap (λ (b : List ℕ). numbered (body_number k b) (fixed + body)) its_body
 
-      pub scan_bad : (n : ℕ) → n ≡ body_number k (take (e - a) (drop a s)) → (n ≡ 0 → ⊥) → n ≡ scan_from s at
+      pub scan_bad : (n : ℕ) → n ≡ body_number k bs → (n ≡ 0 → ⊥) → n ≡ scan_from s at
       scan_bad n q ne = sym (scan_refused n (asked_here ∙ rw (sym q, ne_eqb n 0 ne) refl))
 
-      pub scan_good : body_number k (take (e - a) (drop a s)) ≡ 0 → scan_from s next ≡ scan_from s at
+      pub scan_good : body_number k bs ≡ 0 → scan_from s next ≡ scan_from s at
       scan_good q =
           let p = taken in
           let m : next ≡ at + 1 + (fixed + body) = omega arith in

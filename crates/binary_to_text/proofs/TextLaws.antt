@@ -7,8 +7,9 @@ use Rattle.format.specs.Basics.{Outcome, refused, given, ◌>>=◌}
 use Rattle.format.specs.Calls.{Filled, fill, message, fitting, read_binary, write_text, bin2text}
 use Rattle.format.specs.Words.{object_of}
 use Rattle.format.proofs.Numbered.{Numbered, numbered_bind, binary-read}
-use Rattle.units.specs.declared.Filled as units
-use Rattle.units.specs.Filled.{filled_of, handed_back}
+use Rattle.std.specs.Prelude.{Result, Err}
+use Rattle.units.specs.declared.refusal.Refusal.{Refusal}
+use Rattle.units.specs.Refusal.{number_of, filled_of}
 use Rattle.writing.specs.Written.{Put}
 use Rattle.printing.specs.Printed.{words_read, PrintsFilled, Counts}
 use Rattle.printing.proofs.RefusalLaws.{object_numbered}
@@ -21,9 +22,10 @@ unfolding write_text
 text_write ws = numbered_bind 0 (object_of ws) _ (object_numbered ws) λ h. tt
 
 module _ (input buffer : List ℕ) where
-  pub stops : (n : ℕ) → words_read read_binary input ≡ refused n → filled_of (handed_back n 0) buffer ≡ fill (binary_to_text input) buffer
+  pub stops :
+      (r : Refusal) → words_read read_binary input ≡ refused (number_of r) → filled_of (Err r) buffer ≡ fill (binary_to_text input) buffer
   unfolding fill
-  stops n e = sym (ap (λ (o : Outcome (List ℕ)). fill (o >>= write_text) buffer) e)
+  stops r e = sym (ap (λ (o : Outcome (List ℕ)). fill (o >>= write_text) buffer) e)
 
   pub goes_on :
       (ws : List ℕ) (r : Filled) → words_read read_binary input ≡ given ws → r ≡ fill (write_text ws) buffer
@@ -36,9 +38,9 @@ module _ (input buffer : List ℕ) where
   as_printed = ap message (fitting-last (fitting 65536 (given input)) (λ bs. fitting 16384 (read_binary bs)) write_text (length buffer))
 
   pub prints :
-      (f : units.Filled) (left : List ℕ) → filled_of f left ≡ fill (binary_to_text input) buffer → (r : ℕ) (after : List ℕ)
+      (f : Result ℕ Refusal) (left : List ℕ) → filled_of f left ≡ fill (binary_to_text input) buffer → (r : ℕ) (after : List ℕ)
       → PrintsFilled f left r after → PrintsText input buffer r after × Counts r after
   prints f left e r after p =
       let n = numbered_bind 0 (words_read read_binary input) _ (words_numbered read_binary binary-read input) text_write in
-      let q = printed (binary_to_text input) buffer f left e n r after p in
+      let q = printed (binary_to_text input) buffer left n f e r after p in
       (subst (λ (x : List ℕ). Put x buffer r after) (sym as_printed) q.0, q.1)

@@ -4,31 +4,27 @@
 
 ghost use Rattle.std.specs.Prelude.{◌≡◌};
 ghost use Rattle.format.specs.Calls.{fill};
-ghost use Rattle.units.specs.Filled.{filled_of};
+ghost use Rattle.units.specs.Refusal.{filled_of};
 ghost use Rattle.printing.specs.Printed.{Counts};
 ghost use Rattle.binary_to_text.specs.ToText.{binary_to_text, PrintsText};
 
 use binary_read::read_binary;
 use printing::{INPUT, object_room, print_filled};
 use text_write::write_text;
-use units::Filled;
+use units::Refusal;
 
 // The most bytes that are taken.
 const MOST_INPUT: usize = INPUT;
 
 // The text file of a binary file, into the buffer lent.
-fn text_of_binary(input: &[u8], out: &mut [u8]) -> Filled
+fn text_of_binary(input: &[u8], out: &mut [u8]) -> Result<usize, Refusal>
     ensures { filled_of result out.new ≡ fill (binary_to_text input.now) out.old }
 {
     if MOST_INPUT < input.len() {
-        return Filled::refused(3);
+        return Err(Refusal::ShortBuffer);
     }
     let mut words = object_room();
-    let r = read_binary(input, &mut words);
-    if r.number != 0 {
-        return Filled::refused(r.number);
-    }
-    let n = r.len;
+    let n = read_binary(input, &mut words)?;
     write_text(&words[..n], out)
 }
 

@@ -5,7 +5,7 @@ use mathlib.Core.List.{List, [], ◌∷◌, ◌++◌, map, append-nil}
 use mathlib.Core.Option.{Option, none, some}
 use Prim.Native.Nat.{ℕ, suc, ◌+◌, ◌-◌, ◌*◌, ◌/◌, ◌≤◌, ◌<◌}
 use native.Mathlib.Omega.{arith}
-use lib.ListN.{length, take, drop, get_or, drop_of_length-le, length-take}
+use lib.ListN.{length, take, drop, get_or, drop_of_length-le}
 use lib.Seq.{drop-cons, get_or-take, length-take-le}
 use lib.Dec.{leb}
 use borrow.Author.Tests.{le-leb, lt-leb, leb-true, leb-false}
@@ -48,25 +48,21 @@ module _ (s : List ℕ) where
   apart-object = apart-all (in_order 2 s)
 
   -- place by place
-  module _ (q : Option ℕ) (win : List ℕ) (n i : ℕ) (h : i < n) (l : n ≤ length win) where
-    ahead : drop i (take n win) ≡ get_or win i 0 ∷ drop (i + 1) (take n win)
-    ahead =
-        let d = drop-cons (take n win) i 0 (omega (arith, length-take-le n win l)) in
-        let g = get_or-take n win i 0 h in
-        let e : suc i ≡ i + 1 = omega arith in
-        d ∙ ap (λ (p : ℕ). p ∷ drop (suc i) (take n win)) g ∙ ap (λ (j : ℕ). get_or win i 0 ∷ drop j (take n win)) e
+  module _ (q : Option ℕ) (ps : List ℕ) (i : ℕ) (h : i < length ps) where
+    ahead : drop i ps ≡ get_or ps i 0 ∷ drop (i + 1) ps
+    ahead = let e : suc i ≡ i + 1 = omega arith in drop-cons ps i 0 h ∙ ap (λ (j : ℕ). get_or ps i 0 ∷ drop j ps) e
 
-    pub apart_no : follows_at s q (get_or win i 0) ≡ false → apart_from s q (drop i (take n win)) ≡ false
+    pub apart_no : follows_at s q (get_or ps i 0) ≡ false → apart_from s q (drop i ps) ≡ false
     unfolding apart_from
     apart_no e = ap (apart_from s q) ahead ∙ rw e refl
 
-    pub apart-yes : follows_at s q (get_or win i 0) ≡ true → apart_from s q (drop i (take n win)) ≡ apart_from s (some (get_or win i 0)) (drop (i + 1) (take n win))
+    pub apart-yes : follows_at s q (get_or ps i 0) ≡ true → apart_from s q (drop i ps) ≡ apart_from s (some (get_or ps i 0)) (drop (i + 1) ps)
     unfolding apart_from
     apart-yes e = ap (apart_from s q) ahead ∙ rw e refl
 
-  pub apart-end : (q : Option ℕ) (win : List ℕ) (n i : ℕ) → n ≤ i → apart_from s q (drop i (take n win)) ≡ true
+  pub apart-end : (q : Option ℕ) (ps : List ℕ) (i : ℕ) → length ps ≤ i → apart_from s q (drop i ps) ≡ true
   unfolding apart_from
-  apart-end q win n i h = ap (apart_from s q) (drop_of_length-le (take n win) {i = i} (omega (arith, length-take n win)))
+  apart-end q ps i h = ap (apart_from s q) (drop_of_length-le ps {i = i} h)
 
   -- window by window
   apart-append : (q : Option ℕ) (x : ℕ) (xs ys : List ℕ) → apart_from s q (x ∷ xs ++ ys) ≡ (apart_from s q (x ∷ xs) && apart_from s (some (get_or (x ∷ xs) (length xs) 0)) ys)

@@ -5,7 +5,7 @@ use mathlib.Core.Option.{some}
 use Prim.Native.Nat.{ℕ, zero, suc, ◌+◌, ◌-◌, ◌*◌, ◌/◌, ◌≤◌, ◌<◌}
 use native.Mathlib.Omega.{arith}
 use lib.ListN.{length, take, drop, get_or, length-append, length-map, length-take, length-drop, take-append-drop, drop_of_length-le}
-use lib.Seq.{drop-cons, drop-drop, get_or-take, take_all, length-take-le}
+use lib.Seq.{drop-cons, drop-drop, take_all}
 use lib.Dec.{eqb, leb}
 use borrow.Author.Tests.{ne_eqb, eqb-true, eqb-false, leb-true, leb-false}
 use Rattle.format.specs.Digits.{digits_of}
@@ -203,15 +203,13 @@ module _ (kind : ℕ) (s found now ps rest : List ℕ) (n : ℕ) (h : HandsOut p
   handed_less l = omega (arith, ap length h.others, length-drop n ps, h.windowed.count, length-take (length found) ps)
 
 -- place by place
-module _ (kind : ℕ) (s win : List ℕ) (n i : ℕ) where
-  pub window-step : i < n → n ≤ length win → total kind s (drop i (take n win)) ≡ length (words_at kind s (get_or win i 0)) + total kind s (drop (i + 1) (take n win))
-  window-step h l =
-      let d = drop-cons (take n win) i 0 (omega (arith, length-take-le n win l)) in
-      let g = get_or-take n win i 0 h in
+module _ (kind : ℕ) (s ps : List ℕ) (i : ℕ) where
+  pub place-step : i < length ps → total kind s (drop i ps) ≡ length (words_at kind s (get_or ps i 0)) + total kind s (drop (i + 1) ps)
+  place-step h =
       let e : suc i ≡ i + 1 = omega arith in
-      ap (total kind s) (d ∙ ap (λ (p : ℕ). p ∷ drop (suc i) (take n win)) g ∙ ap (λ (j : ℕ). get_or win i 0 ∷ drop j (take n win)) e)
-      ∙ total_cons kind s (get_or win i 0) (drop (i + 1) (take n win))
+      ap (total kind s) (drop-cons ps i 0 h ∙ ap (λ (j : ℕ). get_or ps i 0 ∷ drop j ps) e)
+      ∙ total_cons kind s (get_or ps i 0) (drop (i + 1) ps)
 
-  pub window-end : n ≤ i → total kind s (drop i (take n win)) ≡ 0
+  pub place-end : length ps ≤ i → total kind s (drop i ps) ≡ 0
   unfolding flat_map
-  window-end h = ap (total kind s) (drop_of_length-le (take n win) {i = i} (omega (arith, length-take n win)))
+  place-end h = ap (total kind s) (drop_of_length-le ps {i = i} h)

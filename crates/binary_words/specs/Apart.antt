@@ -1,14 +1,14 @@
 -- "After the last record: does each line block left end at or before the next? 15", place by place. Assumes nothing.
 use Rattle.std.specs.Prelude.{Bool, true, ◌&&◌, List, [], ◌∷◌, ℕ, leb}
+use Rattle.std.specs.Prelude as before
 use Rattle.std.proofs.Math.Option.{Option, none, some}
 use Rattle.format.specs.ObjectFile.{line_end}
-use Rattle.gather.specs.declared.Place.{Place}
-use Rattle.gather.specs.declared.Place.TheVariants as place
 use Rattle.binary_words.specs.RecordAt.{line_block_at}
 
-abbrev pub place_of : Place → Option ℕ
-place_of (place.At p) = some p
-place_of place.Nothing = none
+-- the place of the line block before, if there is one
+abbrev pub place_of : before.Option ℕ → Option ℕ
+place_of (before.Some p) = some p
+place_of before.None = none
 
 -- the line block at a place begins at or after the end of the one before it, if there is one
 abbrev pub follows_at : List ℕ → Option ℕ → ℕ → Bool

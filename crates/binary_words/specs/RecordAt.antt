@@ -5,7 +5,7 @@ use Rattle.std.proofs.Math.Option.{Option, none, some}
 use Rattle.format.specs.Basics.{is_empty}
 use Rattle.format.specs.Sorted.{sorted}
 use Rattle.format.specs.ObjectFile.{Block, Label, LineBlock, Relocation, ObjectFile}
-use Rattle.format.specs.Records.{block, label, line_block, source, relocation}
+use Rattle.format.specs.Records.{block, label, line_block, relocation}
 use Rattle.format.specs.Binary.{bytes_at, number_at, memories_from, addresses_from}
 use Rattle.format.specs.Words.{record_words}
 use Rattle.gather.specs.Places.{places_of, key_at}

@@ -1,5 +1,5 @@
 -- What a binary write comes to, by the numbers of the check and of the measuring. Assumes nothing.
-use mathlib.Core.Path.{◌≡◌, sym, ap, ap₂, subst, ◌∙◌}
+use mathlib.Core.Path.{◌≡◌, refl, sym, ap, ap₂, subst, ◌∙◌}
 use mathlib.Core.Bool.{Bool, true}
 use mathlib.Core.List.{List, [], ◌++◌, flat_map}
 use Prim.Native.Nat.{ℕ, ◌+◌, ◌≤◌}
@@ -12,26 +12,35 @@ use Rattle.format.specs.ObjectFile.{ObjectFile}
 use Rattle.format.specs.Records.{records_of, placed}
 use Rattle.format.specs.Words.{object_of}
 use Rattle.format.specs.Binary.{record_bytes, counts_fit}
+use Rattle.format.specs.Calls as calls
 use Rattle.format.specs.Calls.{checked, fill, in_order, Reordered, OrdersOf}
 use Rattle.format.proofs.ListLaws.{by_test, unchanged}
 use Rattle.format.proofs.WordsOnly.{given-same}
 use Rattle.object.proofs.Formed.{not_formed}
-use Rattle.units.specs.Filled.{filled_of, handed_back}
-use Rattle.units.specs.declared.Filled.{Filled}
-use Rattle.units.proofs.FilledLaws.{ends-refused, ends-short}
+use Rattle.std.specs.Prelude.{Ok}
+use Rattle.units.specs.Refusal.{filled_of}
+use Rattle.units.proofs.RefusalLaws.{err-short}
 use Rattle.writing.specs.Written.{Put}
 use Rattle.writing.proofs.WriteLaws.{put_fills}
 use Rattle.binary_write.specs.Files.{file_after, WritesAfter}
 use Rattle.binary_measure.specs.Measured.{records_in, bytes_in, count_fits, room_number, write_number}
 use Rattle.binary_measure.proofs.WalkLaws.{object_is, in_order_lem, counts-placed}
 
+-- what is handed back and left of a buffer where the question with this number is answered no
+abbrev pub refusing : ℕ → List ℕ → calls.Filled
+refusing n buffer = record { number = n; len = 0; buffer = buffer }
+
+ends-refused : (n : ℕ) (buffer : List ℕ) → refusing n buffer ≡ fill (refused n) buffer
+unfolding fill
+ends-refused n buffer = refl
+
 -- words that are not well formed
 module _ (front ws buffer : List ℕ) (n : ℕ) (e : n ≡ checked ws) (some : n ≡ 0 → ⊥) where
-  pub refused_1 : (r : Filled) → r ≡ handed_back n 0 → WritesAfter front ws buffer (filled_of r buffer)
+  pub refused_1 : WritesAfter front ws buffer (refusing n buffer)
   unfolding file_after
-  refused_1 r h =
+  refused_1 =
       let never : OrdersOf ws [] [] = λ o q. let z : ◌≡◌ {A = ℕ} 0 1 = clashing q in absurd (omega arith) in
-      ([], [], never, ap (λ x. filled_of x buffer) h ∙ ends-refused n buffer ∙ sym (ap (λ o. fill (o >>= rest) buffer) (not_formed ws n e some)))
+      ([], [], never, ends-refused n buffer ∙ sym (ap (λ o. fill (o >>= rest) buffer) (not_formed ws n e some)))
     where
       rest : ObjectFile → Outcome (List ℕ)
       rest o = ask 2 (counts_fit o) >>= λ _. given (front ++ flat_map record_bytes (records_of (in_order o [] [])))
@@ -61,27 +70,26 @@ module _ (front ws buffer : List ℕ) (z : checked ws ≡ 0) where
       ∙ ap₂ (λ b rs. ask 2 b >>= λ _. given (front ++ flat_map record_bytes rs)) (counts-placed (records_in ws)) (in_order_lem ws z)
 
   -- the answer, in the object's own order
-  promised : (r : Filled) (after : List ℕ) → filled_of r after ≡ fill (ask 2 fits >>= λ _. given (front ++ bytes_in ws)) buffer
-      → WritesAfter front ws buffer (filled_of r after)
-  promised r after e = (own.labels, own.relocations, orders, e ∙ sym (ap (λ o. fill o buffer) file_is))
+  promised : (r : calls.Filled) → r ≡ fill (ask 2 fits >>= λ _. given (front ++ bytes_in ws)) buffer → WritesAfter front ws buffer r
+  promised r e = (own.labels, own.relocations, orders, e ∙ sym (ap (λ o. fill o buffer) file_is))
 
   module _ (m : ℕ) (e : m ≡ room_number ws (length front) (length buffer)) where
     abbrev size : ℕ
     size = length front + length (bytes_in ws)
 
-    pub refused_2_3 : (m ≡ 0 → ⊥) → (r : Filled) → r ≡ handed_back m 0 → WritesAfter front ws buffer (filled_of r buffer)
+    pub refused_2_3 : (m ≡ 0 → ⊥) → WritesAfter front ws buffer (refusing m buffer)
     unfolding room_number
-    refused_2_3 some r h =
-        promised r buffer (ap (λ x. filled_of x buffer) h ∙ (
+    refused_2_3 some =
+        promised (refusing m buffer) (
         by_test fits
         (λ t. by_test (leb size (length buffer))
         (λ l. absurd (some (e ∙ simp (t, l))))
         (λ l. let k = leb-false size (length buffer) l in
-        ap (λ k. filled_of (handed_back k 0) buffer) (e ∙ simp (t, l))
-        ∙ ends-short (front ++ bytes_in ws) buffer (omega (arith, length-append front (bytes_in ws)))
+        ap (λ k. refusing k buffer) (e ∙ simp (t, l))
+        ∙ err-short (front ++ bytes_in ws) buffer (omega (arith, length-append front (bytes_in ws)))
         ∙ sym (ap (λ b. fill (ask 2 b >>= λ _. given (front ++ bytes_in ws)) buffer) t)))
-        (λ t. ap (λ k. filled_of (handed_back k 0) buffer) (e ∙ simp t) ∙ ends-refused 2 buffer
-        ∙ sym (ap (λ b. fill (ask 2 b >>= λ _. given (front ++ bytes_in ws)) buffer) t))))
+        (λ t. ap (λ k. refusing k buffer) (e ∙ simp t) ∙ ends-refused 2 buffer
+        ∙ sym (ap (λ b. fill (ask 2 b >>= λ _. given (front ++ bytes_in ws)) buffer) t)))
 
     module _ (none : m ≡ 0) where
       all_fit : (fits ≡ true) × (size ≤ length buffer)
@@ -96,10 +104,10 @@ module _ (front ws buffer : List ℕ) (z : checked ws ≡ 0) where
       pub enough : length (front ++ bytes_in ws) ≤ length buffer
       enough = omega (arith, length-append front (bytes_in ws), all_fit.1)
 
-      pub written_file : (r : Filled) (n : ℕ) (after : List ℕ) → r ≡ handed_back 0 n → Put (front ++ bytes_in ws) buffer n after
-          → WritesAfter front ws buffer (filled_of r after)
-      written_file r n after h p =
-          promised r after (ap (λ x. filled_of x after) h ∙ put_fills (front ++ bytes_in ws) buffer enough p
+      pub written_file : (n : ℕ) (after : List ℕ) → Put (front ++ bytes_in ws) buffer n after
+          → WritesAfter front ws buffer (filled_of (Ok n) after)
+      written_file n after p =
+          promised _ (put_fills (front ++ bytes_in ws) buffer enough p
           ∙ sym (ap (λ b. fill (ask 2 b >>= λ _. given (front ++ bytes_in ws)) buffer) all_fit.0))
 
 -- the number of the check and of the measuring
@@ -109,12 +117,12 @@ module _ (front ws buffer : List ℕ) (m : ℕ) (e : m ≡ write_number ws (leng
   unfolding write_number
   measured z = e ∙ rw (eq-eqb (checked ws) 0 z)
 
-  pub refused-number : (m ≡ 0 → ⊥) → (r : Filled) → r ≡ handed_back m 0 → WritesAfter front ws buffer (filled_of r buffer)
+  pub refused-number : (m ≡ 0 → ⊥) → WritesAfter front ws buffer (refusing m buffer)
   unfolding write_number
-  refused-number some r h =
+  refused-number some =
       by_test (eqb (checked ws) 0)
-      (λ t. let z = eqb-true (checked ws) 0 t in refused_2_3 front ws buffer z m (measured z) some r h)
-      (λ t. refused_1 front ws buffer m (e ∙ simp t) some r h)
+      (λ t. let z = eqb-true (checked ws) 0 t in refused_2_3 front ws buffer z m (measured z) some)
+      (λ t. refused_1 front ws buffer m (e ∙ simp t) some)
 
   module _ (none : m ≡ 0) where
     pub is_formed : checked ws ≡ 0

@@ -5,18 +5,19 @@ ghost use Rattle.std.specs.Prelude.{◌≡◌, [], ◌∷◌, ◌++◌, ◌+◌,
 ghost use Rattle.format.specs.Digits.{digits_of};
 ghost use Rattle.format.specs.Words.{flag_bit};
 ghost use Rattle.format.specs.Calls.{checked, WritesBinary};
-ghost use Rattle.units.specs.Filled.{filled_of};
+ghost use Rattle.units.specs.Refusal.{filled_of};
 ghost use Rattle.writing.specs.Written.{Put};
-ghost use Rattle.object.specs.Bodies.{Text};
+ghost use Rattle.object.specs.Bodies.{Text, kind_number};
 ghost use Rattle.object.specs.Access.{record_at};
 ghost use Rattle.binary_measure.specs.Measured.{Stands, text_of, bytes_in};
 ghost use Rattle.binary_write.specs.Files.{WritesAfter, flag_of, memory_part, address_part, sized, RoomFor, PutRecord};
 ghost use Rattle.binary_write.specs.Files.{start_bytes, content_of, content_place, Content};
 
 use binary_header::file_header;
-use binary_measure::{record_end, write_number};
+use binary_measure::{check_write, record_end};
 use byte_numbers::{put_u16_le, put_u64_le};
-use units::Filled;
+use object::Kind;
+use units::Refusal;
 use writing::{put_bytes, put_u8};
 
 // The first of a memory word's three bytes.
@@ -35,16 +36,13 @@ fn put_memory(out: &mut [u8], words: &[u32]) -> usize
     ensures { Put (memory_part words.now) out.old result out.new }
 {
     let mut at = 0;
-    let mut i = 0;
-    while i < words.len() {
-        let w = words[i];
+    for &w in words {
         out[at] = flag(w);
         at += 1;
         out[at] = (w % 256) as u8;
         at += 1;
         out[at] = (w / 256 % 256) as u8;
         at += 1;
-        i += 1;
     }
     at
 }
@@ -55,14 +53,11 @@ fn put_addresses(out: &mut [u8], words: &[u32]) -> usize
     ensures { Put (address_part words.now) out.old result out.new }
 {
     let mut at = 0;
-    let mut i = 0;
-    while i < words.len() {
-        let w = words[i];
+    for &w in words {
         out[at] = (w % 256) as u8;
         at += 1;
         out[at] = (w / 256 % 256) as u8;
         at += 1;
-        i += 1;
     }
     at
 }
@@ -96,8 +91,7 @@ fn put_text(out: &mut [u8], words: &[u32]) -> usize
     }
     let last = words.len() - 1;
     let mut at = 0;
-    let mut i = 0;
-    while i < last {
+    for i in 0..last {
         let w = words[i];
         let w1 = w / 256;
         out[at] = (w % 256) as u8;
@@ -106,7 +100,6 @@ fn put_text(out: &mut [u8], words: &[u32]) -> usize
         at += 1;
         out[at] = (w1 / 256 % 256) as u8;
         at += 1;
-        i += 1;
     }
     at += put_last(&mut out[at..], words[last]);
     at
@@ -204,51 +197,39 @@ fn put_start(out: &mut [u8], ws: &[u32], at: usize, end: usize) -> usize
     ensures { Put (start_bytes (record_at ws.now at)) out.old result out.new }
 {
     let w = ws[at];
-    let k = object::kind(w);
     let body = at + 1;
     let address = (w % 0x1_0000) as u16;
-    if k == 0 {
-        return put_block_start(out, address, count(body, end));
+    match Kind::of(w) {
+        Kind::Block => put_block_start(out, address, count(body, end)),
+        Kind::Label => put_label_start(out, address, external(w), object::number_at(ws, body)),
+        Kind::LineBlock => put_lines_start(out, object::number_at(ws, body), count(body + 3, end)),
+        Kind::Source => put_u8(out, 3),
+        _ => put_address(out, 4, address),
     }
-    if k == 2 {
-        return put_label_start(out, address, external(w), object::number_at(ws, body));
-    }
-    if k == 3 {
-        return put_lines_start(out, object::number_at(ws, body), count(body + 3, end));
-    }
-    if k == 4 {
-        return put_u8(out, 3);
-    }
-    put_address(out, 4, address)
 }
 
 // Where the words of a record's list or text begin: past the number of a label or a line block.
-fn content_at(k: u32, at: usize) -> usize
+fn content_at(kind: Kind, at: usize) -> usize
     requires { at + 4 < 2 ^ 64 }
-    ensures { result ≡ content_place k at }
+    ensures { result ≡ content_place (kind_number kind) at }
 {
     let body = at + 1;
-    if k == 2 {
-        return body + 3;
+    match kind {
+        Kind::Label | Kind::LineBlock => body + 3,
+        _ => body,
     }
-    if k == 3 {
-        return body + 3;
-    }
-    body
 }
 
 // The list or the text of a record of this kind: memory words, addresses, or a text with its length.
-fn put_content(out: &mut [u8], k: u32, words: &[u32]) -> usize
-    requires { Content k words.now × (length (content_of k words.now) ≤ length out.old) }
-    ensures { Put (content_of k words.now) out.old result out.new }
+fn put_content(out: &mut [u8], kind: Kind, words: &[u32]) -> usize
+    requires { Content (kind_number kind) words.now × (length (content_of (kind_number kind) words.now) ≤ length out.old) }
+    ensures { Put (content_of (kind_number kind) words.now) out.old result out.new }
 {
-    if k == 0 {
-        return put_memory(out, words);
+    match kind {
+        Kind::Block => put_memory(out, words),
+        Kind::LineBlock => put_addresses(out, words),
+        _ => put_sized(out, words),
     }
-    if k == 3 {
-        return put_addresses(out, words);
-    }
-    put_sized(out, words)
 }
 
 // The record at a place.
@@ -256,11 +237,11 @@ fn put_record(out: &mut [u8], ws: &[u32], at: usize, end: usize) -> usize
     requires { Stands ws.now at end × RoomFor (record_at ws.now at) out.old }
     ensures { PutRecord (record_at ws.now at) out.old result out.new }
 {
-    let k = object::kind(ws[at]);
-    let from = content_at(k, at);
+    let kind = Kind::of(ws[at]);
+    let from = content_at(kind, at);
     let mut o = 0;
     o += put_start(&mut out[o..], ws, at, end);
-    o += put_content(&mut out[o..], k, &ws[from..end]);
+    o += put_content(&mut out[o..], kind, &ws[from..end]);
     o
 }
 
@@ -280,21 +261,17 @@ fn put_records(out: &mut [u8], object: &[u32]) -> usize
 }
 
 // The file of an object: the bytes `front`, then its records, in the object's own order.
-fn write_file(object: &[u32], front: &[u8], out: &mut [u8]) -> Filled
+fn write_file(object: &[u32], front: &[u8], out: &mut [u8]) -> Result<usize, Refusal>
     ensures { WritesAfter front.now object.now out.old (filled_of result out.new) }
 {
-    let m = write_number(object, front.len(), out.len());
-    if m != 0 {
-        return Filled::refused(m);
-    }
-    let mut at = 0;
-    at += put_bytes(&mut out[at..], front);
-    at += put_records(&mut out[at..], object);
-    Filled::given(at)
+    check_write(object, front.len(), out.len())?;
+    let at = put_bytes(out, front);
+    Ok(at + put_records(&mut out[at..], object))
 }
 
-// The binary file of an object, or the number of the first question that is answered no, 1 or 2; 3 where the buffer is too short.
-pub fn write_binary(object: &[u32], out: &mut [u8]) -> Filled
+// The binary file of an object: how many bytes are filled, or the first question that is answered no, 1 or 2, or 3 where the buffer is too
+// short.
+pub fn write_binary(object: &[u32], out: &mut [u8]) -> Result<usize, Refusal>
     ensures { WritesBinary object.now out.old (filled_of result out.new) }
 {
     let front = file_header();

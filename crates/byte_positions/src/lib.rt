@@ -19,8 +19,7 @@ pub fn position_of(source: &[u8], index: u64) -> Pair
     let to = index as usize;
     let mut line = 0;
     let mut start = 0;
-    let mut i = 0;
-    while i < to {
+    for i in 0..to {
         if source.len() <= i {
             return Pair {
                 line: line + 1,
@@ -31,7 +30,6 @@ pub fn position_of(source: &[u8], index: u64) -> Pair
             line += 1;
             start = i + 1;
         }
-        i += 1;
     }
     Pair {
         line,

@@ -1,16 +1,16 @@
 -- Numbers and bytes at places, clipped to the input. Assumes nothing.
 use mathlib.Core.Path.{◌≡◌, refl, sym, ap, ◌∙◌}
-use mathlib.Core.Bool.{false}
 use mathlib.Core.List.{List, [], ◌∷◌}
 use Prim.Native.Nat.{ℕ, zero, suc, ◌+◌, ◌-◌, ◌*◌, ◌^◌, ◌≤◌, ◌<◌, min}
-use native.Mathlib.Nat.{pow-zero, pow-suc, mul_comm, mul_assoc, lt_of_lt_of_le, pow-le-pow_right}
+use native.Mathlib.Nat.{pow-zero, pow-suc, lt_of_lt_of_le, pow-le-pow_right}
 use native.Mathlib.Omega.{arith}
-use lib.ListN.{length, take, drop, get_or, length-drop, length-take, drop_of_length-le}
-use lib.Seq.{drop-cons, get_or-drop, take_all}
+use lib.ListN.{length, take, drop, get_or, length-drop, drop_of_length-le}
+use lib.Seq.{drop-cons, get_or-drop, take_all, length-take-le}
+use Rattle.std.specs.Int.{w16, w64, from_le_bytes}
 use Rattle.format.specs.Digits.{value_of}
 use Rattle.format.specs.Binary.{bytes_at, number_at}
 use lib.Dec.{leb}
-use borrow.Author.Tests.{leb-true, leb-false, le-leb, lt-leb}
+use borrow.Author.Tests.{leb-true, leb-false}
 use Rattle.format.proofs.ListLaws.{by_test}
 
 -- one byte more, below the others
@@ -55,55 +55,69 @@ take_below (suc n) b [] p h k = p
 take_below (suc n) b (x ∷ xs) p h zero = h 0
 take_below (suc n) b (x ∷ xs) p h (suc k) = take_below n b xs p (λ j. h (suc j)) k
 
-pub count_below_lem : (s : List ℕ) (at : ℕ) → ((k : ℕ) → get_or s k 0 < 256) → number_at at 2 s < 65536
-count_below_lem s at h =
-    let xs : List ℕ = bytes_at at 2 s in
-    let l : length xs ≤ 2 = omega (arith, length-take 2 (drop at s)) in
+count_small : (xs : List ℕ) → length xs < 2 → ((k : ℕ) → get_or xs k 0 < 256) → value_of 8 xs < 65536
+count_small xs l h =
     let p : 0 < 256 = omega arith in
-    lt_of_lt_of_le (value_below xs (take_below 2 256 (drop at s) p (λ k. rw get_or-drop (h (at + k))))) (pow-le-pow_right p l)
+    let m : length xs ≤ 2 = omega arith in
+    lt_of_lt_of_le (value_below xs h) (pow-le-pow_right p m)
 
--- A NUMBER WHOSE BYTES ARE ALL THERE
-pub there : (p k n l : ℕ) → p ≤ l → k ≤ l - p → leb n (l - p - k) ≡ leb (p + k + n) l
-there p k n l h i =
-    by_test (leb n (l - p - k))
-    (λ e. let j = leb-true n (l - p - k) e in e ∙ sym (le-leb (p + k + n) l (omega arith)))
-    (λ e. let j = leb-false n (l - p - k) e in e ∙ sym (lt-leb (p + k + n) l (omega arith)))
-
-pub not_there : (p k n l : ℕ) → l < p + k → false ≡ leb (p + k + n) l
-not_there p k n l h = sym (lt-leb (p + k + n) l (omega arith))
-
--- its first byte, and the number of the others
-number_more : (s : List ℕ) (a b n : ℕ) → b ≡ suc a → a < length s → number_at a (suc n) s ≡ get_or s a 0 + 256 * number_at b n s
+-- A NUMBER WHOSE BYTES ARE ALL THERE, as std reads it
+le_2 : (bs : List ℕ) → length bs ≡ 2 → from_le_bytes w16 bs ≡ value_of 8 bs
 unfolding value_of
-number_more s a b n e h = rw (drop-cons s a 0 h, e)
+le_2 (a ∷ b ∷ []) l = omega arith
+le_2 [] l = absurd (omega arith)
+le_2 (a ∷ []) l = absurd (omega arith)
+le_2 (a ∷ b ∷ c ∷ bs) l = absurd (omega arith)
 
-number-none : (s : List ℕ) (a : ℕ) → number_at a 0 s ≡ 0
+le_8 : (bs : List ℕ) → length bs ≡ 8 → from_le_bytes w64 bs ≡ value_of 8 bs
 unfolding value_of
-number-none s a = refl
+le_8 (a ∷ b ∷ c ∷ d ∷ e ∷ f ∷ g ∷ h ∷ []) l = omega arith
+le_8 [] l = absurd (omega arith)
+le_8 (a ∷ []) l = absurd (omega arith)
+le_8 (a ∷ b ∷ []) l = absurd (omega arith)
+le_8 (a ∷ b ∷ c ∷ []) l = absurd (omega arith)
+le_8 (a ∷ b ∷ c ∷ d ∷ []) l = absurd (omega arith)
+le_8 (a ∷ b ∷ c ∷ d ∷ e ∷ []) l = absurd (omega arith)
+le_8 (a ∷ b ∷ c ∷ d ∷ e ∷ f ∷ []) l = absurd (omega arith)
+le_8 (a ∷ b ∷ c ∷ d ∷ e ∷ f ∷ g ∷ []) l = absurd (omega arith)
+le_8 (a ∷ b ∷ c ∷ d ∷ e ∷ f ∷ g ∷ h ∷ i ∷ bs) l = absurd (omega arith)
 
--- two numbers that stand one after the other
-regroup : (x n p m : ℕ) → x + 256 * (n + p * m) ≡ x + 256 * n + p * 256 * m
-regroup x n p m = let a : p * 256 * m ≡ 256 * (p * m) = rw (mul_comm p 256) (mul_assoc 256 p m) in omega (arith, a)
+-- the first n of the bytes from a place on, where it is clipped to the input
+module _ (s : List ℕ) (at o n : ℕ) (e : o ≡ min at (length s)) (h : n ≤ length (drop o s)) where
+  chunk_long : (bs : List ℕ) → bs ≡ take n (drop o s) → length bs ≡ n
+  chunk_long bs q = ap length q ∙ length-take-le n (drop o s) h
 
-pub number_join : (s : List ℕ) (n m a b : ℕ) → b ≡ a + n → b ≤ length s → number_at a (n + m) s ≡ number_at a n s + 256 ^ n * number_at b m s
-number_join s zero m a b e h =
-    let z : zero + m ≡ m = omega arith in
-    let q : a ≡ b = omega arith in
-    let p : 256 ^ 0 * number_at b m s ≡ number_at b m s = omega arith in
-    let o = number-none s a in
-    ap (λ k. number_at a k s) z ∙ ap (λ k. number_at k m s) q ∙ (omega (arith, o, p))
-number_join s (suc n) m a b e h =
-    let z : suc n + m ≡ suc (n + m) = omega arith in
-    ap (λ k. number_at a k s) z ∙ number_more s a (a + 1) (n + m) (omega arith) (omega arith)
-    ∙ ap (λ v. get_or s a 0 + 256 * v) (number_join s n m (a + 1) b (omega arith) h)
-    ∙ regroup (get_or s a 0) (number_at (a + 1) n s) (256 ^ n) (number_at b m s)
-    ∙ rw (pow-suc 256 n, number_more s a (a + 1) n (omega arith) (omega arith))
+  chunk_value : 0 < n → (bs : List ℕ) → bs ≡ take n (drop o s) → value_of 8 bs ≡ number_at at n s
+  chunk_value p bs q =
+      let d = length-drop o s in
+      let a : o ≡ at = omega arith in
+      ap (value_of 8) (q ∙ ap (λ (k : ℕ). take n (drop k s)) a)
 
-pub two_at : (s : List ℕ) (a : ℕ) → a + 2 ≤ length s → number_at a 2 s ≡ get_or s a 0 + 256 * get_or s (a + 1) 0
-two_at s a h =
-    omega (
-      arith,
-      number_more s a (a + 1) 1 (omega arith) (omega arith),
-      number_more s (a + 1) (a + 2) 0 (omega arith) (omega arith),
-      number-none s (a + 2),
-    )
+-- the bytes from a place on, as a slice's range to its end has them
+abbrev tail : List ℕ → ℕ → List ℕ
+tail s o = take (length s - o) (drop o s)
+
+tail_drop : (s : List ℕ) (o : ℕ) → tail s o ≡ drop o s
+tail_drop s o = let d = length-drop o s in take_all (length s - o) (drop o s) (omega arith)
+
+pub two_there : (s : List ℕ) (at o : ℕ) (bs : List ℕ) → o ≡ min at (length s) → 2 ≤ length (tail s o) → bs ≡ take 2 (tail s o)
+    → from_le_bytes w16 bs ≡ number_at at 2 s
+two_there s at o bs e h q =
+    let t = tail_drop s o in
+    let k : 2 ≤ length (drop o s) = rw t at h in
+    let r : bs ≡ take 2 (drop o s) = q ∙ ap (take 2) t in
+    le_2 bs (chunk_long s at o 2 e k bs r) ∙ chunk_value s at o 2 e k (omega arith) bs r
+
+pub eight_there : (s : List ℕ) (at o : ℕ) (bs : List ℕ) → o ≡ min at (length s) → 8 ≤ length (tail s o) → bs ≡ take 8 (tail s o)
+    → from_le_bytes w64 bs ≡ number_at at 8 s
+eight_there s at o bs e h q =
+    let t = tail_drop s o in
+    let k : 8 ≤ length (drop o s) = rw t at h in
+    let r : bs ≡ take 8 (drop o s) = q ∙ ap (take 8) t in
+    le_8 bs (chunk_long s at o 8 e k bs r) ∙ chunk_value s at o 8 e k (omega arith) bs r
+
+-- a byte or none is below 2^16
+pub rest_small : (s : List ℕ) (o : ℕ) → length (tail s o) < 2 → ((k : ℕ) → get_or s k 0 < 256) → value_of 8 (tail s o) < 65536
+rest_small s o l h =
+    let p : 0 < 256 = omega arith in
+    count_small (tail s o) l (take_below (length s - o) 256 (drop o s) p (λ k. rw get_or-drop (h (o + k))))

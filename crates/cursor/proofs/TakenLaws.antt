@@ -3,9 +3,8 @@ use mathlib.Core.Path.{◌≡◌, refl, ap, ◌∙◌}
 use mathlib.Core.Bool.{Bool, true, false}
 use mathlib.Core.List.{List}
 use Prim.Native.Nat.{ℕ, ◌+◌, ◌-◌, ◌≤◌, ◌<◌}
-use native.Mathlib.Nat.{add-sub_cancel_left}
 use native.Mathlib.Omega.{arith}
-use lib.ListN.{length, take, drop, get_or}
+use lib.ListN.{length, take, drop, get_or, length-take, length-drop}
 use lib.Seq.{drop-cons}
 use borrow.Author.Tests.{le-leb, lt-leb, leb-true, leb-false}
 use Rattle.std.specs.Prelude.{if◌then◌else◌}
@@ -25,13 +24,16 @@ module _ {A : Type 0} (number_of : A → ℕ) (test : Bool) (yes no : A) (r : A)
   answer_no y z = by_test test (λ t. let q : r ≡ yes = e ∙ rw t in absurd (omega (arith, ap number_of q))) (λ t. t)
 
 module _ (n : ℕ) (s : List ℕ) (at : ℕ) where
-  pub number-there : {v : ℕ} → at + n ≤ length s → v ≡ number_at at n s → a_number v (at + n) ≡ take_number n s at
+  pub number-there : {v next : ℕ} → v ≡ number_at at n s → (at + n ≤ length s) × (next ≡ at + n) → a_number v next ≡ take_number n s at
   unfolding take_number
-  number-there h e = rw (le-leb _ _ h, e)
+  number-there e h = rw (le-leb _ _ h.0, e, h.1)
 
-  pub bytes-there : at + n ≤ length s → some_bytes at (at + n) (at + n) ≡ take_bytes n s at
+  pub bytes-there : {next : ℕ} → (at + n ≤ length s) × (next ≡ at + n)
+      → some_bytes (next - length (take (next - at) (drop at s))) next next ≡ take_bytes n s at
   unfolding take_bytes
-  bytes-there h = rw (le-leb _ _ h)
+  bytes-there h =
+      let k : at + n - length (take (at + n - at) (drop at s)) ≡ at = omega (arith, length-take {A = ℕ}, length-drop {A = ℕ}, h.0) in
+      rw (le-leb _ _ h.0, h.1, k)
 
   pub number_missing : length s < at + n → no_number ≡ take_number n s at
   unfolding take_number
@@ -58,16 +60,10 @@ module _ (n : ℕ) (s : List ℕ) (at : ℕ) where
   unfolding take_bytes
   bytes-not-there e = leb-false _ _ (answer_no (λ (x : TakenBytes). x.number) _ _ _ _ e refl refl)
 
--- the code reads the n bytes as the part between two places
-module _ (n : ℕ) (s : List ℕ) (at : ℕ) {v : ℕ} (e : v ≡ value_of 8 (take (at + n - at) (drop at s))) where
-  pub number_between : v ≡ number_at at n s
-  number_between = e ∙ ap (λ (k : ℕ). value_of 8 (take k (drop at s))) (add-sub_cancel_left at n)
-
-  pub number_read_lem : at + n ≤ length s → a_number v (at + n) ≡ take_number n s at
-  number_read_lem h = number-there n s at h number_between
-
 -- a byte is its own number
-pub byte_read : (s : List ℕ) (at : ℕ) → at < length s → a_number (get_or s at 0) (at + 1) ≡ take_number 1 s at
+pub byte_read : (s : List ℕ) (at : ℕ) {next : ℕ} → (at + 1 ≤ length s) × (next ≡ at + 1) → a_number (get_or s at 0) next ≡ take_number 1 s at
 unfolding value_of
 byte_read s at h =
-    let e : get_or s at 0 ≡ number_at at 1 s = rw (drop-cons s at 0) (omega arith) in number-there 1 s at (omega arith) e
+    let p : at < length s = omega arith in
+    let e : get_or s at 0 ≡ number_at at 1 s = rw (drop-cons s at 0) (omega arith) in
+    number-there 1 s at e h

@@ -1,15 +1,9 @@
 -- What is taken at a place of the input: document 01's number, every value and the next place, all 0 where bytes are missing ("All its
--- bytes there? 12"). One definition for each enum, and the answers that the contracts equate them with. Assumes nothing.
-use Rattle.std.specs.Prelude.{List, ℕ, ◌+◌, if◌then◌else◌}
+-- bytes there? 12"). What is handed back, and the answers that the contracts equate it with. Assumes nothing.
+use Rattle.std.specs.Prelude.{List, ℕ, ◌+◌, ◌-◌, length, Option, Some, None, if◌then◌else◌}
 use Rattle.format.specs.Binary.{number_at, has_bytes}
-use Rattle.cursor.specs.declared.TookU8.{TookU8}
-use Rattle.cursor.specs.declared.TookU8.TheVariants as u8
-use Rattle.cursor.specs.declared.TookU16.{TookU16}
-use Rattle.cursor.specs.declared.TookU16.TheVariants as u16
-use Rattle.cursor.specs.declared.TookU64.{TookU64}
-use Rattle.cursor.specs.declared.TookU64.TheVariants as u64
-use Rattle.cursor.specs.declared.TookBytes.{TookBytes}
-use Rattle.cursor.specs.declared.TookBytes.TheVariants as bytes
+use Rattle.std.specs.Borrow.{Bor}
+use Rattle.cursor.specs.declared.Cursor.{Cursor}
 
 pub record TakenNumber : Type 0 where
   pub number : ℕ
@@ -35,23 +29,16 @@ some_bytes start end next = record { number = 0; start = start; end = end; next 
 abbrev pub no_bytes : TakenBytes
 no_bytes = record { number = 12; start = 0; end = 0; next = 0 }
 
--- THE ENUMS
+-- WHAT IS HANDED BACK
 
-abbrev pub taken8 : TookU8 → TakenNumber
-taken8 (u8.Value v c) = a_number v c.at
-taken8 u8.Missing = no_number
+abbrev pub taken : Option (ℕ × Cursor) → TakenNumber
+taken (Some p) = a_number p.0 p.1.at
+taken None = no_number
 
-abbrev pub taken16 : TookU16 → TakenNumber
-taken16 (u16.Value v c) = a_number v c.at
-taken16 u16.Missing = no_number
-
-abbrev pub taken64 : TookU64 → TakenNumber
-taken64 (u64.Value v c) = a_number v c.at
-taken64 u64.Missing = no_number
-
-abbrev pub taken_bytes : TookBytes → TakenBytes
-taken_bytes (bytes.Between a e c) = some_bytes a e c.at
-taken_bytes bytes.Missing = no_bytes
+-- the bytes taken end where the cursor moved to
+abbrev pub taken_bytes : Option (Bor (List ℕ) × Cursor) → TakenBytes
+taken_bytes (Some p) = some_bytes (p.1.at - length p.0.now) p.1.at p.1.at
+taken_bytes None = no_bytes
 
 -- THE ANSWERS. A place past the end has no bytes, not even none: where something is taken, all of it lies in the input.
 

@@ -14,6 +14,10 @@ use Rattle.format.specs.Basics.{Outcome, refused, given, is_given, every, chain,
 use Rattle.format.specs.ObjectFile.{LineBlock, ObjectFile, line_end, strictly_rise, never_fall, apart, names_of, source_text, consistent}
 use Rattle.format.specs.Records.{Record, block, label, line_block, source, relocation, placed, empty_object}
 use Rattle.format.specs.Source.{newlines, line_count}
+use Rattle.units.specs.Refusal.{number_of}
+use Rattle.units.specs.declared.refusal.Refusal.{Refusal}
+use Rattle.units.specs.declared.refusal.Refusal.TheVariants as refusal
+use Rattle.well_formed.proofs.NumberLaws.{number_some}
 use Rattle.format.specs.Calls.{Value, source_in, value_answer, query_count_lines, fair_answer, checked, refusal_of}
 use Rattle.format.specs.Fair.{is_fair_name, is_fair_line_block, gaps_between, is_fair_by, is_fair}
 use Rattle.format.proofs.ListLaws.{by_test, both, every_append}
@@ -457,3 +461,38 @@ module _ (ws : List ℕ) (v : Value) where
     answer_0 (source_in_lem h s e q n l) last p r f =
         let k : last ≡ newlines s = omega arith in
         fair-given ws h (some s) r e q (f h e ∙ ap (λ x. fair_parts x 0 h) k ∙ parts-fair s h)
+
+-- the question with number 4
+is_no_source : (r : Refusal) → number_of r ≡ 4 → r ≡ refusal.NoSource
+is_no_source refusal.NotWellFormed e = absurd (omega arith)
+is_no_source refusal.TooManyAddresses e = absurd (omega arith)
+is_no_source refusal.ShortBuffer e = absurd (omega arith)
+is_no_source refusal.NoSource e = refl
+is_no_source refusal.NoSuchLine e = absurd (omega arith)
+is_no_source refusal.NotMapped e = absurd (omega arith)
+is_no_source refusal.NoHeader e = absurd (omega arith)
+is_no_source refusal.UnknownRecord e = absurd (omega arith)
+is_no_source refusal.MissingBytes e = absurd (omega arith)
+is_no_source refusal.RecordNotUtf8 e = absurd (omega arith)
+is_no_source refusal.UnsortedAddresses e = absurd (omega arith)
+is_no_source refusal.OverlappingLines e = absurd (omega arith)
+is_no_source refusal.FileNotUtf8 e = absurd (omega arith)
+is_no_source refusal.NoMagicLine e = absurd (omega arith)
+is_no_source refusal.LooseLine e = absurd (omega arith)
+is_no_source refusal.UnknownGroup e = absurd (omega arith)
+is_no_source refusal.BadBlock e = absurd (omega arith)
+is_no_source refusal.RepeatedBlock e = absurd (omega arith)
+is_no_source refusal.BadLabels e = absurd (omega arith)
+is_no_source refusal.NoDivider e = absurd (omega arith)
+is_no_source refusal.BadLines e = absurd (omega arith)
+is_no_source refusal.SecondLineTable e = absurd (omega arith)
+is_no_source refusal.BadEscape e = absurd (omega arith)
+is_no_source refusal.FallingAddresses e = absurd (omega arith)
+is_no_source refusal.TooManyWords e = absurd (omega arith)
+
+-- another question than that for the source
+pub answer_other : (ws : List ℕ) (r : Refusal) → Counted ws (record { number = number_of r; value = 0 }) → (r ≡ refusal.NoSource → ⊥)
+    → record { number = number_of r; fair = false } ≡ fair_answer (object_of ws)
+answer_other ws r (ill_formed e n) other = ap (λ k. record { number = k; fair = false }) n ∙ fair-refused ws e
+answer_other ws r (no_source_in h e s n) other = absurd (other (is_no_source r n))
+answer_other ws r (source_in_lem h s e q n l) other = let some = number_some r in absurd (omega arith)

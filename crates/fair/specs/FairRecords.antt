@@ -1,5 +1,6 @@
 -- Whether an object is fair, record by record. Assumes nothing.
-use Rattle.std.specs.Prelude.{◌≡◌, Bool, true, ◌&&◌, List, [], ◌∷◌, ℕ, ◌+◌, length, leb, if◌then◌else◌}
+use Rattle.std.specs.Prelude.{◌≡◌, Bool, true, false, ◌&&◌, List, [], ◌∷◌, ℕ, ◌+◌, length, leb, if◌then◌else◌, Some, None, Result, Ok, Err}
+use Rattle.std.specs.Prelude as std
 use Rattle.std.proofs.Math.Option.{Option, none, some}
 use Rattle.format.specs.Basics.{given, every}
 use Rattle.format.specs.ObjectFile.{LineBlock, ObjectFile, line_end, strictly_rise, names_of}
@@ -7,13 +8,13 @@ use Rattle.format.specs.Records.{Record, block, label, line_block, source, reloc
 use Rattle.format.specs.Words.{object_of}
 use Rattle.format.specs.Fair.{is_fair_name, is_fair_by}
 use Rattle.format.specs.Calls as calls
-use Rattle.fair.specs.declared.FairAnswer.{FairAnswer}
-use Rattle.fair.specs.declared.Step.{Step}
-use Rattle.fair.specs.declared.Step.TheVariants as step
+use Rattle.units.specs.Refusal.{number_of}
+use Rattle.units.specs.declared.refusal.Refusal.{Refusal}
 
--- the number, and whether it is fair
-abbrev pub answer_of : FairAnswer → calls.FairAnswer
-answer_of r = record { number = r.number; fair = r.fair }
+-- the number, and whether it is fair: on a refusal it isn't
+abbrev pub answer_of : Result Bool Refusal → calls.FairAnswer
+answer_of (Ok fair) = record { number = 0; fair = fair }
+answer_of (Err r) = record { number = number_of r; fair = false }
 
 -- a line block that begins at line `least` or later, in a source whose last line has the number `last`: "1 to 65,535 strictly rising
 -- addresses", "at most the last source line's number"
@@ -39,9 +40,9 @@ fair_step last least (line_block l) = if fair_lines last least l then some (line
 fair_step last least (source s) = some least
 fair_step last least (relocation r) = if is_fair_name r.name then some least else none
 
-abbrev pub step_of : Step → Option ℕ
-step_of (step.Next least) = some least
-step_of step.Unfair = none
+abbrev pub step_of : std.Option ℕ → Option ℕ
+step_of (Some least) = some least
+step_of None = none
 
 -- of the words of an object, if they are well formed: names and line blocks, in a source whose last line has the number `last`
 abbrev pub FairIn : List ℕ → ℕ → Bool → Type 0

@@ -14,20 +14,14 @@ ghost use Rattle.object.specs.Texts.{text_bytes};
 ghost use Rattle.object.specs.Access.{address_in, line_block_at, record_at};
 ghost use Rattle.fair.specs.FairRecords.{answer_of, fair_lines, fair_step, step_of, FairIn, BlocksIn};
 
-use utf8::Char;
+use object::Kind;
+use units::Refusal;
 
 // A fair name doesn't begin with it, since a line that does is a comment.
 const HASH: u8 = b'#';
 
 // The most addresses of a fair line block.
 const MOST_ADDRESSES: usize = 65535;
-
-// Number 1, or 0 and whether the object is fair.
-#[derive(Clone, Copy)]
-pub struct FairAnswer {
-    pub number: u8,
-    pub fair: bool,
-}
 
 // None of the characters of a text is White_Space.
 fn has_no_white_space(ws: &[u32], at: usize, n: usize) -> bool
@@ -36,13 +30,13 @@ fn has_no_white_space(ws: &[u32], at: usize, n: usize) -> bool
 {
     let mut p = 0;
     loop {
-        let Char::Scalar { value, more } = word_chars::char_in(ws, at, p, n) else {
+        let Some(c) = word_chars::char_in(ws, at, p, n) else {
             return true;
         };
-        if trim::is_white_space(value) {
+        if trim::is_white_space(c.value) {
             return false;
         }
-        p += more + 1;
+        p += c.more + 1;
     }
 }
 
@@ -73,14 +67,12 @@ fn rises(ws: &[u32], at: usize) -> bool
     ensures { result ≡ strictly_rise (map address_in (body_at ws.now at)) }
 {
     let mut least = 0;
-    let mut i = at;
-    while object::goes_on(ws, i) {
+    for i in at..object::body_end(ws, at) {
         let a = ws[i] % 0x1_0000;
         if a < least {
             return false;
         }
         least = a + 1;
-        i += 1;
     }
     true
 }
@@ -111,42 +103,26 @@ fn is_fair_line_block(ws: &[u32], at: usize, last: u64, least: u64) -> bool
     n as u64 <= last - first
 }
 
-// Where the next line block may begin at the earliest.
-#[derive(Clone, Copy)]
-enum Step {
-    Next(u64),
-    Unfair,
-}
-
-// A record of a well formed object.
-fn fair_record(ws: &[u32], at: usize, last: u64, least: u64) -> Step
+// Where the next line block may begin at the earliest after a record of a well formed object, if the record is fair.
+fn fair_record(ws: &[u32], at: usize, last: u64, least: u64) -> Option<u64>
     requires { (at < length ws.now) × (last + 1 < 2 ^ 64) × (body_at ws.now at ≡ [])
         × (record_from (get_or ws.now at 0, body_at ws.now (at + 1)) ≡ given (record_at ws.now at))
         × (every is_utf8 (names_of (placed (record_at ws.now at ∷ []))) ≡ true) }
     ensures { step_of result ≡ fair_step last least (record_at ws.now at) }
 {
     let body = at + 1;
-    let k = object::kind(ws[at]);
-    if k == 2 {
-        if is_fair_name(ws, body + 3) {
-            return Step::Next(least);
-        }
-        return Step::Unfair;
-    }
-    if k == 5 {
-        if is_fair_name(ws, body) {
-            return Step::Next(least);
-        }
-        return Step::Unfair;
-    }
-    if k == 3 {
-        if is_fair_line_block(ws, at, last, least) {
+    match Kind::of(ws[at]) {
+        Kind::Label => is_fair_name(ws, body + 3).then_some(least),
+        Kind::Relocation => is_fair_name(ws, body).then_some(least),
+        Kind::LineBlock => {
+            if !is_fair_line_block(ws, at, last, least) {
+                return None;
+            }
             let n = object::body_len(ws, body + 3);
-            return Step::Next(object::number_at(ws, body) + n as u64 + 1);
+            Some(object::number_at(ws, body) + n as u64 + 1)
         }
-        return Step::Unfair;
+        _ => Some(least),
     }
-    Step::Next(least)
 }
 
 // The records of a well formed object that has a source, whose last line has the number `last`.
@@ -158,7 +134,7 @@ fn fair_records(ws: &[u32], last: u64) -> bool
     let mut least = 0;
     while at < ws.len() {
         let body = at + 1;
-        let Step::Next(next) = fair_record(ws, at, last, least) else {
+        let Some(next) = fair_record(ws, at, last, least) else {
             return false;
         };
         least = next;
@@ -174,7 +150,7 @@ fn has_blocks_only(ws: &[u32]) -> bool
     let mut at = 0;
     while at < ws.len() {
         let body = at + 1;
-        if object::kind(ws[at]) != 0 {
+        if Kind::of(ws[at]) != Kind::Block {
             return false;
         }
         at = object::body_end(ws, body);
@@ -183,30 +159,14 @@ fn has_blocks_only(ws: &[u32]) -> bool
 }
 
 // Whether the object is fair.
-pub fn is_fair(object: &[u32]) -> FairAnswer
+pub fn is_fair(object: &[u32]) -> Result<bool, Refusal>
     ensures { answer_of result ≡ fair_answer (object_of object.now) }
 {
-    let c = source_info::count_lines(object);
-    if c.number == 1 {
-        return FairAnswer {
-            number: 1,
-            fair: false,
-        };
-    }
-    if c.number == 4 {
-        return FairAnswer {
-            number: 0,
-            fair: has_blocks_only(object),
-        };
-    }
-    if c.lines == 0 {
-        return FairAnswer {
-            number: 0,
-            fair: false,
-        };
-    }
-    FairAnswer {
-        number: 0,
-        fair: fair_records(object, c.lines - 1),
+    match source_info::count_lines(object) {
+        Ok(lines) => Ok(fair_records(object, lines - 1)),
+        Err(refusal) => match refusal {
+            Refusal::NoSource => Ok(has_blocks_only(object)),
+            _ => Err(refusal),
+        },
     }
 }

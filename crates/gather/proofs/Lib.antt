@@ -6,3 +6,5 @@ pub mod OrderLaws
 pub mod MergeLaws
 pub mod TagLaws
 pub mod TestedLaws
+pub mod KindLaws
+pub mod RisingLaws

@@ -2,3 +2,4 @@ pub mod Window
 pub mod Places
 pub mod Order
 pub mod Tags
+pub mod Kinds

@@ -5,19 +5,13 @@
 ghost use Rattle.std.specs.Prelude.{◌≡◌};
 ghost use Rattle.format.specs.Calls.{measured, read_binary, read_text};
 ghost use Rattle.format.specs.Source.{get_pos_pair};
-ghost use Rattle.host.specs.Answers.{measured_of, position_of};
+ghost use Rattle.units.specs.Told.{measured_told};
+ghost use Rattle.host.specs.Answers.{position_of};
 
 use binary_read::binary_length;
 use byte_positions::position_of;
 use text_read::text_length;
-
-// The number of the question that was answered no, or 0; and how many words the file's object has, 0 where it is refused.
-#[repr(C)]
-#[derive(Clone, Copy)]
-pub struct Measured {
-    pub number: u8,
-    pub len: usize,
-}
+use units::Filled;
 
 // A line, counted from 0, and how many bytes from its start.
 #[repr(C)]
@@ -27,28 +21,20 @@ pub struct Position {
     pub column: u64,
 }
 
-// Does this read as binary?
+// Does this read as binary? The number of the question that was answered no, or 0; and how many words the file's object has.
 #[unsafe(no_mangle)]
-pub extern "C" fn lc3_binary_length(bytes: &[u8]) -> Measured
-    ensures { measured_of result ≡ measured (read_binary bytes.now) }
+pub extern "C" fn lc3_binary_length(bytes: &[u8]) -> Filled
+    ensures { measured_told result ≡ measured (read_binary bytes.now) }
 {
-    let b = binary_length(bytes);
-    Measured {
-        number: b.number,
-        len: b.len,
-    }
+    binary_length(bytes).into()
 }
 
 // Does this read as text?
 #[unsafe(no_mangle)]
-pub extern "C" fn lc3_text_length(bytes: &[u8]) -> Measured
-    ensures { measured_of result ≡ measured (read_text bytes.now) }
+pub extern "C" fn lc3_text_length(bytes: &[u8]) -> Filled
+    ensures { measured_told result ≡ measured (read_text bytes.now) }
 {
-    let t = text_length(bytes);
-    Measured {
-        number: t.number,
-        len: t.len,
-    }
+    text_length(bytes).into()
 }
 
 // The line and the column of an index into the bytes of a source; past the end the line count and the index.

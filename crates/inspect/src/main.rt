@@ -6,9 +6,9 @@
 use binary_read::read_binary;
 use fair::is_fair;
 use part_counts::count_parts;
-use printing::object_room;
+use printing::{object_room, read_input};
 use text_read::read_text;
-use units::Filled;
+use units::Refusal;
 
 // A line of a name and a number.
 fn tell_count(name: &[u8], count: u64) {
@@ -18,15 +18,16 @@ fn tell_count(name: &[u8], count: u64) {
 }
 
 // How the file reads in a form.
-fn tell_form(name: &[u8], r: Filled) {
+fn tell_form(name: &[u8], r: Result<usize, Refusal>) {
     io::write_all(1, name);
-    if r.number != 0 {
-        tell_count(b"refused, number ", r.number as u64);
-        return;
+    match r {
+        Ok(len) => {
+            io::write_all(1, b"reads, ");
+            io::print_decimal(1, len as u64);
+            io::write_all(1, b" words\n");
+        }
+        Err(refusal) => tell_count(b"refused, number ", u64::from(refusal.number())),
     }
-    io::write_all(1, b"reads, ");
-    io::print_decimal(1, r.len as u64);
-    io::write_all(1, b" words\n");
 }
 
 // The counts of the five parts, and whether the object is fair.
@@ -37,7 +38,7 @@ fn tell_object(ws: &[u32]) {
     tell_count(b"line blocks: ", counts.line_blocks);
     tell_count(b"sources: ", counts.sources);
     tell_count(b"relocations: ", counts.relocations);
-    if is_fair(ws).fair {
+    if is_fair(ws) == Ok(true) {
         io::write_all(1, b"fair: yes\n");
     } else {
         io::write_all(1, b"fair: no\n");
@@ -52,28 +53,19 @@ fn tell_file(file: &[u8]) {
     let t = read_text(file, &mut others);
     tell_form(b"binary: ", b);
     tell_form(b"text: ", t);
-    let n = b.len;
-    let m = t.len;
-    if b.number == 0 {
+    if let Ok(n) = b {
         tell_object(&words[..n]);
     }
-    if t.number == 0 {
-        tell_object(&others[..m]);
+    if let Ok(n) = t {
+        tell_object(&others[..n]);
     }
-}
-
-// Does standard input go on after what was read of it?
-fn goes_on() -> bool {
-    let mut next = [0u8; 1];
-    io::read_full(0, &mut next) != 0
 }
 
 fn main() {
     let mut input = io::large_buffer();
-    let n = io::read_full(0, &mut input);
-    if n == input.len() && goes_on() {
+    let Ok(n) = read_input(&mut input) else {
         io::write_all(1, b"3\n");
         return;
-    }
+    };
     tell_file(&input[..n]);
 }

@@ -1,5 +1,4 @@
 pub mod NameLaws
-pub mod RisingLaws
 pub mod CacheLaws
 pub mod TableLaws
 pub mod JoinLaws

@@ -1,27 +1,43 @@
 -- Which tables the next label is from, by the tests. Assumes nothing.
-use mathlib.Core.Path.{◌≡◌, refl, sym, ap, ap₂, ◌∙◌}
+use mathlib.Core.Path.{◌≡◌, refl}
 use mathlib.Core.Bool.{Bool, true, false}
-use Prim.Native.Nat.{ℕ, Ordering}
-use lib.Dec.{ltb}
-use Rattle.gather.specs.Tags.{rank}
-use Rattle.label_items.specs.declared.Next.{Next}
-use Rattle.label_items.specs.Joins.{chosen}
+use Prim.Native.Nat.{Ordering}
+use Rattle.std.proofs.Common.{Less, Equal, Greater}
+use Rattle.gather.specs.Tags.{as_cmp}
+use Rattle.label_items.specs.declared.Next.TheVariants as next
+use Rattle.label_items.specs.Joins.{Tables, tables_of, chosen}
 
-pub chosen_none : (p q : Bool) (o : Ordering) → p ≡ false → ◌≡◌ {A = Next} (record { symbol = false; start = q }) (chosen p q o)
+module _ (p q : Bool) (o : Ordering) where
+  pub chosen_none : p ≡ false → q ≡ false → ◌≡◌ {A = Tables} (record { symbol = false; start = false }) (chosen p q o)
+  unfolding chosen
+  chosen_none e d = rw (e, d) refl
+
+  pub chosen-start : p ≡ false → q ≡ true → ◌≡◌ {A = Tables} (record { symbol = false; start = true }) (chosen p q o)
+  unfolding chosen
+  chosen-start e d = rw (e, d) refl
+
+  pub chosen-symbol : p ≡ true → q ≡ false → ◌≡◌ {A = Tables} (record { symbol = true; start = false }) (chosen p q o)
+  unfolding chosen
+  chosen-symbol e d = rw (e, d) refl
+
+  pub chosen_both : (x : Tables) → p ≡ true → q ≡ true → x ≡ chosen true true o → x ≡ chosen p q o
+  chosen_both x e d h = rw (e, d) h
+
+-- by how two names compare
+pub by_less : (o : Ordering) → Less ≡ as_cmp o → tables_of next.Symbol ≡ chosen true true o
 unfolding chosen
-chosen_none p q o e = sym (ap (λ (z : Bool). chosen z q o) e)
+by_less Ordering.lt e = refl
+by_less Ordering.eq e = absurd (cc)
+by_less Ordering.gt e = absurd (cc)
 
-pub chosen-symbol : (p q : Bool) (o : Ordering) → p ≡ true → q ≡ false → ◌≡◌ {A = Next} (record { symbol = true; start = false }) (chosen p q o)
+pub by_equal : (o : Ordering) → Equal ≡ as_cmp o → tables_of next.Both ≡ chosen true true o
 unfolding chosen
-chosen-symbol p q o e d = sym (ap₂ (λ (y z : Bool). chosen y z o) e d)
+by_equal Ordering.lt e = absurd (cc)
+by_equal Ordering.eq e = refl
+by_equal Ordering.gt e = absurd (cc)
 
-by_rank : (o : Ordering) → ◌≡◌ {A = Next} (record { symbol = ltb (rank o) 2; start = ltb 0 (rank o) }) (chosen true true o)
+pub by_greater : (o : Ordering) → Greater ≡ as_cmp o → tables_of next.Start ≡ chosen true true o
 unfolding chosen
-by_rank Ordering.lt = refl
-by_rank Ordering.eq = refl
-by_rank Ordering.gt = refl
-
-pub chosen_both : (p q : Bool) (r : ℕ) (o : Ordering) → p ≡ true → q ≡ true → r ≡ rank o
-    → ◌≡◌ {A = Next} (record { symbol = ltb r 2; start = ltb 0 r }) (chosen p q o)
-chosen_both p q r o e d h =
-    ap (λ z. record { symbol = ltb z 2; start = ltb 0 z }) h ∙ by_rank o ∙ sym (ap₂ (λ (y z : Bool). chosen y z o) e d)
+by_greater Ordering.lt e = absurd (cc)
+by_greater Ordering.eq e = absurd (cc)
+by_greater Ordering.gt e = refl

@@ -5,9 +5,7 @@ use mathlib.Core.Option.{none, some}
 use Prim.Native.Nat.{ℕ, max}
 use native.Mathlib.Omega.{arith}
 use Rattle.format.specs.TextWriter.{widest}
-use Rattle.measuring.specs.Room.{less_part, room_of}
-use Rattle.measuring.specs.declared.Room.{Room}
-use Rattle.measuring.specs.declared.Room.TheVariants as room
+use Rattle.measuring.specs.Room.{less_part}
 use Rattle.measuring.proofs.RoomLaws.{part-fits, part-short, less-nothing}
 
 -- a row, and those after it
@@ -16,12 +14,12 @@ module _ (line : ℕ → List ℕ) (ps qs : List ℕ) (p : ℕ) (next : ps ≡ p
   unfolding flat_map
   rows_next = ap (flat_map line) next
 
-  module _ (space : ℕ) (r : Room) (e : room_of r ≡ less_part space (line p)) where
-    pub row-left : (k : ℕ) → r ≡ room.Left k → less_part k (flat_map line qs) ≡ less_part space (flat_map line ps)
-    row-left k q = part-fits space (line p) (flat_map line qs) rows_next (sym (ap room_of q) ∙ e)
+  module _ (space : ℕ) where
+    pub row-left : {k : ℕ} → some k ≡ less_part space (line p) → less_part k (flat_map line qs) ≡ less_part space (flat_map line ps)
+    row-left e = part-fits space (line p) (flat_map line qs) rows_next e
 
-    pub row-short : r ≡ room.Short → none ≡ less_part space (flat_map line ps)
-    row-short q = part-short space (line p) (flat_map line qs) rows_next (sym (ap room_of q) ∙ e)
+    pub row-short : none ≡ less_part space (line p) → none ≡ less_part space (flat_map line ps)
+    row-short e = part-short space (line p) (flat_map line qs) rows_next e
 
 -- no more rows
 pub rows_none : (line : ℕ → List ℕ) (ps : List ℕ) (space : ℕ) → ps ≡ [] → some space ≡ less_part space (flat_map line ps)

@@ -23,8 +23,8 @@ use Rattle.object.specs.Texts.{text_bytes}
 use Rattle.object.specs.Access.{label_at}
 use Rattle.object.proofs.ByteLaws.{text-len, text-bytes}
 use Rattle.object.proofs.Formed.{formed}
-use Rattle.measuring.specs.Room.{less, less_part, room_of}
-use Rattle.measuring.specs.declared.Room.{Room}
+use mathlib.Core.Option.{Option}
+use Rattle.measuring.specs.Room.{less, less_part}
 use Rattle.label_order.specs.Labels.{label_places}
 use Rattle.label_order.specs.Labels as keys
 use Rattle.label_order.specs.declared.By.TheVariants as by
@@ -191,12 +191,12 @@ module _ (ws : List ℕ) (z : checked ws ≡ 0) where
       labels_table_length ws f.object f.is ∙ ap (λ ls. length (label_table ls)) (same f.object f.is)
 
   -- what the measures say
-  pub symbols_room : (room : ℕ) (r : Room) → room_of r ≡ less room (symbols_length ws) → room_of r ≡ less_part room (symbol_table labels)
-  symbols_room room r e = e ∙ ap (less room) symbols_size
+  pub symbols_room : {o : Option ℕ} (room : ℕ) → o ≡ less room (symbols_length ws) → o ≡ less_part room (symbol_table labels)
+  symbols_room room e = e ∙ ap (less room) symbols_size
 
-  pub labels-room : (names indices room : ℕ) (r : Room) → (names ≡ names_width ws) × (indices ≡ indices_width ws)
-      → room_of r ≡ less room (columns_length names indices ws) → room_of r ≡ less_part room (label_table labels)
-  labels-room names indices room r q e = e ∙ ap₂ (λ x y. less room (columns_length x y ws)) q.0 q.1 ∙ ap (less room) labels-size
+  pub labels-room : {o : Option ℕ} (names indices room : ℕ) → (names ≡ names_width ws) × (indices ≡ indices_width ws)
+      → o ≡ less room (columns_length names indices ws) → o ≡ less_part room (label_table labels)
+  labels-room names indices room q e = e ∙ ap₂ (λ x y. less room (columns_length x y ws)) q.0 q.1 ∙ ap (less room) labels-size
 
   -- what they are
   pub symbols_text : symbols_of ws ≡ symbol_table labels

@@ -8,6 +8,8 @@ use Rattle.format.specs.TextWriter.{decimal, widest, text_line, symbol_header, l
 use Rattle.object.specs.Access.{label_at}
 use Rattle.label_order.specs.Labels.{label_places, label_key}
 use Rattle.label_order.specs.declared.By.TheVariants as by
+use Rattle.label_tables.specs.declared.Table.{Table}
+use Rattle.label_tables.specs.declared.Table.TheVariants as table
 use Rattle.label_tables.specs.Rows.{name_at, symbol_line, label_line}
 
 -- "Label column width is the longest name in bytes, at least 5"
@@ -16,6 +18,11 @@ names_width ws = widest (λ p. length (name_at ws p)) 5 (label_places ws)
 
 unfoldable pub indices_width : List ℕ → ℕ  -- the longest index, at least 5
 indices_width ws = widest (λ p. length (decimal (label_at ws p).start)) 5 (label_places ws)
+
+-- a row of a table, of the label at a place
+abbrev pub line_of : Table → List ℕ → ℕ → List ℕ
+line_of table.Symbols ws = symbol_line ws
+line_of (table.Labels widths) ws = label_line widths.names widths.indices ws
 
 -- a table with rows for places in an order; empty without labels
 unfoldable pub table_of : List ℕ → (ℕ → List ℕ) → List ℕ → List ℕ → List ℕ

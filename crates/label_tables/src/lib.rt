@@ -12,12 +12,11 @@ ghost use Rattle.object.specs.Bodies.{number_at};
 ghost use Rattle.object.specs.Texts.{text_bytes};
 ghost use Rattle.label_tables.specs.Rows.{name_at, symbol_line, label_line};
 ghost use Rattle.measuring.specs.Room.{room_of, less, less_part};
-ghost use Rattle.label_tables.specs.Tables.{names_width, indices_width, symbols_length, columns_length};
+ghost use Rattle.label_tables.specs.Tables.{names_width, indices_width, symbols_length, columns_length, line_of};
 ghost use Rattle.label_order.specs.Labels.{label_places};
 
-use gather::Found;
 use label_order::next_label;
-use measuring::Room;
+use measuring::take;
 use object::{body_end, number_at, put_text, text_byte, text_len, whole_words};
 use text_numerals::{count_digits, put_hex4, put_right, put_spaces};
 use writing::put_bytes;
@@ -80,7 +79,7 @@ fn ext_digit(w: u32) -> u8
 }
 
 // A row of .SYMBOL: address, EXT and name.
-pub fn put_symbol_row(out: &mut [u8], ws: &[u32], p: usize) -> usize
+fn put_symbol_row(out: &mut [u8], ws: &[u32], p: usize) -> usize
     ensures { Put (symbol_line ws.now p) out.old result out.new }
 {
     let name = name_of(ws, p);
@@ -142,65 +141,30 @@ fn characters(ws: &[u32], at: usize, n: usize) -> usize
 fn fill_of(ws: &[u32], at: usize, n: usize, width: usize) -> usize
     ensures { result ≡ width - characters (text_bytes ws.now at n) }
 {
-    let c = characters(ws, at, n);
-    if width <= c {
-        return 0;
-    }
-    width - c
+    width.saturating_sub(characters(ws, at, n))
 }
 
 // How long a number is in its column.
 fn right_len(width: usize, n: u64) -> usize
     ensures { result ≡ length (to_right width (decimal n)) }
 {
-    let len = count_digits(n);
-    if width <= len {
-        return len;
-    }
-    width
+    count_digits(n).max(width)
+}
+
+// The room that three parts leave.
+fn take_three(room: usize, a: usize, b: usize, c: usize) -> Option<usize>
+    ensures { room_of result ≡ less room (a + b + c) }
+{
+    let x = take(room, a)?;
+    let y = take(x, b)?;
+    take(y, c)
 }
 
 // Whether three parts fit, as whole numbers.
 fn is_room(room: usize, a: usize, b: usize, c: usize) -> bool
     ensures { result ≡ leb (a + b + c) room }
 {
-    if room < a {
-        return false;
-    }
-    let x = room - a;
-    if x < b {
-        return false;
-    }
-    c <= x - b
-}
-
-// A row of the label table, in columns of these widths: name and source start.
-pub fn put_label_row(out: &mut [u8], ws: &[u32], p: usize, names: usize, indices: usize) -> usize
-    ensures { Put (label_line names indices ws.now p) out.old result out.new }
-{
-    let name = name_of(ws, p);
-    let fill = fill_of(ws, name.at, name.len, names);
-    let start = start_at(ws, p);
-    let right = right_len(indices, start);
-    if !is_room(out.len(), name.len + 4, fill, right) {
-        return 0;
-    }
-    let mut k = put_text(out, ws, name.at, name.len);
-    k += put_spaces(&mut out[k..], fill);
-    k += put_bytes(&mut out[k..], b" | ");
-    k += put_right(&mut out[k..], indices, start);
-    out[k] = 0x0A;
-    k + 1
-}
-
-// The larger of two numbers.
-fn larger(a: usize, b: usize) -> usize
-    ensures { result ≡ max a b }
-{
-    if a < b {
-        return b;
-    }
-    a
+    take_three(room, a, b, c).is_some()
 }
 
 // The widths of the label table's columns.
@@ -210,130 +174,142 @@ pub struct Widths {
     pub indices: usize,
 }
 
+// A row of the label table, in columns of these widths: name and source start.
+fn put_label_row(out: &mut [u8], ws: &[u32], p: usize, widths: Widths) -> usize
+    ensures { Put (label_line widths.names widths.indices ws.now p) out.old result out.new }
+{
+    let name = name_of(ws, p);
+    let fill = fill_of(ws, name.at, name.len, widths.names);
+    let start = start_at(ws, p);
+    let right = right_len(widths.indices, start);
+    if !is_room(out.len(), name.len + 4, fill, right) {
+        return 0;
+    }
+    let mut k = put_text(out, ws, name.at, name.len);
+    k += put_spaces(&mut out[k..], fill);
+    k += put_bytes(&mut out[k..], b" | ");
+    k += put_right(&mut out[k..], widths.indices, start);
+    out[k] = 0x0A;
+    k + 1
+}
+
 // The longest name in bytes, at least 5, and the longest index, at least 5.
 pub fn column_widths(ws: &[u32]) -> Widths
     ensures { (result.names ≡ names_width ws.now) × (result.indices ≡ indices_width ws.now) }
 {
-    let mut names = 5;
-    let mut indices = 5;
+    let mut widths = Widths {
+        names: 5,
+        indices: 5,
+    };
     let mut at = 0;
-    loop {
-        let Found::At(p, next) = next_label(ws, at) else {
-            return Widths { names, indices };
-        };
+    while let Some((p, next)) = next_label(ws, at) {
         let name = name_of(ws, p);
-        names = larger(name.len, names);
-        indices = larger(count_digits(start_at(ws, p)), indices);
+        widths = Widths {
+            names: name.len.max(widths.names),
+            indices: count_digits(start_at(ws, p)).max(widths.indices),
+        };
         at = next;
+    }
+    widths
+}
+
+// A table of labels: .SYMBOL, or the label table in columns of these widths.
+#[derive(Clone, Copy)]
+pub enum Table {
+    Symbols,
+    Labels(Widths),
+}
+
+impl Table {
+    // A row, of the label at a place.
+    pub fn put_row(self, out: &mut [u8], ws: &[u32], p: usize) -> usize
+        ensures { Put (line_of self ws.now p) out.old result out.new }
+    {
+        match self {
+            Table::Symbols => put_symbol_row(out, ws, p),
+            Table::Labels(widths) => put_label_row(out, ws, p, widths),
+        }
+    }
+
+    // The room that it leaves.
+    fn row_room(self, ws: &[u32], p: usize, room: usize) -> Option<usize>
+        ensures { room_of result ≡ less_part room (line_of self ws.now p) }
+    {
+        match self {
+            Table::Symbols => symbol_row_room(ws, p, room),
+            Table::Labels(widths) => label_row_room(ws, p, widths, room),
+        }
+    }
+
+    // The room that all rows leave, counted down: a sum of columns could pass 64 bits.
+    fn rows_room(self, ws: &[u32], room: usize) -> Option<usize>
+        ensures { room_of result ≡ less_part room (flat_map (line_of self ws.now) (label_places ws.now)) }
+    {
+        let mut left = room;
+        let mut at = 0;
+        while let Some((p, next)) = next_label(ws, at) {
+            left = self.row_room(ws, p, left)?;
+            at = next;
+        }
+        Some(left)
     }
 }
 
 // The room that a row of .SYMBOL leaves.
-fn symbol_row_room(ws: &[u32], p: usize, room: usize) -> Room
+fn symbol_row_room(ws: &[u32], p: usize, room: usize) -> Option<usize>
     ensures { room_of result ≡ less_part room (symbol_line ws.now p) }
 {
     let name = name_of(ws, p);
-    let len = name.len + 14;
-    if room < len {
-        return Room::Short;
-    }
-    Room::Left(room - len)
+    take(room, name.len + 14)
 }
 
 // The room that a row of the label table leaves.
-fn label_row_room(ws: &[u32], p: usize, names: usize, indices: usize, room: usize) -> Room
-    ensures { room_of result ≡ less_part room (label_line names indices ws.now p) }
+fn label_row_room(ws: &[u32], p: usize, widths: Widths, room: usize) -> Option<usize>
+    ensures { room_of result ≡ less_part room (label_line widths.names widths.indices ws.now p) }
 {
     let name = name_of(ws, p);
-    let fill = fill_of(ws, name.at, name.len, names);
-    let right = right_len(indices, start_at(ws, p));
-    let len = name.len + 4;
-    if !is_room(room, len, fill, right) {
-        return Room::Short;
-    }
-    Room::Left(room - len - fill - right)
+    let fill = fill_of(ws, name.at, name.len, widths.names);
+    let right = right_len(widths.indices, start_at(ws, p));
+    take_three(room, name.len + 4, fill, right)
 }
 
-// The room that the rows of .SYMBOL leave.
-fn symbol_rows_room(ws: &[u32], room: usize) -> Room
-    ensures { room_of result ≡ less_part room (flat_map (symbol_line ws.now) (label_places ws.now)) }
-{
-    let mut left = room;
-    let mut at = 0;
-    loop {
-        let Found::At(p, next) = next_label(ws, at) else {
-            return Room::Left(left);
-        };
-        let Room::Left(n) = symbol_row_room(ws, p, left) else {
-            return Room::Short;
-        };
-        left = n;
-        at = next;
-    }
-}
-
-// The room that the rows of the label table leave.
-fn label_rows_room(ws: &[u32], names: usize, indices: usize, room: usize) -> Room
-    ensures { room_of result ≡ less_part room (flat_map (label_line names indices ws.now) (label_places ws.now)) }
-{
-    let mut left = room;
-    let mut at = 0;
-    loop {
-        let Found::At(p, next) = next_label(ws, at) else {
-            return Room::Left(left);
-        };
-        let Room::Left(n) = label_row_room(ws, p, names, indices, left) else {
-            return Room::Short;
-        };
-        left = n;
-        at = next;
-    }
-}
-
-// The room that .SYMBOL's table leaves, counted down: a sum of columns could pass 64 bits.
-pub fn measure_symbols(ws: &[u32], room: usize) -> Room
+// The room that .SYMBOL's table leaves.
+pub fn measure_symbols(ws: &[u32], room: usize) -> Option<usize>
     ensures { room_of result ≡ less room (symbols_length ws.now) }
 {
-    let Found::At(_, _) = next_label(ws, 0) else {
-        return Room::Left(room);
+    let Some(_) = next_label(ws, 0) else {
+        return Some(room);
     };
-    if room < 19 {
-        return Room::Short;
-    }
-    symbol_rows_room(ws, room - 19)
+    let left = take(room, 19)?;
+    Table::Symbols.rows_room(ws, left)
 }
 
 // How many characters a column has past those of its header, LABEL or INDEX.
 fn past_header(width: usize) -> usize
     ensures { result ≡ width - 5 }
 {
-    if width <= 5 {
-        return 0;
-    }
-    width - 5
+    width.saturating_sub(5)
 }
 
 // The room that the label table leaves, in columns of these widths.
-pub fn measure_labels(ws: &[u32], names: usize, indices: usize, room: usize) -> Room
-    ensures { room_of result ≡ less room (columns_length names indices ws.now) }
+pub fn measure_labels(ws: &[u32], widths: Widths, room: usize) -> Option<usize>
+    ensures { room_of result ≡ less room (columns_length widths.names widths.indices ws.now) }
 {
-    let Found::At(_, _) = next_label(ws, 0) else {
-        return Room::Left(room);
+    let Some(_) = next_label(ws, 0) else {
+        return Some(room);
     };
-    let a = past_header(names);
-    let b = past_header(indices);
-    if !is_room(room, 14, a, b) {
-        return Room::Short;
-    }
-    label_rows_room(ws, names, indices, room - 14 - a - b)
+    let a = past_header(widths.names);
+    let b = past_header(widths.indices);
+    let left = take_three(room, 14, a, b)?;
+    Table::Labels(widths).rows_room(ws, left)
 }
 
 // The header of the label table, in columns of these widths.
-pub fn put_label_header(out: &mut [u8], names: usize, indices: usize) -> usize
-    ensures { Put (text_line (label_header names indices)) out.old result out.new }
+pub fn put_label_header(out: &mut [u8], widths: Widths) -> usize
+    ensures { Put (text_line (label_header widths.names widths.indices)) out.old result out.new }
 {
-    let a = past_header(names);
-    let b = past_header(indices);
+    let a = past_header(widths.names);
+    let b = past_header(widths.indices);
     if !is_room(out.len(), 14, a, b) {
         return 0;
     }

@@ -7,20 +7,17 @@ use Rattle.measuring.specs.Fitting.{keep, fitting}
 use Rattle.label_order.specs.Labels.{label_places, label_key}
 use Rattle.label_order.specs.declared.By.{By}
 use Rattle.label_order.specs.declared.By.TheVariants as by
-use Rattle.label_tables.specs.Rows.{symbol_line, label_line}
-use Rattle.label_windows.specs.declared.Columns.{Columns}
+use Rattle.label_tables.specs.declared.Table.{Table}
+use Rattle.label_tables.specs.declared.Table.TheVariants as table
 
--- a row of the label at a place
-abbrev pub line_by : By → ℕ → ℕ → List ℕ → ℕ → List ℕ
-line_by by.Address names indices ws = symbol_line ws
-line_by by.Start names indices ws = label_line names indices ws
-
-abbrev pub line_of : Columns → List ℕ → ℕ → List ℕ
-line_of t ws p = line_by t.by t.names t.indices ws p
+-- what a table's labels are sorted by
+abbrev pub by_of : Table → By
+by_of table.Symbols = by.Address
+by_of (table.Labels widths) = by.Start
 
 -- the labels' places in the order of a table
-abbrev pub places_of : Columns → List ℕ → List ℕ
-places_of t ws = sorted (label_key t.by ws) (label_places ws)
+abbrev pub places_of : Table → List ℕ → List ℕ
+places_of t ws = sorted (label_key (by_of t) ws) (label_places ws)
 
 -- a table with rows for places in an order; nothing without labels
 unfoldable pub table_fitting : List ℕ → (ℕ → List ℕ) → List ℕ → List ℕ → ℕ → List ℕ

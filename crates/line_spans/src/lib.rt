@@ -8,71 +8,47 @@ ghost use Rattle.object.specs.Texts.{text_bytes};
 ghost use Rattle.trim.specs.WhiteSpace.{white_at, ends_white, white_before};
 ghost use Rattle.line_spans.specs.Spans.{span_in, Within, TrimsStart, TrimsEnd, span_answer};
 
-use source_info::{Source, source_of};
-use units::{ByteIndex, Line};
+use source_info::source_of;
+use units::{ByteIndex, Line, Refusal};
 
 // The bytes of a line, the end not included.
 #[derive(Clone, Copy)]
 pub struct LineSpan {
-    pub number: u8,
     pub start: ByteIndex,
     pub end: ByteIndex,
 }
 
-// A line of a text: its bytes, with the newline.
-#[derive(Clone, Copy)]
-enum RawLine {
-    Bytes(usize, usize),
-    Past,
-}
-
-// The line of a text of `n` bytes, in one pass up to its end.
-fn raw_line(ws: &[u32], at: usize, n: usize, line: u64) -> RawLine
+// Where the bytes of a line begin and end in a text of `n` bytes, with the newline, in one pass up to its end.
+fn raw_line(ws: &[u32], at: usize, n: usize, line: u64) -> Result<(usize, usize), Refusal>
     ensures { (span_in result ≡ raw_line_span (text_bytes ws.now at n) line) × Within n result }
 {
     let mut left = line;
     let mut start = 0;
-    let mut i = 0;
-    while i < n {
+    for i in 0..n {
         if object::text_byte(ws, at, i) == 10 {
             if left == 0 {
-                return RawLine::Bytes(start, i + 1);
+                return Ok((start, i + 1));
             }
             left -= 1;
             start = i + 1;
         }
-        i += 1;
     }
     if left == 0 {
-        return RawLine::Bytes(start, n);
+        return Ok((start, n));
     }
-    RawLine::Past
+    Err(Refusal::NoSuchLine)
 }
 
 // The bytes of a line, with its newline.
-pub fn raw_line_span(object: &[u32], line: Line) -> LineSpan
+pub fn raw_line_span(object: &[u32], line: Line) -> Result<LineSpan, Refusal>
     ensures { span_answer result ≡ query_raw_line_span object.now line.0 }
 {
-    let l = line.0;
-    match source_of(object) {
-        Source::Words(at, n) => match raw_line(object, at, n, l) {
-            RawLine::Bytes(a, e) => LineSpan {
-                number: 0,
-                start: ByteIndex(a as u64),
-                end: ByteIndex(e as u64),
-            },
-            RawLine::Past => LineSpan {
-                number: 5,
-                start: ByteIndex(0),
-                end: ByteIndex(0),
-            },
-        },
-        Source::Refused(number) => LineSpan {
-            number,
-            start: ByteIndex(0),
-            end: ByteIndex(0),
-        },
-    }
+    let source = source_of(object)?;
+    let (a, e) = raw_line(object, source.at, source.len, line.0)?;
+    Ok(LineSpan {
+        start: ByteIndex(a as u64),
+        end: ByteIndex(e as u64),
+    })
 }
 
 // How many bytes the White_Space character has that begins at byte `p` of the first `end` bytes of a text; 0 if none begins there.
@@ -150,31 +126,15 @@ fn white_end(ws: &[u32], at: usize, start: usize, end: usize) -> usize
 }
 
 // The bytes of a line, less White_Space at its end and its start; of a blank line the empty range at its start.
-pub fn line_span(object: &[u32], line: Line) -> LineSpan
+pub fn line_span(object: &[u32], line: Line) -> Result<LineSpan, Refusal>
     ensures { span_answer result ≡ query_line_span object.now line.0 }
 {
-    let l = line.0;
-    match source_of(object) {
-        Source::Words(at, n) => match raw_line(object, at, n, l) {
-            RawLine::Bytes(a, e) => {
-                let end = white_end(object, at, a, e);
-                let start = white_start(object, at, a, end);
-                LineSpan {
-                    number: 0,
-                    start: ByteIndex(start as u64),
-                    end: ByteIndex(end as u64),
-                }
-            }
-            RawLine::Past => LineSpan {
-                number: 5,
-                start: ByteIndex(0),
-                end: ByteIndex(0),
-            },
-        },
-        Source::Refused(number) => LineSpan {
-            number,
-            start: ByteIndex(0),
-            end: ByteIndex(0),
-        },
-    }
+    let source = source_of(object)?;
+    let (a, e) = raw_line(object, source.at, source.len, line.0)?;
+    let end = white_end(object, source.at, a, e);
+    let start = white_start(object, source.at, a, end);
+    Ok(LineSpan {
+        start: ByteIndex(start as u64),
+        end: ByteIndex(end as u64),
+    })
 }

@@ -4,9 +4,9 @@ use mathlib.Core.List.{List, [], ◌∷◌, map}
 use mathlib.Core.Option.{Option, none, some, or_else}
 use Prim.Native.Nat.{ℕ, zero, suc, ◌+◌, ◌%◌, ◌^◌, ◌≤◌, ◌<◌}
 use native.Mathlib.Omega.{arith}
-use native.Mathlib.Nat.{add-zero, le_refl}
+use native.Mathlib.Nat.{add-zero}
 use lib.ListN.{length, get_or, get_elem?}
-use borrow.Author.Tests.{le-leb, lt-leb, lt-ltb, le-ltb, eq-eqb, ne_eqb}
+use borrow.Author.Tests.{le-leb, lt-leb, lt-ltb, eq-eqb, ne_eqb}
 use Rattle.format.specs.Basics.{Outcome, refused, given, ◌>>=◌, need, and_then}
 use Rattle.format.specs.ObjectFile.{ObjectFile, LineBlock}
 use Rattle.format.specs.Records.{placed, empty_object}
@@ -65,31 +65,21 @@ unfolding find_line value_answer
 find_none a = refl
 
 module _ (l : LineBlock) (ls : List LineBlock) (a : ℕ) where
-  pub find_found : (answered (line_by l a)).number ≡ 0 → answered (line_by l a) ≡ answered (find_line (l ∷ ls) a)
-  unfolding find_line value_answer or_else
-  find_found e = go (line_by l a) e
-    where
-      go : (o : Option ℕ) → (answered o).number ≡ 0 → answered o ≡ answered (or_else o (find_line ls a))
-      go none e = absurd (omega arith)
-      go (some v) e = refl
+  pub find_found : (x : ℕ) → some x ≡ line_by l a → some x ≡ find_line (l ∷ ls) a
+  unfolding find_line or_else
+  find_found x e = ap (λ o. or_else o (find_line ls a)) e
 
-  pub find_next : ((answered (line_by l a)).number ≡ 0 → ⊥) → find_line ls a ≡ find_line (l ∷ ls) a
-  unfolding find_line value_answer or_else
-  find_next n = go (line_by l a) n
-    where
-      go : (o : Option ℕ) → ((answered o).number ≡ 0 → ⊥) → find_line ls a ≡ or_else o (find_line ls a)
-      go none n = refl
-      go (some v) n = absurd (n refl)
+  pub find_next : none ≡ line_by l a → find_line ls a ≡ find_line (l ∷ ls) a
+  unfolding find_line or_else
+  find_next e = ap (λ o. or_else o (find_line ls a)) e
 
 -- by one block
-pub line_some : (l : LineBlock) (a i f v : ℕ) → f ≡ l.first → some i ≡ offset_of a l.addresses → v ≡ (f + i) % 2 ^ 64
-    → record { number = 0; value = v } ≡ answered (line_by l a)
+pub line_some : (l : LineBlock) (a i f v : ℕ) → f ≡ l.first → some i ≡ offset_of a l.addresses → v ≡ (f + i) % 2 ^ 64 → some v ≡ line_by l a
 line_some l a i f v e o q =
-    answered_some v ∙ ap (λ x. answered (some x)) (q ∙ ap (λ k. (k + i) % 2 ^ 64) e)
-    ∙ ap (λ p. answered (and_then p λ k. some ((l.first + k) % 2 ^ 64))) o
+    ap some (q ∙ ap (λ k. (k + i) % 2 ^ 64) e) ∙ ap (λ p. and_then p λ k. some ((l.first + k) % 2 ^ 64)) o
 
-pub line-none : (l : LineBlock) (a : ℕ) → none ≡ offset_of a l.addresses → record { number = 6; value = 0 } ≡ answered (line_by l a)
-line-none l a o = answered_none ∙ ap (λ p. answered (and_then p λ k. some ((l.first + k) % 2 ^ 64))) o
+pub line-none : (l : LineBlock) (a : ℕ) → none ≡ offset_of a l.addresses → none ≡ line_by l a
+line-none l a o = ap (λ p. and_then p λ k. some ((l.first + k) % 2 ^ 64)) o
 
 -- along the records
 abbrev pub find_in : ℕ → ObjectFile → Option ℕ
@@ -104,17 +94,16 @@ module _ (ws : List ℕ) (a at : ℕ) (v : Option ℕ) (f : Here ws at (find_in 
   abbrev tail : List LineBlock
   tail = (placed f.rest).line_blocks
 
-  module _ (k : kind_at ws at ≡ 3) (r : Value) (e : r ≡ answered (line_by (line_block_at ws at) a)) where
-    pub find_take : r.number ≡ 0 → r ≡ answered v
-    find_take z =
-        e ∙ find_found (line_block_at ws at) tail a (ap (λ x. x.number) (sym e) ∙ z)
+  module _ (k : kind_at ws at ≡ 3) where
+    pub find_take : (x : ℕ) → some x ≡ line_by (line_block_at ws at) a → record { number = 0; value = x } ≡ answered v
+    find_take x e =
+        answered_some x ∙ ap answered (find_found (line_block_at ws at) tail a x e)
         ∙ ap (λ xs. answered (find_line xs a)) (sym (lines-here ws at f.rest k)) ∙ ap answered f.same
 
-    pub find_skip : (n : ℕ) → n ≡ at + 1 + length (body_at ws (at + 1)) → (r.number ≡ 0 → ⊥) → Left ws n (find_in a) v
-    find_skip n p z =
+    pub find_skip : (n : ℕ) → n ≡ at + 1 + length (body_at ws (at + 1)) → none ≡ line_by (line_block_at ws at) a → Left ws n (find_in a) v
+    find_skip n p e =
         on ws (find_in a) (find_in a) at n v f p
-        (find_next (line_block_at ws at) tail a (λ q. z (ap (λ x. x.number) e ∙ q))
-        ∙ ap (λ xs. find_line xs a) (sym (lines-here ws at f.rest k)))
+        (find_next (line_block_at ws at) tail a e ∙ ap (λ xs. find_line xs a) (sym (lines-here ws at f.rest k)))
 
   pub find_other : (n : ℕ) → n ≡ at + 1 + length (body_at ws (at + 1)) → (kind_at ws at ≡ 3 → ⊥) → Left ws n (find_in a) v
   find_other n p k = on ws (find_in a) (find_in a) at n v f p (ap (λ xs. find_line xs a) (lines_other ws at f.rest k))
@@ -122,10 +111,6 @@ module _ (ws : List ℕ) (a at : ℕ) (v : Option ℕ) (f : Here ws at (find_in 
 -- the last block that begins at or before a line, with a best one so far
 abbrev pub last_with : ℕ → Option LineBlock → ObjectFile → Option LineBlock
 last_with line best h = or_else (last_starting line h.line_blocks) best
-
-pub block_none : (ws : List ℕ) (at : ℕ) → length ws ≤ at → block_in ws at ≡ none
-unfolding block_in
-block_none ws at h = rw (le-ltb at (length ws) h)
 
 pub block_some : (ws : List ℕ) (at : ℕ) → at < length ws → block_in ws at ≡ some (line_block_at ws at)
 unfolding block_in
@@ -158,39 +143,35 @@ module _ (line : ℕ) (best : Option LineBlock) (l : LineBlock) (ls : List LineB
 
 -- along the records
 pub last-start : (ws : List ℕ) (line : ℕ) (h : ObjectFile) → object_of ws ≡ given h
-    → Left ws 0 (last_with line (block_in ws (length ws))) (last_starting line h.line_blocks)
-last-start ws line h e =
-    let F = last_with line (block_in ws (length ws)) in
-    let q = ap (λ b. last_with line b h) (block_none ws (length ws) (le_refl _)) ∙ last_none line h in
-    subst (λ v. Left ws 0 F v) q (start ws F h e)
+    → Left ws 0 (last_with line none) (last_starting line h.line_blocks)
+last-start ws line h e = subst (λ v. Left ws 0 (last_with line none) v) (last_none line h) (start ws (last_with line none) h e)
 
-pub last_done : (ws : List ℕ) (line best at : ℕ) (v : Option LineBlock) → length ws ≤ at → Left ws at (last_with line (block_in ws best)) v
-    → block_in ws best ≡ v
+pub last_done : (ws : List ℕ) (line at : ℕ) (best v : Option LineBlock) → length ws ≤ at → Left ws at (last_with line best) v → best ≡ v
 unfolding empty_object last_starting or_else
-last_done ws line best at v l a = finish ws (last_with line (block_in ws best)) at v l a
+last_done ws line at best v l a = finish ws (last_with line best) at v l a
 
-module _ (ws : List ℕ) (line at n : ℕ) (v : Option LineBlock) (best : ℕ) (a : Here ws at (last_with line (block_in ws best)) v)
+module _ (ws : List ℕ) (line at n : ℕ) (best v : Option LineBlock) (a : Here ws at (last_with line best) v)
     (e : n ≡ at + 1 + length (body_at ws (at + 1))) where
-  abbrev F : ℕ → ObjectFile → Option LineBlock
-  F b = last_with line (block_in ws b)
+  abbrev F : Option LineBlock → ObjectFile → Option LineBlock
+  F b = last_with line b
 
   abbrev ls : List LineBlock
   ls = (placed a.rest).line_blocks
 
-  pub last-take : at < length ws → kind_at ws at ≡ 3 → number_at ws (at + 1) ≤ line → Left ws n (F at) v
+  pub last-take : at < length ws → kind_at ws at ≡ 3 → number_at ws (at + 1) ≤ line → Left ws n (F (block_in ws at)) v
   last-take l k h =
-      on ws (F best) (F at) at n v a e
-      (ap (λ b. or_else (last_starting line ls) b) (block_some ws at l) ∙ last_better line (block_in ws best) (line_block_at ws at) ls h
-      ∙ ap (λ xs. or_else (last_starting line xs) (block_in ws best)) (sym (lines-here ws at a.rest k)))
+      on ws (F best) (F (block_in ws at)) at n v a e
+      (ap (λ b. or_else (last_starting line ls) b) (block_some ws at l) ∙ last_better line best (line_block_at ws at) ls h
+      ∙ ap (λ xs. or_else (last_starting line xs) best) (sym (lines-here ws at a.rest k)))
 
   pub last_skip : kind_at ws at ≡ 3 → (number_at ws (at + 1) ≤ line → ⊥) → Left ws n (F best) v
   last_skip k h =
       on ws (F best) (F best) at n v a e
-      (last-later line (block_in ws best) (line_block_at ws at) ls h
-      ∙ ap (λ xs. or_else (last_starting line xs) (block_in ws best)) (sym (lines-here ws at a.rest k)))
+      (last-later line best (line_block_at ws at) ls h
+      ∙ ap (λ xs. or_else (last_starting line xs) best) (sym (lines-here ws at a.rest k)))
 
   pub last-other : (kind_at ws at ≡ 3 → ⊥) → Left ws n (F best) v
-  last-other k = on ws (F best) (F best) at n v a e (ap (λ xs. or_else (last_starting line xs) (block_in ws best))
+  last-other k = on ws (F best) (F best) at n v a e (ap (λ xs. or_else (last_starting line xs) best)
       (lines_other ws at a.rest k))
 
 -- an address word by its place

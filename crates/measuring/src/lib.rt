@@ -4,19 +4,9 @@
 ghost use Rattle.std.specs.Prelude.{◌≡◌};
 ghost use Rattle.measuring.specs.Room.{room_of, less};
 
-// The room that is left after a part, or that it is too short.
-#[derive(Clone, Copy)]
-pub enum Room {
-    Left(usize),
-    Short,
-}
-
-// The room that a part of `n` bytes leaves.
-pub fn take(room: usize, n: usize) -> Room
+// The room that a part of `n` bytes leaves, if it fits.
+pub fn take(room: usize, n: usize) -> Option<usize>
     ensures { room_of result ≡ less room n }
 {
-    if room < n {
-        return Room::Short;
-    }
-    Room::Left(room - n)
+    room.checked_sub(n)
 }

@@ -2,13 +2,13 @@
 use mathlib.Core.Path.{◌≡◌, refl, sym, ◌∙◌, ap}
 use mathlib.Core.Bool.{true, false, not}
 use mathlib.Core.List.{List, [], ◌∷◌}
-use Prim.Native.Nat.{ℕ, suc, ◌+◌, ◌≤◌, ◌<◌}
+use Prim.Native.Nat.{ℕ, suc, ◌+◌, ◌≤◌, ◌<◌, max}
 use native.Mathlib.Omega.{arith}
 use native.Mathlib.Numerals.{add-one}
 use lib.ListN.{length, drop, get_or, drop_of_length-le, length-drop}
 use lib.Seq.{drop-cons, drop-drop}
-use lib.Dec.{ltb}
-use borrow.Author.Tests.{ltb-true, ltb-false}
+use lib.Dec.{ltb, leb}
+use borrow.Author.Tests.{ltb-true, ltb-false, leb-true, leb-false}
 use Rattle.format.specs.Basics.{is_empty}
 use Rattle.format.specs.Tokens.{Parts, parts_at, head_of, body_of}
 use Rattle.format.specs.Words.{is_head}
@@ -104,6 +104,22 @@ module _ (ws : List ℕ) (i : ℕ) where
       go [] e = refl
       go (x ∷ xs) e = clash refl e
 
+  -- the same, by how many words go on
+  pub goes_inside : 0 < length (body_at ws i) → (i < length ws) × (body_at ws i ≡ get_or ws i 0 ∷ body_at ws (i + 1))
+  unfolding is_empty
+  goes_inside h = goes (go (body_at ws i) h)
+    where
+      go : (xs : List ℕ) → 0 < length xs → not (is_empty xs) ≡ true
+      go [] h = absurd (omega arith)
+      go (x ∷ xs) h = refl
+
+  pub stops_inside : length (body_at ws i) ≡ 0 → body_at ws i ≡ []
+  stops_inside e = go (body_at ws i) e
+    where
+      go : (xs : List ℕ) → length xs ≡ 0 → xs ≡ []
+      go [] e = refl
+      go (x ∷ xs) e = absurd (omega (arith, e))
+
 -- whether a place begins a record
 pub head_at : (ws : List ℕ) (i : ℕ) → i < length ws → body_at ws i ≡ [] → is_head (get_or ws i 0) ≡ true
 head_at ws i h e = by_test (is_head (get_or ws i 0)) (λ t. t) (λ t. let p = body_goes ws i h t in let z : ◌≡◌ {A = ℕ} 0 1 = cc in absurd
@@ -122,3 +138,15 @@ pub same_more :
 same_more ws at k s h e =
     let q : at + k + 1 ≡ at + (k + 1) = omega arith in
     omega (arith, s, ap length (body_goes ws (at + k) h e), ap (λ n. length (body_at ws n)) q)
+
+-- words passed to the end of the object, from a place that may lie past it
+pub ends_within :
+    (ws : List ℕ) (at i : ℕ)
+    → length ws ≤ i
+    → (at ≤ length ws → i ≤ length ws)
+    → i + length (body_at ws i) ≡ at + length (body_at ws at)
+    → max at (length ws) ≡ at + length (body_at ws at)
+ends_within ws at i h within e =
+    by_test (leb at (length ws))
+    (λ t. omega (arith, within (leb-true at (length ws) t), e, ap length (body_out ws i h)))
+    (λ t. let l = leb-false at (length ws) t in omega (arith, ap length (body_out ws at (omega (arith, l)))))

@@ -9,3 +9,4 @@ pub mod ByteLaws
 pub mod SpanLaws
 pub mod Formed
 pub mod AccessLaws
+pub mod KindLaws

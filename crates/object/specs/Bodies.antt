@@ -1,5 +1,5 @@
 -- The words of a record, by their place in the object. Assumes nothing.
-use Rattle.std.specs.Prelude.{◌≡◌, Bool, true, false, cond, ◌&&◌, List, [], ℕ, ◌+◌, ◌*◌, ◌/◌, ◌%◌, ◌^◌, ◌≤◌, length, drop, eqb}
+use Rattle.std.specs.Prelude.{◌≡◌, Bool, true, false, cond, ◌&&◌, List, [], ℕ, ◌+◌, ◌*◌, ◌/◌, ◌%◌, ◌^◌, ◌≤◌, length, drop, eqb, Option, Some, None}
 use Rattle.format.specs.Basics.{Outcome, refused, given, given_or}
 use Rattle.format.specs.Digits.{digits_of}
 use Rattle.format.specs.Tokens.{parts_at}
@@ -7,8 +7,19 @@ use Rattle.format.specs.Utf8.{is_utf8}
 use Rattle.format.specs.Basics.{is_given}
 use Rattle.format.specs.ObjectFile.{never_fall}
 use Rattle.format.specs.Words.{is_head, memories_of, addresses_of, number_from, text_from}
-use Rattle.object.specs.declared.Number.{Number}
-use Rattle.object.specs.declared.Number.TheVariants as number
+use Rattle.object.specs.declared.Kind.{Kind}
+use Rattle.object.specs.declared.Kind.TheVariants as kind
+
+-- the number of a kind, as the top 3 bits of a word hold it
+abbrev pub kind_number : Kind → ℕ
+kind_number kind.Block = 0
+kind_number kind.Memory = 1
+kind_number kind.Label = 2
+kind_number kind.LineBlock = 3
+kind_number kind.Source = 4
+kind_number kind.Relocation = 5
+kind_number kind.Number = 6
+kind_number kind.Text = 7
 
 -- given, and what is given passes
 abbrev pub allows : {A : Type 0} → Outcome A → (A → Bool) → Bool
@@ -64,6 +75,6 @@ abbrev pub are_number : ℕ → ℕ → ℕ → Bool
 are_number a b c = eqb (a / 2 ^ 24) 0xC0 && (eqb (b / 2 ^ 24) 0xC0 && eqb (c / 2 ^ 16) 0xC000)
 
 -- the answers of the code
-abbrev pub Numbered : List ℕ → ℕ → Number → Type 0
-Numbered ws at (number.Is v) = (number_from (body_at ws at) ≡ given (v, body_at ws (at + 3))) × (at + 3 ≤ length ws)
-Numbered ws at number.Bad = number_from (body_at ws at) ≡ refused 1
+abbrev pub Numbered : List ℕ → ℕ → Option ℕ → Type 0
+Numbered ws at (Some v) = (number_from (body_at ws at) ≡ given (v, body_at ws (at + 3))) × (at + 3 ≤ length ws)
+Numbered ws at None = number_from (body_at ws at) ≡ refused 1

@@ -5,28 +5,38 @@ ghost use Rattle.std.specs.Prelude.{◌≡◌, true, false, not, ◌+◌, ◌-�
 ghost use Rattle.format.specs.Basics.{is_empty};
 ghost use Rattle.format.specs.Words.{is_head};
 ghost use Rattle.writing.specs.Written.{Put};
-ghost use Rattle.object.specs.Bodies.{body_at, number_at, are_number, Numbered, SameEnd};
+ghost use Rattle.object.specs.Bodies.{kind_number, body_at, number_at, are_number, Numbered, SameEnd};
 ghost use Rattle.object.specs.Texts.{text_len, text_byte, text_bytes, span_bytes, whole_words};
 
-// A number of three words.
-#[derive(Clone, Copy)]
-pub enum Number {
-    Is(u64),
-    Bad,
+// What a word is: its top 3 bits say it. The heads of the five records, and the words that go on with them.
+#[derive(Clone, Copy, Debug, PartialEq, Eq)]
+pub enum Kind {
+    Block,
+    Memory,
+    Label,
+    LineBlock,
+    Source,
+    Relocation,
+    Number,
+    Text,
 }
 
-// A word as a wider number, with its bound.
-pub fn wide(w: u32) -> u64
-    ensures { (result ≡ w) × (result < 2 ^ 32) }
-{
-    w as u64
-}
-
-// The kind of a word: its top 3 bits.
-pub fn kind(w: u32) -> u32
-    ensures { result ≡ w / 2 ^ 29 }
-{
-    w / 0x2000_0000
+impl Kind {
+    // The kind of a word: its top 3 bits.
+    pub fn of(w: u32) -> Kind
+        ensures { kind_number result ≡ w / 2 ^ 29 }
+    {
+        match w / 0x2000_0000 {
+            0 => Kind::Block,
+            1 => Kind::Memory,
+            2 => Kind::Label,
+            3 => Kind::LineBlock,
+            4 => Kind::Source,
+            5 => Kind::Relocation,
+            6 => Kind::Number,
+            _ => Kind::Text,
+        }
+    }
 }
 
 // Whether a word begins a record.
@@ -57,11 +67,12 @@ pub fn goes_on(ws: &[u32], at: usize) -> bool
 fn near_end(ws: &[u32], at: usize) -> usize
     ensures { result ≡ at + length (body_at ws.now at) }
 {
-    let mut i = at;
-    while goes_on(ws, i) {
-        i += 1;
+    for i in at..ws.len() {
+        if !goes_on(ws, i) {
+            return i;
+        }
     }
-    i
+    at.max(ws.len())
 }
 
 // Whether the 16 words from a place on all go on. The loop has no exit in the middle, so that the words can be compared at once.
@@ -70,12 +81,10 @@ fn is_body_block(ws: &[u32], at: usize) -> bool
     ensures { result ≡ true → SameEnd ws.now at (at + 16) }
 {
     let mut all = true;
-    let mut k = 0;
-    while k < 16 {
+    for k in 0..16 {
         if is_head(ws[at + k]) {
             all = false;
         }
-        k += 1;
     }
     all
 }
@@ -100,31 +109,28 @@ fn past_blocks(ws: &[u32], at: usize) -> usize
 fn past_high(ws: &[u32], at: usize) -> usize
     ensures { (at ≤ result) × SameEnd ws.now at result }
 {
-    let mut i = at;
-    while i < ws.len() {
-        if ws[i] < 0xC000_0000 {
-            return i;
-        }
-        i += 1;
-        if i - at == 8 {
+    for i in at..ws.len() {
+        if i - at == 8 || ws[i] < 0xC000_0000 {
             return i;
         }
     }
-    i
+    at.max(ws.len())
 }
 
 // Where the record ends whose words go on at a place: most end within a few words, a source is long.
 pub fn body_end(ws: &[u32], at: usize) -> usize
     ensures { result ≡ at + length (body_at ws.now at) }
 {
-    let mut i = past_high(ws, at);
-    while goes_on(ws, i) {
-        i += 1;
+    let start = past_high(ws, at);
+    for i in start..ws.len() {
+        if !goes_on(ws, i) {
+            return i;
+        }
         if 8 <= i - at {
             return near_end(ws, past_blocks(ws, i));
         }
     }
-    i
+    start.max(ws.len())
 }
 
 // How many words go on at a place: the memory words of the block before it.
@@ -151,40 +157,37 @@ fn is_number(a: u32, b: u32, c: u32) -> bool
 fn joined(a: u32, b: u32, c: u32) -> u64
     ensures { result ≡ a % 2 ^ 24 + 0x100_0000 * (b % 2 ^ 24) + 0x1_0000_0000_0000 * (c % 2 ^ 16) }
 {
-    let x = wide(a % 0x100_0000);
-    let y = wide(b % 0x100_0000);
-    let z = wide(c % 0x1_0000);
+    let x = u64::from(a % 0x100_0000);
+    let y = u64::from(b % 0x100_0000);
+    let z = u64::from(c % 0x1_0000);
     x + 0x100_0000 * y + 0x1_0000_0000_0000 * z
 }
 
 // The number of three words at a place, if it is there.
-pub fn read_number(ws: &[u32], at: usize) -> Number
+pub fn read_number(ws: &[u32], at: usize) -> Option<u64>
     ensures { Numbered ws.now at result }
 {
     let n = ws.len();
     if n < 3 {
-        return Number::Bad;
+        return None;
     }
     if n - 3 < at {
-        return Number::Bad;
+        return None;
     }
     let a = ws[at];
     let b = ws[at + 1];
     let c = ws[at + 2];
     if is_number(a, b, c) {
-        return Number::Is(joined(a, b, c));
+        return Some(joined(a, b, c));
     }
-    Number::Bad
+    None
 }
 
 // The number of three words at a place; 0 where there is none.
 pub fn number_at(ws: &[u32], at: usize) -> u64
     ensures { result ≡ number_at ws.now at }
 {
-    match read_number(ws, at) {
-        Number::Is(v) => v,
-        Number::Bad => 0,
-    }
+    read_number(ws, at).unwrap_or(0)
 }
 
 // How many bytes the text has whose words stand from `at` up to `end`; 0 where no words do.
@@ -197,7 +200,7 @@ pub fn text_len(ws: &[u32], at: usize, end: usize) -> usize
     if ws.len() < end {
         return 0;
     }
-    let last = wide(ws[end - 1]);
+    let last = ws[end - 1];
     (end - 1 - at) * 3 + (last / 0x100_0000 % 4) as usize
 }
 
@@ -243,11 +246,9 @@ fn put_each(out: &mut [u8], ws: &[u32], at: usize, start: usize, end: usize) -> 
     ensures { Put (span_bytes ws.now at start end) out.old result out.new }
 {
     let mut n = 0;
-    let mut i = start;
-    while i < end {
+    for i in start..end {
         out[n] = text_byte(ws, at, i);
         n += 1;
-        i += 1;
     }
     n
 }
@@ -258,8 +259,7 @@ fn put_words(out: &mut [u8], ws: &[u32], at: usize, first: usize, last: usize) -
     ensures { Put (span_bytes ws.now at (3 * first) (3 * last)) out.old result out.new }
 {
     let mut n = 0;
-    let mut k = first;
-    while k < last {
+    for k in first..last {
         let w = ws[at + k];
         out[n] = (w % 256) as u8;
         n += 1;
@@ -267,7 +267,6 @@ fn put_words(out: &mut [u8], ws: &[u32], at: usize, first: usize, last: usize) -
         n += 1;
         out[n] = (w / 65536 % 256) as u8;
         n += 1;
-        k += 1;
     }
     n
 }

@@ -2,7 +2,10 @@
 #![tactic(auto)]
 
 ghost use Rattle.std.specs.Prelude.{◌≡◌};
+ghost use Rattle.object.specs.Bodies.{kind_number};
 ghost use Rattle.part_counts.specs.Parts.{indicator, part_counts};
+
+use object::Kind;
 
 // The counts of the five parts; an object has at most one source.
 #[derive(Clone, Copy)]
@@ -15,10 +18,10 @@ pub struct PartCounts {
 }
 
 // 1 for a word of this kind, and 0 for another: a sum of these has no branch.
-fn indicator(kind: u32, w: u32) -> u64
-    ensures { result ≡ indicator kind w }
+fn indicator(kind: Kind, w: u32) -> u64
+    ensures { result ≡ indicator (kind_number kind) w }
 {
-    if object::kind(w) == kind { 1 } else { 0 }
+    u64::from(Kind::of(w) == kind)
 }
 
 // How many words there are of each kind that begins a record. Of a well formed object, these are its records.
@@ -30,15 +33,12 @@ pub fn count_parts(object: &[u32]) -> PartCounts
     let mut line_blocks = 0;
     let mut sources = 0;
     let mut relocations = 0;
-    let mut i = 0;
-    while i < object.len() {
-        let w = object[i];
-        blocks += indicator(0, w);
-        labels += indicator(2, w);
-        line_blocks += indicator(3, w);
-        sources += indicator(4, w);
-        relocations += indicator(5, w);
-        i += 1;
+    for &w in object {
+        blocks += indicator(Kind::Block, w);
+        labels += indicator(Kind::Label, w);
+        line_blocks += indicator(Kind::LineBlock, w);
+        sources += indicator(Kind::Source, w);
+        relocations += indicator(Kind::Relocation, w);
     }
     PartCounts {
         blocks,

@@ -7,13 +7,12 @@ ghost use Rattle.format.specs.Calls.{query_pos_pair};
 ghost use Rattle.object.specs.Texts.{text_bytes};
 ghost use Rattle.positions.specs.Pairs.{pair_answer, Passes, pair_in};
 
-use source_info::{Source, source_of};
-use units::{ByteIndex, Line};
+use source_info::source_of;
+use units::{ByteIndex, Line, Refusal};
 
 // A line, counted from 0, and how far into it.
 #[derive(Clone, Copy)]
 pub struct PosPair {
-    pub number: u8,
     pub line: Line,
     pub column: u64,
 }
@@ -41,8 +40,7 @@ impl Passed {
     {
         let mut line = self.line;
         let mut start = self.start;
-        let mut i = self.i;
-        while i < n {
+        for i in self.i..n {
             if index <= i {
                 return Passed { i, line, start };
             }
@@ -50,9 +48,8 @@ impl Passed {
                 line += 1;
                 start = i + 1;
             }
-            i += 1;
         }
-        Passed { i, line, start }
+        Passed { i: n, line, start }
     }
 }
 
@@ -79,23 +76,13 @@ fn pair_at(ws: &[u32], at: usize, n: usize, index: usize) -> Pair
 }
 
 // The line in which a byte index stands, and how far it is from the line's start; past the end, the line count and the index.
-pub fn get_pos_pair(object: &[u32], index: ByteIndex) -> PosPair
+pub fn get_pos_pair(object: &[u32], index: ByteIndex) -> Result<PosPair, Refusal>
     ensures { pair_answer result ≡ query_pos_pair object.now index.0 }
 {
-    let i = index.0 as usize;
-    match source_of(object) {
-        Source::Words(at, n) => {
-            let p = pair_at(object, at, n, i);
-            PosPair {
-                number: 0,
-                line: Line(p.line as u64),
-                column: p.column as u64,
-            }
-        }
-        Source::Refused(number) => PosPair {
-            number,
-            line: Line(0),
-            column: 0,
-        },
-    }
+    let source = source_of(object)?;
+    let p = pair_at(object, source.at, source.len, index.0 as usize);
+    Ok(PosPair {
+        line: Line(p.line as u64),
+        column: p.column as u64,
+    })
 }

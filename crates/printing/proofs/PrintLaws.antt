@@ -8,12 +8,13 @@ use lib.ListN.{length, take, drop, replicate, length-append, length-replicate}
 use lib.Seq.{take_at, length-take-le}
 use lib.Dec.{eqb, leb}
 use borrow.Author.Tests.{le-leb, lt-leb, leb-true, eqb-true, eqb-false}
-use Rattle.std.specs.Prelude.{if◌then◌else◌}
+use Rattle.std.specs.Prelude.{if◌then◌else◌, Result, Ok, Err}
 use Rattle.format.specs.Basics.{Outcome, refused, given, ◌>>=◌}
 use Rattle.format.specs.Calls.{Filled, fill, message, fitting}
 use Rattle.format.proofs.ListLaws.{by_test}
-use Rattle.units.specs.declared.Filled as units
-use Rattle.units.specs.Filled.{filled_of}
+use Rattle.units.specs.declared.refusal.Refusal.{Refusal}
+use Rattle.units.specs.Refusal.{number_of, filled_of}
+use Rattle.units.proofs.RefusalLaws.{number_of-above}
 use Rattle.writing.specs.Written.{into, filled, written, Put}
 use Rattle.writing.proofs.WriteLaws.{filled-fits, written-fits}
 use Rattle.printing.specs.Printed.{words_read, number_line, PrintsFilled, Counts}
@@ -139,31 +140,27 @@ words_numbered read q input =
     numbered_bind 0 (fitting 65536 (given input)) _ (fitting_numbered 65536 (given input) tt) λ bs. fitting_numbered 16384 (read bs) (q bs)
 
 -- of a call that filled the buffer: the number and a newline, or what was filled
-module _ (o : Outcome (List ℕ)) (buffer : List ℕ) (g : units.Filled) (left : List ℕ) (e : filled_of g left ≡ fill o buffer) where
+module _ (o : Outcome (List ℕ)) (buffer left : List ℕ) where
   abbrev Prints : ℕ → List ℕ → Type 0
   Prints r after = Put (message (fitting (length buffer) o)) buffer r after × Counts r after
 
-  number_printed : ¬ (g.number ≡ 0) → (r : ℕ) (after : List ℕ) → Put (number_line g) left r after → Prints r after
+  number_printed : (x : Refusal) → filled_of (Err x) left ≡ fill o buffer → (r : ℕ) (after : List ℕ) → Put (number_line x) left r after → Prints r after
   unfolding message
-  number_printed z r after p =
-      let w = was_refused o buffer (filled_of g left) e z in
-      let q = subst (λ (b : List ℕ). Put (number_line g) b r after) w.1 p in
+  number_printed x e r after p =
+      let w = was_refused o buffer (filled_of (Err x) left) e (λ z. omega (arith, number_of-above x, z)) in
+      let q = subst (λ (b : List ℕ). Put (number_line x) b r after) w.1 p in
       (subst (λ (m : Outcome (List ℕ)). Put (message m) buffer r after) (sym w.0) q, counts-put _ _ after r p)
 
-  file_printed : Numbered o → g.number ≡ 0 → Prints g.len left
+  file_printed : Numbered o → (len : ℕ) → filled_of (Ok len) left ≡ fill o buffer → Prints len left
   unfolding message
-  file_printed q z =
-      let f = was_given o buffer (filled_of g left) e q z in
-      let p : Put f.out buffer g.len left =
+  file_printed q len e =
+      let f = was_given o buffer (filled_of (Ok len) left) e q refl in
+      let p : Put f.out buffer len left =
       (f.len ∙ sym (filled-fits f.out buffer f.fits), f.after ∙ sym (written-fits f.out buffer f.fits)) in
-      (subst (λ (m : Outcome (List ℕ)). Put (message m) buffer g.len left) (sym f.is) p, counts-put _ _ left g.len p)
+      (subst (λ (m : Outcome (List ℕ)). Put (message m) buffer len left) (sym f.is) p, counts-put _ _ left len p)
 
-  pub printed : Numbered o → (r : ℕ) (after : List ℕ) → PrintsFilled g left r after → Prints r after
-  printed q r after p =
-      by_test (eqb g.number 0)
-      (λ t. let n : r ≡ g.len = simp t at p.0 in
-      let b : after ≡ left = simp t at p.1 in
-      rw (n, b) (file_printed q (eqb-true g.number 0 t)))
-      (λ t. let n : r ≡ filled (number_line g) left = simp t at p.0 in
-      let b : after ≡ written (number_line g) left = simp t at p.1 in
-      number_printed (eqb-false g.number 0 t) r after (n, b))
+  pub printed :
+      Numbered o → (g : Result ℕ Refusal) → filled_of g left ≡ fill o buffer → (r : ℕ) (after : List ℕ) → PrintsFilled g left r after
+      → Prints r after
+  printed q (Ok len) e r after p = rw (p.0, p.1) (file_printed q len e)
+  printed q (Err x) e r after p = number_printed x e r after p

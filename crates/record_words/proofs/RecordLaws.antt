@@ -168,26 +168,18 @@ module _ (s : List ℕ) (p : ℕ) (body : List ℕ) where
   unfolding words_at record_words
   relocation-parts h n eh en q = rw (append-nil (text_words body), q, en, eh) refl
 
--- a kind without records
-pub other-words : (k : ℕ) (s : List ℕ) (p : ℕ) → (k ≡ 0 → ⊥) → (k ≡ 1 → ⊥) → (k ≡ 2 → ⊥) → (k ≡ 4 → ⊥) → words_at k s p ≡ []
-unfolding words_at
-other-words k s p a b c d = rw (ne_eqb k 0 a, ne_eqb k 1 b, ne_eqb k 2 c, ne_eqb k 4 d) refl
-
 pub put-nothing : {A : Type 0} (part room : List A) → part ≡ [] → Put part room 0 room
 unfolding filled written
 put-nothing part room e = let h : 0 ≤ length room = omega arith in rw (e, le-leb 0 (length room) h) (refl, refl)
 
 -- A WINDOW, place by place, and all windows
 module _ (f : ℕ → List ℕ) where
-  pub window-next : (win : List ℕ) (n i : ℕ) → i < n → n ≤ length win → flat_map f (drop i (take n win)) ≡ f (get_or win i 0)
-      ++ flat_map f (drop (i + 1) (take n win))
-  window-next win n i h l =
-      flat_map_at f 0 (take n win) i (omega (arith, length-take-le n win l))
-      ∙ ap (λ (p : ℕ). f p ++ flat_map f (drop (i + 1) (take n win))) (get_or-take n win i 0 h)
+  pub place-next : (ps : List ℕ) (i : ℕ) → i < length ps → flat_map f (drop i ps) ≡ f (get_or ps i 0) ++ flat_map f (drop (i + 1) ps)
+  place-next ps i h = flat_map_at f 0 ps i h
 
-  pub window-over : (win : List ℕ) (n i : ℕ) → n ≤ i → flat_map f (drop i (take n win)) ≡ []
+  pub place-over : (ps : List ℕ) (i : ℕ) → length ps ≤ i → flat_map f (drop i ps) ≡ []
   unfolding flat_map
-  window-over win n i h = ap (flat_map f) (drop_of_length-le (take n win) {i = i} (omega (arith, length-take n win)))
+  place-over ps i h = ap (flat_map f) (drop_of_length-le ps {i = i} h)
 
   pub windows_next : (front rest places : List ℕ) → front ++ rest ≡ places → flat_map f places ≡ flat_map f front ++ flat_map f rest
   windows_next front rest places e = ap (flat_map f) (sym e) ∙ flat_map-append f front rest

@@ -10,6 +10,9 @@ mod files;
 mod line;
 mod queries;
 
+// The most lines that are read.
+const TURNS: u64 = 1_000_000;
+
 // How one line came out: its answer is right, or it differs.
 fn is_right(text: &[u8]) -> bool {
     let call = line::byte_at(text, 0);
@@ -25,18 +28,14 @@ fn is_right(text: &[u8]) -> bool {
 fn main() {
     let mut lines = 0u64;
     let mut wrong = 0u64;
-    let mut turns = 1000000u64;
-    while turns > 0 {
-        turns -= 1;
+    for _ in 0..TURNS {
         let mut buffer = io::buffer();
-        let n = line::read_line(&mut buffer);
-        if n == 0 {
-            turns = 0;
-        } else {
-            lines = std::num::wrapping_add_u64(lines, 1);
-            if !is_right(&buffer) {
-                wrong = std::num::wrapping_add_u64(wrong, 1);
-            }
+        if line::read_line(&mut buffer) == 0 {
+            break;
+        }
+        lines = lines.wrapping_add(1);
+        if !is_right(&buffer) {
+            wrong = wrong.wrapping_add(1);
         }
     }
     io::print_decimal(1, lines);

@@ -1,3 +1,2 @@
-pub mod TripSteps
 pub mod Steps
 pub mod Rows

@@ -1,8 +1,14 @@
 // What the program prints.
 
-// The number of a trip, which ends its line.
-pub(crate) fn number(number: u8) {
-    io::print_decimal(1, number as u64);
+use units::Refusal;
+
+// The number of a trip, which ends its line: 0 where it isn't refused.
+pub(crate) fn outcome(r: Result<usize, Refusal>) {
+    let number = match r {
+        Ok(_) => 0,
+        Err(refusal) => u64::from(refusal.number()),
+    };
+    io::print_decimal(1, number);
     io::write_all(1, b"\n");
 }
 
@@ -13,13 +19,11 @@ fn word(w: u32) {
 
 // The words that stand, on one line.
 pub(crate) fn words(object: &[u32]) {
-    let mut i = 0;
-    while i < object.len() {
+    for (i, w) in object.iter().enumerate() {
         if i > 0 {
             io::write_all(1, b" ");
         }
-        word(object[i]);
-        i += 1;
+        word(*w);
     }
     io::write_all(1, b"\n");
 }

@@ -66,7 +66,7 @@ module _ (ws s : List ℕ) (e : given s ≡ source_of ws) where
   unfolding query_raw_line_span span_answer
   raw_given line a b q = ap span_answer (q ∙ through ws (given s) (λ t. raw_line_span t line) e)
 
-  pub raw_past : (line : ℕ) → refused 5 ≡ raw_line_span s line → record { number = 5; start = 0; end = 0 } ≡ query_raw_line_span ws line
+  pub raw_past : {n : ℕ} (line : ℕ) → refused n ≡ raw_line_span s line → record { number = n; start = 0; end = 0 } ≡ query_raw_line_span ws line
   unfolding query_raw_line_span span_answer
   raw_past line q = ap span_answer (q ∙ through ws (given s) (λ t. raw_line_span t line) e)
 
@@ -78,7 +78,7 @@ module _ (ws s : List ℕ) (e : given s ≡ source_of ws) where
       ap (λ x. span_answer (given x)) u ∙ ap (λ o. span_answer (o >>= λ x. given (trimmed s x))) q
       ∙ ap span_answer (through ws (given s) (λ t. line_span t line) e)
 
-  pub line-past : (line : ℕ) → refused 5 ≡ raw_line_span s line → record { number = 5; start = 0; end = 0 } ≡ query_line_span ws line
+  pub line-past : {n : ℕ} (line : ℕ) → refused n ≡ raw_line_span s line → record { number = n; start = 0; end = 0 } ≡ query_line_span ws line
   unfolding query_line_span span_answer line_span
   line-past line q = ap (λ o. span_answer (o >>= λ x. given (trimmed s x))) q ∙ ap span_answer (through ws (given s) (λ t. line_span t line) e)
 

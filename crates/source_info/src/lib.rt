@@ -8,65 +8,51 @@ ghost use Rattle.format.specs.Calls.{query_count_lines};
 ghost use Rattle.object.specs.Texts.{text_bytes, whole_words};
 ghost use Rattle.source_info.specs.Sources.{Sourced, SourceIs, count_answer};
 
-// Where the source's words begin.
+use object::Kind;
+use units::Refusal;
+
+// The source of an object: where its words begin, and how many bytes it has.
 #[derive(Clone, Copy)]
-pub enum Place {
-    At(usize),
-    Nothing,
+pub struct Source {
+    pub at: usize,
+    pub len: usize,
 }
 
-// The source of an object: where its words begin, and how many bytes it has; or the number that refuses.
-#[derive(Clone, Copy)]
-pub enum Source {
-    Words(usize, usize),
-    Refused(u8),
-}
-
-// How many lines a source has.
-#[derive(Clone, Copy)]
-pub struct LineCount {
-    pub number: u8,
-    pub lines: u64,
-}
-
-// Of a well formed object, the words of its source record.
-pub fn source_at(ws: &[u32]) -> Place
+// Of a well formed object, where the words of its source begin, if it has one.
+pub fn source_at(ws: &[u32]) -> Option<usize>
     ensures { Sourced ws.now result }
 {
     let mut at = 0;
     while at < ws.len() {
         let body = at + 1;
-        if object::kind(ws[at]) == 4 {
-            return Place::At(body);
+        if Kind::of(ws[at]) == Kind::Source {
+            return Some(body);
         }
         at = object::body_end(ws, body);
     }
-    Place::Nothing
+    None
 }
 
 // What every query asks first: is the object well formed, and has it a source?
-pub fn source_of(object: &[u32]) -> Source
+pub fn source_of(object: &[u32]) -> Result<Source, Refusal>
     ensures { SourceIs object.now result }
 {
-    let n = well_formed::check(object);
-    if n != 0 {
-        return Source::Refused(n);
-    }
-    let Place::At(at) = source_at(object) else {
-        return Source::Refused(4);
+    well_formed::check(object)?;
+    let Some(at) = source_at(object) else {
+        return Err(Refusal::NoSource);
     };
     let end = object::body_end(object, at);
-    Source::Words(at, object::text_len(object, at, end))
+    Ok(Source {
+        at,
+        len: object::text_len(object, at, end),
+    })
 }
 
 // 1 for a newline.
 fn one_newline(b: u32) -> u32
     ensures { result ≡ newlines (b ∷ []) }
 {
-    if b == 10 {
-        return 1;
-    }
-    0
+    u32::from(b == 10)
 }
 
 // The newlines in the first words of a text, counted without an exit from the loop.
@@ -76,12 +62,10 @@ fn newlines_in_words(ws: &[u32], at: usize, n: usize, words: usize) -> u64
         × (result + newlines (drop (3 * words) (text_bytes ws.now at n)) ≡ newlines (text_bytes ws.now at n)) }
 {
     let mut count: u64 = 0;
-    let mut k = 0;
-    while k < words {
+    for k in 0..words {
         let w = ws[at + k];
         let here = one_newline(w % 256) + one_newline(w / 256 % 256) + one_newline(w / 65536 % 256);
-        count += here as u64;
-        k += 1;
+        count += u64::from(here);
     }
     count
 }
@@ -92,25 +76,18 @@ pub fn count_newlines(ws: &[u32], at: usize, n: usize) -> u64
 {
     let words = object::whole_words(ws, at, n);
     let mut count = newlines_in_words(ws, at, n, words);
-    let mut i = 3 * words;
-    while i < n {
+    for i in 3 * words..n {
         if object::text_byte(ws, at, i) == 10 {
             count += 1;
         }
-        i += 1;
     }
     count
 }
 
 // The number of lines of the source.
-pub fn count_lines(object: &[u32]) -> LineCount
+pub fn count_lines(object: &[u32]) -> Result<u64, Refusal>
     ensures { count_answer result ≡ query_count_lines object.now }
 {
-    match source_of(object) {
-        Source::Words(at, n) => LineCount {
-            number: 0,
-            lines: count_newlines(object, at, n) + 1,
-        },
-        Source::Refused(number) => LineCount { number, lines: 0 },
-    }
+    let source = source_of(object)?;
+    Ok(count_newlines(object, source.at, source.len) + 1)
 }

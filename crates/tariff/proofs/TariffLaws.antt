@@ -1,6 +1,6 @@
 -- What lending costs by the number of the check, the length and the count of labels; and what the tariff's words say beside its
 -- definition. Assumes nothing.
-use mathlib.Core.Path.{◌≡◌, sym}
+use mathlib.Core.Path.{◌≡◌, refl, sym}
 use mathlib.Core.Bool.{Bool, true}
 use mathlib.Core.List.{List}
 use Prim.Native.Nat.{ℕ, ◌+◌, ◌*◌, ◌≤◌, ◌<◌}
@@ -28,6 +28,10 @@ nearest sum = (omega arith, omega arith)
 pub nearest_only : (sum fee : ℕ) → 100 * fee ≤ 70 * sum + 50 → 70 * sum < 100 * fee + 50 → fee ≡ payable true sum
 unfolding payable
 nearest_only sum fee a b = omega arith
+
+pub refused_is : (n : ℕ) → record { number = n; fee = 0; base = 0; words = 0; labels = 0 } ≡ refused_fee n
+unfolding refused_fee
+refused_is n = refl
 
 module _ (ws : List ℕ) (member : Bool) where
   -- words that are not well formed, however many

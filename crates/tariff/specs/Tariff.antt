@@ -1,8 +1,10 @@
 -- The lending tariff (document 02, P14): what lending an object costs, in cents. Assumes nothing.
-use Rattle.std.specs.Prelude.{Bool, true, false, List, ℕ, ◌+◌, ◌*◌, ◌/◌, length, leb}
+use Rattle.std.specs.Prelude.{Bool, true, false, List, ℕ, ◌+◌, ◌*◌, ◌/◌, length, leb, Result, Ok, Err}
 use Rattle.format.specs.Basics.{Outcome, refused, given, ◌>>=◌, ask}
 use Rattle.format.specs.Words.{object_of}
-use Rattle.tariff.specs.declared.Fee.{Fee}
+use Rattle.units.specs.Refusal.{number_of}
+use Rattle.units.specs.declared.refusal.Refusal.{Refusal}
+use Rattle.tariff.specs.declared.Fee as declared
 
 -- the three addends
 pub record Addends : Type 0 where
@@ -26,6 +28,14 @@ charges ws = do
   _ ← ask 38 (leb (length ws) 16777216)
   given (addends (length ws) (length h.labels))
 
+-- the number of the question that was answered no, or 0; the fee, and its three addends before the reduction
+pub record Fee : Type 0 where
+  pub number : ℕ
+  pub fee : ℕ
+  pub base : ℕ
+  pub words : ℕ
+  pub labels : ℕ
+
 -- "Give the fee and its three addends before the reduction."
 unfoldable pub fee_of : Bool → Addends → Fee
 fee_of member a = record {
@@ -48,6 +58,14 @@ fee_answer member (given a) = fee_of member a
 -- "Lending is charged per holding in cents": what lending these words costs a member college, or another one
 unfoldable pub lending_fee : List ℕ → Bool → Fee
 lending_fee ws member = fee_answer member (charges ws)
+
+-- number and values of what is handed back
+abbrev pub fee_charged : declared.Fee → Fee
+fee_charged f = record { number = 0; fee = f.fee; base = f.base; words = f.words; labels = f.labels }
+
+abbrev pub fee_told : Result declared.Fee Refusal → Fee
+fee_told (Ok f) = fee_charged f
+fee_told (Err r) = record { number = number_of r; fee = 0; base = 0; words = 0; labels = 0 }
 
 unfoldable pub open-Tariff : Unit {0}
 unfolding addends payable charges fee_of refused_fee fee_answer lending_fee

@@ -2,8 +2,7 @@
 use Rattle.std.specs.Prelude.{◌≡◌, true, false, List, [], ◌∷◌, ◌++◌, ℕ, ◌+◌, replicate}
 use Rattle.format.specs.Basics.{All}
 use Rattle.format.specs.Marked.{words18}
-use Rattle.tariff.specs.declared.Fee.{Fee}
-use Rattle.tariff.specs.Tariff.{lending_fee}
+use Rattle.tariff.specs.Tariff.{Fee, lending_fee}
 
 -- words, and what lending them costs a college that is no member, and a member
 pub record Case : Type 0 where

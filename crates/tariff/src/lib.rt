@@ -2,34 +2,21 @@
 #![tactic(auto)]
 
 ghost use Rattle.std.specs.Prelude.{◌≡◌, ◌≤◌};
-ghost use Rattle.tariff.specs.Tariff.{addends, payable, refused_fee, fee_of, lending_fee};
+ghost use Rattle.tariff.specs.Tariff.{addends, payable, fee_of, fee_charged, fee_told, lending_fee};
 
 use part_counts::count_parts;
+use units::Refusal;
 
 // The most words of an object that is lent.
 const MOST_WORDS: u64 = 16_777_216;
 
-// The number of the question that was answered no, or 0; the fee, and its three addends before the reduction.
+// What lending an object costs, and its three addends before the reduction.
 #[derive(Clone, Copy)]
 pub struct Fee {
-    pub number: u8,
     pub fee: u64,
     pub base: u64,
     pub words: u64,
     pub labels: u64,
-}
-
-// A refusal: everything else is 0, the base too.
-fn refused(number: u8) -> Fee
-    ensures { result ≡ refused_fee number }
-{
-    Fee {
-        number,
-        fee: 0,
-        base: 0,
-        words: 0,
-        labels: 0,
-    }
 }
 
 // "A member college pays 70 percent of the sum, rounded to the nearest cent, halves up."
@@ -46,11 +33,10 @@ fn payable(sum: u64, member: bool) -> u64
 // "150, plus 4 for each started 256 words of the holding, plus 1 per label", of so many words and labels.
 fn charge(words: u64, labels: u64, member: bool) -> Fee
     requires { (words ≤ 16_777_216) × (labels ≤ words) }
-    ensures { result ≡ fee_of member (addends words labels) }
+    ensures { fee_charged result ≡ fee_of member (addends words labels) }
 {
     let started = 4 * ((words + 255) / 256);
     Fee {
-        number: 0,
         fee: payable(150 + started + labels, member),
         base: 150,
         words: started,
@@ -59,17 +45,14 @@ fn charge(words: u64, labels: u64, member: bool) -> Fee
 }
 
 // What lending an object costs a member college, or another one.
-pub fn lending_fee(object: &[u32], member: bool) -> Fee
-    ensures { result ≡ lending_fee object.now member }
+pub fn lending_fee(object: &[u32], member: bool) -> Result<Fee, Refusal>
+    ensures { fee_told result ≡ lending_fee object.now member }
 {
-    let number = well_formed::check(object);
-    if number != 0 {
-        return refused(number);
-    }
+    well_formed::check(object)?;
     let words = object.len() as u64;
     if MOST_WORDS < words {
-        return refused(38);
+        return Err(Refusal::TooManyWords);
     }
     let counts = count_parts(object);
-    charge(words, counts.labels, member)
+    Ok(charge(words, counts.labels, member))
 }

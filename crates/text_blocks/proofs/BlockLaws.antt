@@ -329,24 +329,24 @@ module _ (t : List ℕ) (at words₀ : ℕ) (seen₀ : List ℕ) (i words : ℕ)
             );
       }
 
-  settled_as : (o : Outcome ObjectFile) (number : ℕ) (h₀ : ObjectFile) → o ≡ parse_text_group h₀ (parts_from t at).before → Settles o number seen words
-      → Settles (parse_text_group h₀ (parts_from t at).before) number seen words
-  settled_as o number h₀ e s = subst (λ (x : Outcome ObjectFile). Settles x number seen words) e s
+  settled_as : (o : Outcome ObjectFile) (number n : ℕ) (h₀ : ObjectFile) → o ≡ parse_text_group h₀ (parts_from t at).before → Settles o number seen n
+      → Settles (parse_text_group h₀ (parts_from t at).before) number seen n
+  settled_as o number n h₀ e s = subst (λ (x : Outcome ObjectFile). Settles x number seen n) e s
 
   pub marking_again : (a n p q : ℕ) → BlockFrom t i a n p q → is_marked seen a ≡ true → (h₀ : ObjectFile) → Seen h₀ seen₀ → Counts h₀ words₀
-      → Settles (parse_text_group h₀ (parts_from t at).before) 25 seen words
+      → Settles (parse_text_group h₀ (parts_from t at).before) 25 seen 0
   marking_again a n p q b old h₀ s c =
       let w = m.stands h₀ s c in
-      settled_as (refused 25) 25 h₀
+      settled_as (refused 25) 25 0 h₀
       (sym (text_again w.0 (parts_from t i).before b.first b.lines b.rows (record { address = a; words = b.words }) n b.read (w.1 a ∙ old)) ∙ w.3)
       refl
 
-  pub marking_bad : NoBlock t i → (h₀ : ObjectFile) → Seen h₀ seen₀ → Counts h₀ words₀ → Settles (parse_text_group h₀ (parts_from t at).before) 24 seen words
+  pub marking_bad : NoBlock t i → (h₀ : ObjectFile) → Seen h₀ seen₀ → Counts h₀ words₀ → Settles (parse_text_group h₀ (parts_from t at).before) 24 seen 0
   marking_bad b h₀ s c =
       let w = m.stands h₀ s c in
-      settled_as (refused 24) 24 h₀ (sym (text-bad w.0 (parts_from t i).before b.first b.lines b.rows b.read) ∙ w.3) refl
+      settled_as (refused 24) 24 0 h₀ (sym (text-bad w.0 (parts_from t i).before b.first b.lines b.rows b.read) ∙ w.3) refl
 
   pub marking_end : (parts_from t i).before ≡ [] → (h₀ : ObjectFile) → Seen h₀ seen₀ → Counts h₀ words₀ → Settles (parse_text_group h₀ (parts_from t at).before) 0 seen words
   marking_end e h₀ s c =
       let w = m.stands h₀ s c in
-      settled_as (given w.0) 0 h₀ (sym (text-end w.0 (parts_from t i).before e) ∙ w.3) (refl, w.1, w.2)
+      settled_as (given w.0) 0 words h₀ (sym (text-end w.0 (parts_from t i).before e) ∙ w.3) (refl, w.1, w.2)

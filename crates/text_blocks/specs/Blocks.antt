@@ -1,6 +1,7 @@
 -- .TEXT from a place on: blocks, parsed first and put then, and the addresses seen so far.
 -- Assumes nothing.
-use Rattle.std.specs.Prelude.{◌≡◌, ℕ, zero, suc, ◌+◌, ◌*◌, ◌/◌, ◌%◌, ◌^◌, ◌<◌, ◌≤◌, Bool, true, false, ◌&&◌, List, [], ◌∷◌, map, length, drop, ◌==◌, ◌≢◌, nat_lt, slice_index, slice_set, if◌then◌else◌}
+use Rattle.std.specs.Prelude as std
+use Rattle.std.specs.Prelude.{Some, None, Result, Ok, Err, ◌≡◌, ℕ, zero, suc, ◌+◌, ◌*◌, ◌/◌, ◌%◌, ◌^◌, ◌<◌, ◌≤◌, Bool, true, false, ◌&&◌, List, [], ◌∷◌, map, length, drop, ◌==◌, ◌≢◌, nat_lt, slice_index, slice_set, if◌then◌else◌}
 use mathlib.Core.List.{flat_map}
 use Rattle.std.proofs.Math.Option.{Option, none, some}
 use Rattle.format.specs.Basics.{Outcome, refused, given, and_then, is_some}
@@ -8,13 +9,11 @@ use Rattle.format.specs.Sorted.{at_key}
 use Rattle.format.specs.TextReader.{hex2u16, parse_decimal, parse_number, maybe_hex2u16, parse_text_group}
 use Rattle.format.specs.ObjectFile.{ObjectFile, Block, block_key}
 use Rattle.text_lines.specs.Lines.{is_four_long}
-use Rattle.text_lines.specs.declared.Passed.{Passed}
-use Rattle.text_lines.specs.declared.Passed.TheVariants as pa
+use Rattle.units.specs.declared.refusal.Refusal.{Refusal}
+use Rattle.units.specs.Refusal.{number_of}
 use Rattle.text_blocks.specs.declared.Text.{Text}
 use Rattle.text_blocks.specs.declared.Body.{Body}
-use Rattle.text_blocks.specs.declared.Body.TheVariants as bo
-use Rattle.text_blocks.specs.declared.BlockStep.{BlockStep}
-use Rattle.text_blocks.specs.declared.BlockStep.TheVariants as bl
+use Rattle.text_blocks.specs.declared.TextBlock.{TextBlock}
 use Rattle.format.specs.Records.{block}
 use Rattle.format.specs.Words.{memory_word, record_words}
 use Rattle.trim.specs.Span.{part}
@@ -80,9 +79,9 @@ pub record EntryTo (t : List ℕ) (at q : ℕ) : Type 0 where
   pub entry : Option ℕ
   pub read : some entry ≡ maybe_hex2u16 (part start end t)
 
-abbrev pub OneEntry : List ℕ → ℕ → Passed → Type 0
-OneEntry t at (pa.To q) = EntryTo t at q
-OneEntry t at pa.Bad = (n : ℕ) → 0 < n → is_some (words_in n (parts_from t at).before) ≡ false
+abbrev pub OneEntry : List ℕ → ℕ → std.Option ℕ → Type 0
+OneEntry t at (Some q) = EntryTo t at q
+OneEntry t at None = (n : ℕ) → 0 < n → is_some (words_in n (parts_from t at).before) ≡ false
 
 -- lines of the group that were passed over, n of them, all entries
 pub record EntriesAt (t : List ℕ) (at n q : ℕ) : Type 0 where
@@ -90,9 +89,9 @@ pub record EntriesAt (t : List ℕ) (at n q : ℕ) : Type 0 where
   pub read : is_some (words_in n (parts_from t at).before) ≡ true
   pub same : parts_from t q ≡ record { before = drop n (parts_from t at).before; groups = (parts_from t at).groups }
 
-abbrev pub Entries : List ℕ → ℕ → ℕ → Passed → Type 0
-Entries t at n (pa.To q) = EntriesAt t at n q
-Entries t at n pa.Bad = is_some (words_in n (parts_from t at).before) ≡ false
+abbrev pub Entries : List ℕ → ℕ → ℕ → std.Option ℕ → Type 0
+Entries t at n (Some q) = EntriesAt t at n q
+Entries t at n None = is_some (words_in n (parts_from t at).before) ≡ false
 
 -- a block from its count on: the count, where its entries start, and the place after them
 pub record BodyAt (t : List ℕ) (at n p q : ℕ) : Type 0 where
@@ -102,9 +101,9 @@ pub record BodyAt (t : List ℕ) (at n p q : ℕ) : Type 0 where
   pub count : some n ≡ parse_number 10 65536 (part start end t)
   pub entries : EntriesAt t p n q
 
-abbrev pub BodyIs : List ℕ → ℕ → Body → Type 0
-BodyIs t at (bo.At n p q) = BodyAt t at n p q
-BodyIs t at bo.Bad = (l : List ℕ) → block_in (l ∷ (parts_from t at).before) ≡ none
+abbrev pub BodyIs : List ℕ → ℕ → std.Option Body → Type 0
+BodyIs t at (Some b) = BodyAt t at b.count b.entries b.next
+BodyIs t at None = (l : List ℕ) → block_in (l ∷ (parts_from t at).before) ≡ none
 
 -- a block: its address and count, where its entries start, and the place after them
 pub record BlockFrom (t : List ℕ) (at a n p q : ℕ) : Type 0 where
@@ -126,10 +125,10 @@ pub record NoBlock (t : List ℕ) (at : ℕ) : Type 0 where
   pub rows : (parts_from t at).before ≡ first ∷ lines
   pub read : block_in (parts_from t at).before ≡ none
 
-abbrev pub NextBlock : List ℕ → ℕ → BlockStep → Type 0
-NextBlock t at (bl.At a n p q) = BlockFrom t at a n p q
-NextBlock t at bl.Done = (parts_from t at).before ≡ []
-NextBlock t at bl.Bad = NoBlock t at
+abbrev pub NextBlock : List ℕ → ℕ → Result (std.Option TextBlock) Refusal → Type 0
+NextBlock t at (Ok (Some b)) = BlockFrom t at b.address b.count b.entries b.next
+NextBlock t at (Ok None) = (parts_from t at).before ≡ []
+NextBlock t at (Err r) = (number_of r ≡ 24) × NoBlock t at
 
 -- the mark of an address: bit a % 8 of byte a / 8
 unfoldable pub is_marked : List ℕ → ℕ → Bool
@@ -156,11 +155,18 @@ abbrev pub Settles : Outcome ObjectFile → ℕ → List ℕ → ℕ → Type 0
 Settles (refused n) number seen words = number ≡ n
 Settles (given h) number seen words = (number ≡ 0) × Seen h seen × Counts h words
 
-abbrev pub text_at : ℕ → ℕ → ℕ → Text
-text_at number next words = record { number = number; next = next; words = words }
+-- what a check comes to: its number, the place after the group, and the count of words; refused, it is at the group's place
+pub record Checked : Type 0 where
+  pub number : ℕ
+  pub next : ℕ
+  pub words : ℕ
+
+abbrev pub text_view : ℕ → Result Text Refusal → Checked
+text_view at (Ok r) = record { number = 0; next = r.next; words = r.words }
+text_view at (Err r) = record { number = number_of r; next = at; words = 0 }
 
 -- What a check of .TEXT's lines comes to, from marks and a count that stand for any object. With fewer than 8,192 bytes of marks nothing is marked: 3.
-pub record BlocksChecked (t : List ℕ) (at words : ℕ) (seen seen' : List ℕ) (r : Text) : Type 0 where
+pub record BlocksChecked (t : List ℕ) (at words : ℕ) (seen seen' : List ℕ) (r : Checked) : Type 0 where
   pub from : at ≤ r.next
   pub after : r.number ≡ 0 → parts_from t r.next ≡ record { before = []; groups = (parts_from t at).groups }
   pub short : length seen < 8192 → (r.number ≡ 3) × (seen' ≡ seen)

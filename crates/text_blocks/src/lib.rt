@@ -2,36 +2,19 @@
 #![tactic(auto)]
 
 ghost use Rattle.std.specs.Prelude.{◌≡◌, ◌/◌, ◌<◌, true, false, length, slice_index};
-ghost use Rattle.format.specs.Basics.{is_some};
-ghost use Rattle.format.specs.TextReader.{hex2u16, maybe_hex2u16};
-ghost use Rattle.text_blocks.specs.Blocks.{is_table, four_word, short_entry, OneEntry, Entries, BodyIs, NextBlock, is_marked, marked, text_at, BlocksChecked};
+ghost use Rattle.text_blocks.specs.Blocks.{is_table, four_word, short_entry, OneEntry, Entries, BodyIs, NextBlock, is_marked, marked, text_view, BlocksChecked};
 
-use std::num::wrapping_add_usize;
-use text_cells::{Entry, Number, decimal, hex2u16, maybe_hex2u16};
-use text_lines::{Line, Passed, is_four_long, next_row};
+use text_cells::{decimal, hex2u16, maybe_hex2u16};
+use text_lines::{is_four_long, next_row};
+use units::Refusal;
 
 // A block of .TEXT: where its entries start, and the place after them.
 #[derive(Clone, Copy)]
-pub enum BlockStep {
-    At {
-        address: u16,
-        count: u16,
-        entries: usize,
-        next: usize,
-    },
-    Done,
-    Bad,
-}
-
-// An entry is there.
-fn is_entry(s: &[u8]) -> bool
-    ensures { result ≡ is_some (maybe_hex2u16 s.now) }
-{
-    match maybe_hex2u16(s) {
-        Entry::Value(_) => true,
-        Entry::Unknown => true,
-        Entry::Nothing => false,
-    }
+pub struct TextBlock {
+    pub address: u16,
+    pub count: u16,
+    pub entries: usize,
+    pub next: usize,
 }
 
 // What a byte of an entry stands for: a digit for its value, `?` for 61, and any other byte for 255. The sum of four shows whether they are all
@@ -98,41 +81,32 @@ pub fn short_entry(t: &[u8], at: usize, digits: &[u8; 256]) -> u32
 }
 
 // Past the entry at a place.
-fn pass_entry(t: &[u8], at: usize, digits: &[u8; 256]) -> Passed
+fn pass_entry(t: &[u8], at: usize, digits: &[u8; 256]) -> Option<usize>
     requires { is_table digits.now ≡ true }
     ensures { OneEntry t.now at result }
 {
     if short_entry(t, at, digits) != 0 {
-        return Passed::To(at + 4 + 1);
+        return Some(at + 4 + 1);
     }
-    let Line::At { start, end, next } = next_row(t, at) else {
-        return Passed::Bad;
-    };
-    if !is_entry(&t[start..end]) {
-        return Passed::Bad;
-    }
-    Passed::To(next)
+    let line = next_row(t, at)?;
+    maybe_hex2u16(&t[line.start..line.end])?;
+    Some(line.next)
 }
 
 // The next n lines of the group, all of them entries, by a table of what bytes stand for.
-fn pass_each(t: &[u8], at: usize, n: usize, digits: &[u8; 256]) -> Passed
+fn pass_each(t: &[u8], at: usize, n: usize, digits: &[u8; 256]) -> Option<usize>
     requires { is_table digits.now ≡ true }
     ensures { Entries t.now at n result }
 {
     let mut i = at;
-    let mut left = n;
-    while 0 < left {
-        let Passed::To(next) = pass_entry(t, i, digits) else {
-            return Passed::Bad;
-        };
-        i = next;
-        left -= 1;
+    for passed in 0..n {
+        i = pass_entry(t, i, digits)?;
     }
-    Passed::To(i)
+    Some(i)
 }
 
 // The next n lines of the group, all of them entries.
-pub fn pass_entries(t: &[u8], at: usize, n: usize) -> Passed
+pub fn pass_entries(t: &[u8], at: usize, n: usize) -> Option<usize>
     ensures { Entries t.now at n result }
 {
     let digits = DIGITS;
@@ -141,89 +115,52 @@ pub fn pass_entries(t: &[u8], at: usize, n: usize) -> Passed
 
 // What follows a block's address: its count, where its entries start, and the place after them.
 #[derive(Clone, Copy)]
-pub enum Body {
-    At {
-        count: u16,
-        entries: usize,
-        next: usize,
-    },
-    Bad,
+struct Body {
+    count: u16,
+    entries: usize,
+    next: usize,
 }
 
 // A block of .TEXT from its count on.
-fn block_body(t: &[u8], at: usize) -> Body
+fn block_body(t: &[u8], at: usize) -> Option<Body>
     ensures { BodyIs t.now at result }
 {
-    let Line::At {
-        start,
-        end,
-        next: entries,
-    } = next_row(t, at)
-    else {
-        return Body::Bad;
-    };
-    let Number::Value(n) = decimal(&t[start..end], 65535) else {
-        return Body::Bad;
-    };
-    let Passed::To(next) = pass_entries(t, entries, n as usize) else {
-        return Body::Bad;
-    };
-    Body::At {
-        count: n as u16,
-        entries: entries,
-        next: next,
-    }
+    let line = next_row(t, at)?;
+    let count = decimal(&t[line.start..line.end], 65535)?;
+    let next = pass_entries(t, line.next, count as usize)?;
+    Some(Body {
+        count: count as u16,
+        entries: line.next,
+        next,
+    })
 }
 
-// The next block of .TEXT.
-pub fn next_block(t: &[u8], at: usize) -> BlockStep
+// The next block of .TEXT, if there is one; one that doesn't read is refused.
+pub fn next_block(t: &[u8], at: usize) -> Result<Option<TextBlock>, Refusal>
     ensures { NextBlock t.now at result }
 {
-    let Line::At {
-        start,
-        end,
-        next: from,
-    } = next_row(t, at)
-    else {
-        return BlockStep::Done;
+    let Some(line) = next_row(t, at) else {
+        return Ok(None);
     };
-    let Number::Value(a) = hex2u16(&t[start..end]) else {
-        return BlockStep::Bad;
+    let Some(address) = hex2u16(&t[line.start..line.end]) else {
+        return Err(Refusal::BadBlock);
     };
-    let Body::At {
-        count,
-        entries,
-        next,
-    } = block_body(t, from)
-    else {
-        return BlockStep::Bad;
+    let Some(body) = block_body(t, line.next) else {
+        return Err(Refusal::BadBlock);
     };
-    BlockStep::At {
-        address: a as u16,
-        count: count,
-        entries: entries,
-        next: next,
-    }
+    Ok(Some(TextBlock {
+        address,
+        count: body.count,
+        entries: body.entries,
+        next: body.next,
+    }))
 }
 
-// What the check of a .TEXT group comes to: its number, the place after the group, and how many words the blocks up to there have, as 64 bits
-// count.
+// The place after a .TEXT group, and how many words the blocks up to there have, as 64 bits count.
 #[derive(Clone, Copy)]
 pub struct Text {
-    pub number: u8,
     pub next: usize,
     pub words: usize,
-}
-
-// What the check comes to so far: a number, a place and a count.
-fn text_at(number: u8, next: usize, words: usize) -> Text
-    ensures { result ≡ text_at number next words }
-{
-    Text {
-        number: number,
-        next: next,
-        words: words,
-    }
 }
 
 // Whether an address is marked.
@@ -244,33 +181,22 @@ fn mark(seen: &mut [u8], a: usize)
 }
 
 // The lines of a .TEXT group, checked; the addresses of its blocks are marked, and their words counted.
-pub fn parse_text(t: &[u8], at: usize, words: usize, seen: &mut [u8]) -> Text
-    ensures { BlocksChecked t.now at words seen.old seen.new result }
+pub fn parse_text(t: &[u8], at: usize, words: usize, seen: &mut [u8]) -> Result<Text, Refusal>
+    ensures { BlocksChecked t.now at words seen.old seen.new (text_view at result) }
 {
     if seen.len() < 8192 {
-        return text_at(3, at, words);
+        return Err(Refusal::ShortBuffer);
     }
     let mut i = at;
     let mut n = words;
-    loop {
-        let step = next_block(t, i);
-        match step {
-            BlockStep::At {
-                address,
-                count,
-                entries: _,
-                next,
-            } => {
-                let a = address as usize;
-                if is_marked(seen, a) {
-                    return text_at(25, at, n);
-                }
-                mark(seen, a);
-                n = wrapping_add_usize(n, 1 + count as usize);
-                i = next;
-            }
-            BlockStep::Done => return text_at(0, i, n),
-            BlockStep::Bad => return text_at(24, at, n),
+    while let Some(block) = next_block(t, i)? {
+        let a = block.address as usize;
+        if is_marked(seen, a) {
+            return Err(Refusal::RepeatedBlock);
         }
+        mark(seen, a);
+        n = n.wrapping_add(1 + block.count as usize);
+        i = block.next;
     }
+    Ok(Text { next: i, words: n })
 }

@@ -3,7 +3,7 @@
 use mathlib.Core.Path.{◌≡◌, refl, sym, ap, ◌∙◌, subst}
 use mathlib.Core.Bool.{Bool, true, false, true≢false, ◌&&◌}
 use mathlib.Core.List.{List, [], ◌∷◌}
-use mathlib.Core.Option.{none, some}
+use mathlib.Core.Option.{Option, none, some}
 use Prim.Native.Nat.{ℕ, zero, suc, ◌+◌, ◌-◌, ◌≤◌, ◌<◌}
 use native.Mathlib.Omega.{arith}
 use lib.ListN.{length, take, drop, get_or, length-drop, drop_of_length-le}
@@ -11,11 +11,11 @@ use lib.Seq.{drop-length, take-nil, get_or-drop}
 use lib.Dec.{ltb, eqb}
 use borrow.Author.Tests.{ne_eqb, eqb-true, eqb-false, ltb-true, ltb-false}
 use Rattle.format.specs.Basics.{begins_with, ascii}
+use Rattle.format.specs.TextReader as reader
 use Rattle.format.specs.TextReader.{split_once, splitn}
 use Rattle.trim.specs.Span.{Spans}
 use Rattle.text_cells.specs.Cells.{bar_at, Cut}
-use Rattle.text_cells.specs.declared.Divider.{Divider}
-use Rattle.text_cells.specs.declared.Divider.TheVariants as dv
+use Rattle.std.specs.Prelude.{Some, None}
 use Rattle.text_lines.proofs.TestLaws.{by_test, front, and_no, drop_more}
 use Rattle.text_lines.proofs.LineLaws.{to_end}
 
@@ -55,6 +55,16 @@ module _ (s : List ℕ) (p : ℕ) (h : p + 2 < length s) where
   bar_space e =
       by_test (eqb (get_or s p 0) 0x20) (λ t. eqb-true (get_or s p 0) 0x20 t)
       (λ t. absurd (true≢false (sym e ∙ bar_no0 (eqb-false (get_or s p 0) 0x20 t))))
+
+  -- its bytes
+  pub bar_bytes : bar_at s p ≡ true → (get_or s p 0 ≡ 0x20) × (get_or s (p + 1) 0 ≡ 0x7C) × (get_or s (p + 2) 0 ≡ 0x20)
+  bar_bytes e = (
+    bar_space e,
+    by_test (eqb (get_or s (p + 1) 0) 0x7C) (λ t. eqb-true (get_or s (p + 1) 0) 0x7C t)
+        (λ t. absurd (true≢false (sym e ∙ bar_no1 (eqb-false (get_or s (p + 1) 0) 0x7C t)))),
+    by_test (eqb (get_or s (p + 2) 0) 0x20) (λ t. eqb-true (get_or s (p + 2) 0) 0x20 t)
+        (λ t. absurd (true≢false (sym e ∙ bar_no2 (eqb-false (get_or s (p + 2) 0) 0x20 t)))),
+  )
 
 -- too few bytes
 short : (bs : List ℕ) → length bs < 3 → begins_with (0x20 ∷ 0x7C ∷ 0x20 ∷ []) bs ≡ false
@@ -178,12 +188,25 @@ cell-past s at k h =
     sym (ap (λ (l : List ℕ). get_or (splitn k l) 0 []) e
     ∙ by_test (eqb k 0) (λ t. cell_last0 [] k 0 (eqb-true k 0 t) (omega arith)) (λ t. cell_last1 [] k 0 (eqb-false k 0 t) once_none (omega arith)))
 
--- what was found in the rest of the row
-pub none-there : (s : List ℕ) (at : ℕ) (r : Divider) → Cut (take (length s - at) (drop at s)) r → r ≡ dv.Nothing → split_once (drop at s) ≡ none
-none-there s at r h e = subst (λ (l : List ℕ). Cut l dv.Nothing) (to_end s at) (subst (Cut (take (length s - at) (drop at s))) e h)
+-- past the last cut there is no cell
+missing_after : (o : Option (List ℕ × List ℕ)) (bs : List ℕ) (k j : ℕ) → ((rest : List ℕ) → get_or (splitn k rest) j [] ≡ [])
+    → get_or (reader.first_cell bs (λ rest. splitn k rest) o) (suc j) [] ≡ []
+missing_after none bs k j f = refl
+missing_after (some p) bs k j f = f p.1
 
-pub some_there : (s : List ℕ) (at p : ℕ) (r : Divider) → Cut (take (length s - at) (drop at s)) r → r ≡ dv.At p → Cut (drop at s) (dv.At p)
-some_there s at p r h e = subst (λ (l : List ℕ). Cut l (dv.At p)) (to_end s at) (subst (Cut (take (length s - at) (drop at s))) e h)
+pub cell_missing : (k i : ℕ) (bs : List ℕ) → k < i → get_or (splitn k bs) i [] ≡ []
+unfolding splitn
+cell_missing zero zero bs h = absurd (omega arith)
+cell_missing zero (suc i) bs h = refl
+cell_missing (suc k) zero bs h = absurd (omega arith)
+cell_missing (suc k) (suc i) bs h = missing_after (split_once bs) bs k i (λ rest. cell_missing k i rest (omega arith))
+
+-- what was found in the rest of the row
+pub none-there : (s : List ℕ) (at : ℕ) → Cut (take (length s - at) (drop at s)) None → split_once (drop at s) ≡ none
+none-there s at h = subst (λ (l : List ℕ). Cut l None) (to_end s at) h
+
+pub some_there : (s : List ℕ) (at p : ℕ) → Cut (take (length s - at) (drop at s)) (Some p) → Cut (drop at s) (Some p)
+some_there s at p h = subst (λ (l : List ℕ). Cut l (Some p)) (to_end s at) h
 
 -- spans of cells
 module _ (s : List ℕ) (x : List ℕ) where

@@ -19,32 +19,10 @@ const FIRST_BAD: u64 = 1;
 const HEX_DIGITS: usize = 4;
 
 // The digit 0.
-const ZERO: u8 = 0x30;
+const ZERO: u8 = b'0';
 
 // The most that has room for one more digit: a tenth of the largest 64-bit number, rounded down.
 const MOST_TENTH: u64 = 1844674407370955161;
-
-// What a cell says.
-#[derive(Clone, Copy)]
-pub enum Number {
-    Value(u64),
-    Nothing,
-}
-
-// A word or an address, or ????.
-#[derive(Clone, Copy)]
-pub enum Entry {
-    Value(u16),
-    Unknown,
-    Nothing,
-}
-
-// Where the first divider stands.
-#[derive(Clone, Copy)]
-pub enum Divider {
-    At(usize),
-    Nothing,
-}
 
 // The value of a digit; 16 if it is none. By sums, since no branch foresees the digits of a word: from `0` up to `?` the digits end in 0 to 9
 // of 16, and past that the letters in 1 to 6 of 32, which is 9 less than their value.
@@ -94,82 +72,74 @@ fn hex_digit(b: u8) -> u64
 }
 
 // A decimal number that is at most `max`: digits alone, with leading zeros or without.
-pub fn decimal(s: &[u8], max: u64) -> Number
+pub fn decimal(s: &[u8], max: u64) -> Option<u64>
     ensures { number_read result ≡ parse_decimal (max + 1) s.now }
 {
     if s.len() == 0 {
-        return Number::Nothing;
+        return None;
     }
     let mut v: u64 = 0;
-    let mut i = 0;
-    while i < s.len() {
-        let b = s[i];
+    for &b in s {
         if b < ZERO {
-            return Number::Nothing;
+            return None;
         }
-        if 0x39 < b {
-            return Number::Nothing;
+        if b'9' < b {
+            return None;
         }
         // Past 64 bits it is past any `max`, whatever follows.
         if MOST_TENTH < v {
-            return Number::Nothing;
+            return None;
         }
         let d = (b % 16) as u64;
-        if 18446744073709551615 - d < v * 10 {
-            return Number::Nothing;
+        if u64::MAX - d < v * 10 {
+            return None;
         }
         v = v * 10 + d;
-        i += 1;
     }
     if max < v {
-        return Number::Nothing;
+        return None;
     }
-    Number::Value(v)
+    Some(v)
 }
 
 // Four hexadecimal digits, without a branch that a digit decides.
-pub fn hex2u16(s: &[u8]) -> Number
+pub fn hex2u16(s: &[u8]) -> Option<u16>
     ensures { number_read result ≡ hex2u16 s.now }
 {
     if s.len() != HEX_DIGITS {
-        return Number::Nothing;
+        return None;
     }
     let mut v = 0;
     let mut bad = 0;
-    let mut i = 0;
-    while i < 4 {
-        let d = hex_digit(s[i]);
-        bad = bad + d / 16;
+    for &b in s {
+        let d = hex_digit(b);
+        bad += d / 16;
         v = v * 16 + d;
-        i += 1;
     }
     if bad < FIRST_BAD {
-        return Number::Value(v);
+        return Some(v as u16);
     }
-    Number::Nothing
+    None
 }
 
-const UNKNOWN: [u8; 4] = [0x3F, 0x3F, 0x3F, 0x3F];
-
-// A word or an address, or ????.
-pub fn maybe_hex2u16(s: &[u8]) -> Entry
+// An entry, if it reads: a word or an address, or ????, which is none of them.
+pub fn maybe_hex2u16(s: &[u8]) -> Option<Option<u16>>
     ensures { entry_of result ≡ maybe_hex2u16 s.now }
 {
-    let unknown = UNKNOWN;
-    if equals(s, &unknown) {
-        return Entry::Unknown;
+    if equals(s, b"????") {
+        return Some(None);
     }
-    let Number::Value(v) = hex2u16(s) else {
-        return Entry::Nothing;
-    };
-    Entry::Value(v as u16)
+    let word = hex2u16(s)?;
+    Some(Some(word))
 }
 
 // A ` | ` stands at a place.
-fn is_divider(s: &[u8], at: usize) -> bool
-    requires { at + 2 < length s.now }
+pub fn is_divider(s: &[u8], at: usize) -> bool
     ensures { result ≡ bar_at s.now at }
 {
+    if s.len().saturating_sub(2) <= at {
+        return false;
+    }
     if s[at] != 0x20 {
         return false;
     }
@@ -180,17 +150,15 @@ fn is_divider(s: &[u8], at: usize) -> bool
 }
 
 // Where the first ` | ` stands.
-fn find_divider(s: &[u8]) -> Divider
+fn find_divider(s: &[u8]) -> Option<usize>
     ensures { Cut s.now result }
 {
-    let mut i = 0;
-    while 2 < s.len() - i {
+    for i in 0..s.len().saturating_sub(2) {
         if is_divider(s, i) {
-            return Divider::At(i);
+            return Some(i);
         }
-        i += 1;
     }
-    Divider::Nothing
+    None
 }
 
 // The first cell of a row from a place on, where it is cut at k dividers at most; past the row's end it is empty.
@@ -204,7 +172,7 @@ pub fn first_cell(s: &[u8], at: usize, k: usize) -> Span
     if k == 0 {
         return Span { start: at, end: n };
     }
-    let Divider::At(p) = find_divider(&s[at..]) else {
+    let Some(p) = find_divider(&s[at..]) else {
         return Span { start: at, end: n };
     };
     Span {
@@ -218,21 +186,17 @@ pub fn find_cell(s: &[u8], k: usize, i: usize) -> Span
     ensures { Spans s.now result.start result.end (get_or (splitn k s.now) i []) }
 {
     let n = s.len();
+    if k < i {
+        return Span { start: n, end: n };
+    }
     let mut at = 0;
-    let mut cuts = k;
-    let mut cell = i;
-    while 0 < cell {
-        if cuts == 0 {
-            return Span { start: n, end: n };
-        }
-        let Divider::At(p) = find_divider(&s[at..]) else {
+    for _cell in 0..i {
+        let Some(p) = find_divider(&s[at..]) else {
             return Span { start: n, end: n };
         };
         at += p + 3;
-        cuts -= 1;
-        cell -= 1;
     }
-    first_cell(s, at, cuts)
+    first_cell(s, at, k - i)
 }
 
 // The same, trimmed.
@@ -240,9 +204,7 @@ pub fn trimmed_cell(s: &[u8], k: usize, i: usize) -> Span
     ensures { Spans s.now result.start result.end (trim (get_or (splitn k s.now) i [])) }
 {
     let c = find_cell(s, k, i);
-    let start = c.start;
-    let end = c.end;
-    trim(s, start, end)
+    trim(s, c.start, c.end)
 }
 
 // Whether a cell of four bytes stands at a place, with a divider after it.
@@ -322,7 +284,5 @@ pub fn cell_is(l: &[u8], k: usize, i: usize, name: &[u8]) -> bool
     ensures { result ≡ eqs (trim (get_or (splitn k l.now) i [])) name.now }
 {
     let c = trimmed_cell(l, k, i);
-    let start = c.start;
-    let end = c.end;
-    equals(&l[start..end], name)
+    equals(&l[c.start..c.end], name)
 }

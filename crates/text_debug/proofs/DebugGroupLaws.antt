@@ -22,12 +22,14 @@ use Rattle.text_tables.proofs.DebugLaws.{up_all}
 use Rattle.text_tables.proofs.ReadLaws.{foldl, through_parse, table_any}
 use Rattle.text_tables.proofs.LabelLaws.{label-row}
 use Rattle.text_source.specs.Stream.{source_cell}
-use Rattle.text_debug.specs.LineTable.{line_columns, source_in, Makes, TableNumber, LineTableIs}
-use Rattle.text_debug.specs.declared.LineTable.{LineTable}
+use Rattle.text_debug.specs.LineTable.{line_columns, source_in, Makes, LineTable, TableNumber, LineTableIs}
 use Rattle.text_debug.specs.DebugGroup.{LastBar, FirstRow, line_blocks_in}
 use Rattle.text_debug.specs.LineRuns.{address_in}
 use Rattle.text_debug.specs.DebugGroup.{LinesSet, without_rows, Barred, DebugSettles, DebugChecked}
-use Rattle.text_lines.specs.declared.Passed.TheVariants as pa
+use Rattle.std.specs.Prelude.{Some, Result, Ok, Err}
+use Rattle.std.specs.Result.{result_unwrap_or}
+use Rattle.units.specs.declared.refusal.Refusal.{Refusal}
+use Rattle.text_tables.specs.Symbols.{place_or}
 use Rattle.format.proofs.Numbered.{RefusedAbove, refused_by, rows_numbered, numbered_unescape}
 use Rattle.text_debug.proofs.LineTableLaws.{Parsed, row, end, rows_28, source_of, rest, opened}
 
@@ -61,7 +63,7 @@ module _ (t : List ℕ) (from a e n : ℕ) (s : StepAt (line_view t) t from a e 
   unfolding is_empty
   row_last q = ap is_empty (rest_of_lem ∙ q)
 
-  pub row_first : is_empty (line_view t n).0 ≡ false → FirstRow t from (pa.To n)
+  pub row_first : is_empty (line_view t n).0 ≡ false → FirstRow t from (Some n)
   row_first q = (s.next, ap is_empty rest_of_lem ∙ q, sym rest_of_lem)
 
 -- THE LABEL TABLE
@@ -318,6 +320,11 @@ module _ (t : List ℕ) (at number next : ℕ) (l : LabelsChecked t at number ne
   pub no_bar_from : (split_at_bar (parts_from t next).before).after ≡ none → (split_at_bar (parts_from t at).before).after ≡ none
   no_bar_from e = sym (ap (λ (z : Option (List (List ℕ)) × Groups). z.0) l.after) ∙ e
 
+-- the place where the label table ends, or its own where it is refused
+pub place_of : (at : ℕ) (r : Result ℕ Refusal) → result_unwrap_or r at ≡ place_or at r
+place_of at (Ok next) = refl
+place_of at (Err r) = refl
+
 -- a refusal
 pub checked_no : (t : List ℕ) (at : ℕ) (b : Bool) (n : ℕ) → (n ≡ 0 → ⊥)
     → ((h : ObjectFile) → is_some h.source ≡ b → DebugSettles false (line_view t 0).0 h n (parse_debug_group h (parts_from t at).before))
@@ -362,7 +369,7 @@ module _ (t : List ℕ) (at : ℕ) (full : is_empty (parts_from t at).before ≡
     pub checked-last : up_to_bar (parts_from t q).before ≡ none → DebugChecked t at b (without_rows 27 at)
     checked-last u = checked_no t at b 27 (λ z. omega (arith, z)) λ h g. debug_last h _ _ _ first.2 (line_view t 0).0 _ bar.after u
 
-    pub checked-labels : (m : ℕ) → LastBar t q (pa.To m) → (k : ℕ) → k ≡ refusal_of (parse_label_table empty_object (label_view t at).0)
+    pub checked-labels : (m : ℕ) → LastBar t q (Some m) → (k : ℕ) → k ≡ refusal_of (parse_label_table empty_object (label_view t at).0)
         → (k ≡ 0 → ⊥) → DebugChecked t at b (without_rows k at)
     checked-labels m u k w ne = checked_no t at b k ne λ h g. debug_labels h _ _ _ first.2 (line_view t 0).0 _ _ bar.after u.2 k w ne
 
@@ -390,7 +397,7 @@ module _ (t : List ℕ) (at q m : ℕ) (d : Barred t at q m) (b : Bool) (k : Lin
               debug_unlined h _ _ _ line.2 (line_view t 0).0 _ _ d.first.after d.last.2 d.labels b k.number is.0 g z o;
         }
 
-    pub checked-lined : (p : ℕ) → FirstRow t q (pa.To p)
+    pub checked-lined : (p : ℕ) → FirstRow t q (Some p)
         → DebugChecked t at b (record { number = 0; next = m; lined = true; rows = p; lines = k.lines })
     checked-lined p o =
         record {

@@ -3,23 +3,25 @@ use Rattle.std.proofs.Common.{◌≡◌, ℕ, suc, Bool, true, false, not, eqb, 
 use mathlib.Core.List.{flat_map}
 use mathlib.Core.Option.{Option, none, some}
 use Rattle.std.specs.Prelude.{if◌then◌else◌}
+use Rattle.std.specs.Prelude as std
+use Rattle.std.specs.Prelude.{Some, None}
+use Rattle.std.specs.Option as options
+use Rattle.text_lines.specs.declared.Line.{Line}
+use Rattle.text_tables.specs.Debug.{NextIn}
 use Rattle.format.specs.Basics.{Outcome, refused, given, ◌>>=◌, ask, need, is_some, is_empty}
 use Rattle.format.specs.Utf8.{trim}
 use Rattle.format.specs.ObjectFile.{ObjectFile}
 use Rattle.format.specs.Records.{with_lines}
 use Rattle.format.specs.TextReader.{splitn, cell_at, same_cells, rows_under, parse_decimal, maybe_hex2u16, parse_line_rows, runs_from, unescape, parse_line_table}
-use Rattle.format.specs.Calls.{refusal_of}
+use Rattle.format.specs.Calls.{Measured, refusal_of}
 use Rattle.text_lines.proofs.TestLaws.{by_test}
 use Rattle.trim.specs.Span.{part}
 use Rattle.text_lines.specs.Views.{StepAt}
 use Rattle.text_tables.specs.Debug.{Groups, line_view}
 use Rattle.text_source.specs.Stream.{source_cell}
 use Rattle.text_source.specs.Unescape.{UnescapedIs}
-use Rattle.text_source.specs.declared.Unescaped.{Unescaped}
-use Rattle.text_debug.specs.LineTable.{line_columns, source_in, without_lines, LineTableIs, RowTableIs}
-use Rattle.text_debug.specs.declared.LineTable.{LineTable}
-use Rattle.text_debug.specs.LineRuns.{LineRowsAre}
-use Rattle.text_debug.specs.declared.LineRows.{LineRows}
+use Rattle.text_debug.specs.LineTable.{line_columns, source_in, LineTable, without_lines, LineTableIs, RowTableIs}
+use Rattle.text_debug.specs.LineRuns.{RowsRead, LineRowsAre}
 
 abbrev pub Parsed : Type 0
 Parsed = Option ℕ × List ℕ
@@ -165,6 +167,15 @@ module _ (t : List ℕ) (from a e n : ℕ) (s : StepAt (line_view t) t from a e 
       → RowTableIs (line_view t n).0 b r → LineTableIs (line_view t from).0 b r
   header_good q b r k = subst (λ (ls : List (List ℕ)). LineTableIs ls b r) (sym first) (k (part a e t) q)
 
+-- whether there is a row
+pub some-row : (t : List ℕ) (from : ℕ) (r : std.Option Line) → NextIn (line_view t) t from r → options.is_some r ≡ true → is_empty (line_view t from).0 ≡ false
+some-row t from (Some l) s q = not-empty t from l.start l.end l.next s
+some-row t from None s q = absurd (true≢false (sym q))
+
+pub no-row : (t : List ℕ) (from : ℕ) (r : std.Option Line) → NextIn (line_view t) t from r → options.is_some r ≡ false → (line_view t from).0 ≡ []
+no-row t from (Some l) s q = absurd (true≢false q)
+no-row t from None s q = s
+
 -- rows, under any header
 module _ (rows : List (List ℕ)) (b : Bool) where
   pub rows-bad : (k : ℕ) → k ≡ refusal_of (parse_line_rows 0 rows) → (k ≡ 0 → ⊥) → RowTableIs rows b (without_lines k)
@@ -179,8 +190,11 @@ module _ (rows : List (List ℕ)) (b : Bool) where
       pub rows_again : b ≡ true → RowTableIs rows b (without_lines 29)
       rows_again y l q = ((λ h g. table_again h l rows q z w (g ∙ y)), λ o. absurd (omega (arith, o)))
 
-      pub rows-source : b ≡ false → (u : Unescaped) → UnescapedIs (unescape (flat_map source_cell rows)) u
-          → (r : LineRows) → LineRowsAre rows r → r.number ≡ 0
+      pub rows-escape : b ≡ false → (k : ℕ) → k ≡ refusal_of (unescape (flat_map source_cell rows)) → (k ≡ 0 → ⊥) → RowTableIs rows b (without_lines k)
+      rows-escape y k e ne l q = ((λ h g. table_source h l rows q z w (g ∙ y) k e), λ o. absurd (ne o))
+
+      pub rows-source : b ≡ false → (u : Measured) → UnescapedIs (unescape (flat_map source_cell rows)) u
+          → (r : RowsRead) → LineRowsAre rows r → r.number ≡ 0
           → RowTableIs rows b (record { number = u.number; lines = record { len = u.len; words = r.words; rise = r.rise } })
       unfolding source_in
       rows-source y u k r x zero l q = (

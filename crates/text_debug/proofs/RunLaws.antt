@@ -1,5 +1,6 @@
 -- The runs of a line table's rows, a row more. Assumes nothing.
-use Rattle.std.proofs.Common.{◌≡◌, ℕ, ◌+◌, ◌%◌, ◌^◌, ◌≤◌, Bool, true, false, not, ◌&&◌, List, [], map, sym, refl, ap, ◌∙◌, arith, eq-eqb, ne_eqb}
+use Rattle.std.proofs.Common.{◌≡◌, ℕ, ◌+◌, ◌%◌, ◌^◌, ◌≤◌, List, [], map, sym, ap, ◌∙◌, arith, eq-eqb, ne_eqb}
+use Rattle.std.specs.Prelude as std
 use mathlib.Core.Option.{Option, none, some}
 use Rattle.format.specs.Basics.{and_then}
 use Rattle.trim.specs.Span.{part}
@@ -18,16 +19,8 @@ pub words_some : (words count : ℕ) → (count ≡ 0 → ⊥) → (words + (4 +
 unfolding words_after
 words_some words count e = simp (ne_eqb count 0 e)
 
-pub fallen : (rise fell : Bool) → fell ≡ true → false ≡ (rise && not fell)
-fallen true fell e = sym (ap not e)
-fallen false fell e = refl
-
-pub risen : (rise fell : Bool) → fell ≡ false → rise ≡ (rise && not fell)
-risen true fell e = sym (ap not e)
-risen false fell e = refl
-
 -- a row, as it was read
-pub row_next : (l : List ℕ) (row : LineRow) → line_of row ≡ line_in l → (s r : Runs) → r ≡ run_next s (row_address row) → r ≡ run_next s (address_in l)
+pub row_next : (l : List ℕ) (row : std.Option LineRow) → line_of row ≡ line_in l → (s r : Runs) → r ≡ run_next s (row_address row) → r ≡ run_next s (address_in l)
 unfolding address_in
 row_next l row e s r q = q ∙ ap (λ (x : Option (ℕ × Option ℕ)). run_next s (and_then x λ p. p.1)) e
 

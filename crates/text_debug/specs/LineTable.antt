@@ -1,5 +1,5 @@
 -- The line table's number, and what its rows make. Assumes nothing.
-use Rattle.std.specs.Prelude.{◌≡◌, ℕ, ◌%◌, ◌^◌, Bool, true, false, List, [], ◌∷◌, map, length, drop}
+use Rattle.std.specs.Prelude.{Result, Ok, Err, ◌≡◌, ℕ, ◌%◌, ◌^◌, Bool, true, false, List, [], ◌∷◌, map, length, drop}
 use mathlib.Core.List.{flat_map}
 use Rattle.format.specs.Basics.{ascii, given_or, is_some, is_empty}
 use Rattle.format.specs.ObjectFile.{ObjectFile}
@@ -8,7 +8,8 @@ use Rattle.format.specs.TextReader.{splitn, same_cells, unescape, parse_line_tab
 use Rattle.format.specs.Calls.{refusal_of}
 use Rattle.text_source.specs.Stream.{source_cell}
 use Rattle.text_debug.specs.declared.Lines.{Lines}
-use Rattle.text_debug.specs.declared.LineTable.{LineTable}
+use Rattle.units.specs.declared.refusal.Refusal.{Refusal}
+use Rattle.units.specs.Refusal.{number_of}
 use Rattle.text_debug.specs.LineRuns.{runs_in}
 
 abbrev pub line_columns : List (List ℕ)
@@ -25,9 +26,18 @@ Makes ls r = (r.len ≡ length (source_in ls) % 2 ^ 64) × (r.words ≡ (runs_in
 abbrev pub no_lines : Lines
 no_lines = record { len = 0; words = 0; rise = true }
 
+-- what a line table comes to: its number, and what its rows make, where it reads and has rows
+pub record LineTable : Type 0 where
+  pub number : ℕ
+  pub lines : Lines
+
 -- the answer for a line table that is refused, or that has no rows
 abbrev pub without_lines : ℕ → LineTable
 without_lines number = record { number = number; lines = no_lines }
+
+abbrev pub table_view : Result Lines Refusal → LineTable
+table_view (Ok lines) = record { number = 0; lines = lines }
+table_view (Err r) = without_lines (number_of r)
 
 -- the number of these lines as a line table, for every object that has a source, or that has none
 abbrev pub TableNumber : List (List ℕ) → Bool → ℕ → Type 0

@@ -30,7 +30,9 @@ use Rattle.word_chars.specs.Stretches.{Stretch}
 use Rattle.word_chars.proofs.StretchLaws.{stretch_within}
 use Rattle.object.specs.Texts.{text_byte, text_bytes, span_bytes, EachByte}
 use Rattle.object.proofs.ByteLaws.{bytes-here, bytes-end}
-use Rattle.text_escape.specs.Escaped.{letter_of, code_text, escape_next, escape_from, escaped_in, Itself}
+use Rattle.std.specs.Prelude as prelude
+use Rattle.std.specs.Prelude.{Some, None, ◌≢◌}
+use Rattle.text_escape.specs.Escaped.{letter_of, Letter, code_text, escape_next, escape_from, escaped_in, Itself}
 
 -- THE NUMERAL: six digits hold a scalar value
 numeral-short : (k : ℕ) (n : ℕ) (ds : List ℕ) → n < 16 → numeral k 16 n ds ≡ lower_digit n ∷ ds
@@ -65,6 +67,15 @@ hex_short n = length-numeral 19 16 n []
 pub code-length : (c : ℕ) → length (code_text c) ≡ length (numeral 19 16 c []) + 4
 unfolding code_text ascii
 code-length c = let e = length-append (numeral 19 16 c []) (0x7D ∷ []) in omega arith
+
+-- what the code's answer says of a letter
+pub has_letter : (n : ℕ) (r : prelude.Option ℕ) → Letter n r → prelude.is_some r ≡ true → n ≢ 0
+has_letter n (Some l) h e = h.1
+has_letter n None h e = let z : true ≡ false = sym e in cc
+
+pub lacks_letter : (n : ℕ) (r : prelude.Option ℕ) → Letter n r → prelude.is_some r ≡ false → n ≡ 0
+lacks_letter n (Some l) h e = let z : true ≡ false = e in cc
+lacks_letter n None h e = sym h
 
 -- A CHARACTER, by its letter
 abbrev lettered : Bool → Bool → Bool → Bool → Bool → Bool → ℕ

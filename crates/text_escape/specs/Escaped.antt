@@ -1,6 +1,7 @@
 -- `escape_default`, character by character. That the escapes of a text are those of its scalar values is said in proofs/EscapeLaws.
 -- Assumes nothing.
-use Rattle.std.specs.Prelude.{◌≡◌, Bool, true, List, [], ◌∷◌, ◌++◌, ℕ, zero, suc, ◌<◌, drop, eqb, if◌then◌else◌}
+use Rattle.std.specs.Prelude as prelude
+use Rattle.std.specs.Prelude.{Some, None, ◌≢◌, ◌≡◌, Bool, true, List, [], ◌∷◌, ◌++◌, ℕ, zero, suc, ◌<◌, drop, eqb, if◌then◌else◌}
 use Rattle.std.proofs.Math.Option.{Option, none, some}
 use Rattle.format.specs.Basics.{ascii}
 use Rattle.format.specs.Utf8.{char_at}
@@ -17,6 +18,11 @@ letter_of c =
     else if eqb c 0x22 then 0x22
     else if eqb c 0x5C then 0x5C
     else 0
+
+-- what the code's answer says of a letter: none is 0
+abbrev pub Letter : ℕ → prelude.Option ℕ → Type 0
+Letter n (Some l) = (l ≡ n) × (n ≢ 0)
+Letter n None = 0 ≡ n
 
 -- "`\u{..}`, lower-case hex, no leading zeros", of any 64-bit number
 unfoldable pub code_text : ℕ → List ℕ

@@ -5,13 +5,13 @@ ghost use Rattle.std.specs.Prelude.{◌≡◌, true, ◌++◌, ◌+◌, ◌-◌,
 ghost use Rattle.format.specs.TextWriter.{escape_char, decimal, to_right, text_line};
 ghost use Rattle.writing.specs.Written.{Put};
 ghost use Rattle.measuring.specs.Room.{room_of, less, less_part};
-ghost use Rattle.text_numerals.specs.Memory.{known_word};
+ghost use Rattle.text_numerals.specs.Memory.{word_of};
 ghost use Rattle.object.specs.Texts.{EachIn, span_bytes};
 ghost use Rattle.word_chars.specs.Stretches.{Stretch};
-ghost use Rattle.text_escape.specs.Escaped.{letter_of, code_text, escaped_in, Itself, Plain};
+ghost use Rattle.text_escape.specs.Escaped.{letter_of, Letter, code_text, escaped_in, Itself, Plain};
 ghost use Rattle.text_escape.specs.Rows.{line_line, address_cell, row_head, newline_bytes, plain_cell, PlainUpTo};
 
-use measuring::Room;
+use measuring::take;
 use object::{put_span, text_byte, whole_words};
 use text_numerals::{count_digits, count_hex, put_hex, put_memory, put_right};
 use utf8::Char;
@@ -26,35 +26,26 @@ const TABLE_DIV: [u8; 3] = [0x20, 0x7C, 0x20];
 // A newline, escaped, and the end of a row.
 const NEWLINE: [u8; 3] = [0x5C, 0x6E, 0x0A];
 
-// The letter after the backslash of a character that has one; 0 of others. Letters pass at the first test.
-fn letter(c: u32) -> u8
-    ensures { result ≡ letter_of c }
+// The letter after the backslash of a character that has one. Letters pass at the first test.
+fn letter(c: u32) -> Option<u8>
+    ensures { Letter (letter_of c) result }
 {
     if 0x5C < c {
-        return 0;
-    }
-    if c == 0x5C {
-        return 0x5C;
-    }
-    if 0x27 < c {
-        return 0;
-    }
-    if c == 0x27 {
-        return 0x27;
-    }
-    if c == 0x22 {
-        return 0x22;
-    }
-    if c == 0x0A {
-        return 0x6E;
-    }
-    if c == 0x0D {
-        return 0x72;
+        return None;
     }
     if c == 0x09 {
-        return 0x74;
+        return Some(b't');
     }
-    0
+    if c == 0x0A {
+        return Some(b'n');
+    }
+    if c == 0x0D {
+        return Some(b'r');
+    }
+    if c == 0x22 || c == 0x27 || c == 0x5C {
+        return Some(c as u8);
+    }
+    None
 }
 
 // How many bytes a character is escaped as.
@@ -62,7 +53,7 @@ fn escaped_len(c: u32) -> usize
     requires { c < 0x110000 }
     ensures { result ≡ length (escape_char c) }
 {
-    if letter(c) != 0 {
+    if letter(c).is_some() {
         return 2;
     }
     if c < 0x20 {
@@ -95,10 +86,8 @@ fn put_escaped_char(out: &mut [u8], c: u32) -> usize
     requires { c < 0x110000 }
     ensures { Put (escape_char c) out.old result out.new }
 {
-    let l = letter(c);
-    if l != 0 {
-        let pair = [0x5C, l];
-        return put_bytes(out, &pair);
+    if let Some(l) = letter(c) {
+        return put_bytes(out, &[b'\\', l]);
     }
     if c < 0x20 {
         return put_code(out, c);
@@ -161,7 +150,7 @@ fn plain_head(ws: &[u32], at: usize, end: usize, i: usize) -> usize
     k
 }
 
-// Whole words of them from byte `i` on.
+// Whole words of them from byte `i` on. Where the walk stops is the answer, which a `for` would have to give in two places.
 fn plain_words(ws: &[u32], at: usize, end: usize, i: usize) -> usize
     ensures { Stretch Itself ws.now at end i result }
 {
@@ -179,7 +168,7 @@ fn plain_words(ws: &[u32], at: usize, end: usize, i: usize) -> usize
     3 * k
 }
 
-// They, byte by byte.
+// They, byte by byte; likewise.
 fn plain_bytes(ws: &[u32], at: usize, end: usize, i: usize) -> usize
     ensures { Stretch Itself ws.now at end i result }
 {
@@ -203,28 +192,27 @@ fn plain_end(ws: &[u32], at: usize, end: usize, i: usize) -> usize
 }
 
 // The room that the bytes from `start` up to `end` of a text leave, escaped.
-pub fn measure_escaped(room: usize, ws: &[u32], at: usize, start: usize, end: usize) -> Room
+pub fn measure_escaped(
+    room: usize,
+    ws: &[u32],
+    at: usize,
+    start: usize,
+    end: usize,
+) -> Option<usize>
     ensures { room_of result ≡ less_part room (escaped_in ws.now at start end) }
 {
     let mut left = room;
     let mut i = start;
     while i < end {
         let j = plain_end(ws, at, end, i);
-        if left < j - i {
-            return Room::Short;
-        }
-        left -= j - i;
-        let Char::Scalar { value, more } = word_chars::char_in(ws, at, j, end) else {
-            return Room::Left(left);
+        let rest = take(left, j - i)?;
+        let Some(Char { value, more }) = word_chars::char_in(ws, at, j, end) else {
+            return Some(rest);
         };
-        let n = escaped_len(value);
-        if left < n {
-            return Room::Short;
-        }
-        left -= n;
+        left = take(rest, escaped_len(value))?;
         i = j + (more + 1);
     }
-    Room::Left(left)
+    Some(left)
 }
 
 // They, escaped, into a room that suffices.
@@ -237,7 +225,7 @@ fn put_chars(out: &mut [u8], ws: &[u32], at: usize, start: usize, end: usize) ->
     while i < end {
         let j = plain_end(ws, at, end, i);
         n += put_span(&mut out[n..], ws, at, i, j);
-        let Char::Scalar { value, more } = word_chars::char_in(ws, at, j, end) else {
+        let Some(Char { value, more }) = word_chars::char_in(ws, at, j, end) else {
             return n;
         };
         n += put_escaped_char(&mut out[n..], value);
@@ -256,47 +244,39 @@ fn escaped_fits(room: usize, ws: &[u32], at: usize, start: usize, end: usize) ->
     if end - start <= room / 10 {
         return true;
     }
-    match measure_escaped(room, ws, at, start, end) {
-        Room::Left(_) => true,
-        Room::Short => false,
-    }
+    measure_escaped(room, ws, at, start, end).is_some()
 }
 
 // How wide a number is in a column.
 fn column(width: usize, number: u64) -> usize
     ensures { result ≡ length (to_right width (decimal number)) }
 {
-    let len = count_digits(number);
-    if width < len {
-        return len;
-    }
-    width
+    count_digits(number).max(width)
 }
 
-// The room that a row of the line table leaves: a line number, its address if it is known, and the bytes from `start` up to `end` of
-// the source.
+// A row of the line table up to its last cell: a line number, and its address if it is known.
+#[derive(Clone, Copy)]
+pub struct Row {
+    pub number: u64,
+    pub address: Option<u16>,
+}
+
+// The room that a row of the line table leaves with the bytes from `start` up to `end` of the source.
 pub fn measure_line_row(
     room: usize,
     width: usize,
-    number: u64,
-    known: bool,
-    address: u16,
+    row: Row,
     ws: &[u32],
     at: usize,
     start: usize,
     end: usize,
-) -> Room
+) -> Option<usize>
     ensures { room_of result
-        ≡ less_part room (line_line width number (known_word known address) (escaped_in ws.now at start end)) }
+        ≡ less_part room (line_line width row.number (word_of row.address) (escaped_in ws.now at start end)) }
 {
-    let head = column(width, number);
-    if room < 11 {
-        return Room::Short;
-    }
-    if room - 11 < head {
-        return Room::Short;
-    }
-    measure_escaped(room - 11 - head, ws, at, start, end)
+    let left = take(room, 11)?;
+    let rest = take(left, column(width, row.number))?;
+    measure_escaped(rest, ws, at, start, end)
 }
 
 // Whether it fits: two dividers, an address and a newline take eleven bytes.
@@ -323,23 +303,23 @@ fn row_fits(
 }
 
 // The second cell of a row between two dividers, into a room that suffices: an address, or ???? where it isn't known.
-fn put_address_cell(out: &mut [u8], known: bool, address: u16) -> usize
-    requires { length (address_cell (known_word known address)) ≤ length out.old }
-    ensures { Put (address_cell (known_word known address)) out.old result out.new }
+fn put_address_cell(out: &mut [u8], address: Option<u16>) -> usize
+    requires { length (address_cell (word_of address)) ≤ length out.old }
+    ensures { Put (address_cell (word_of address)) out.old result out.new }
 {
     let div = TABLE_DIV;
     let mut k = put_bytes(out, &div);
-    k += put_memory(&mut out[k..], known, address);
+    k += put_memory(&mut out[k..], address);
     k + put_bytes(&mut out[k..], &div)
 }
 
 // A row up to its last cell, into a room that suffices.
-fn put_row_head(out: &mut [u8], width: usize, number: u64, known: bool, address: u16) -> usize
-    requires { length (row_head width number (known_word known address)) ≤ length out.old }
-    ensures { Put (row_head width number (known_word known address)) out.old result out.new }
+fn put_row_head(out: &mut [u8], width: usize, row: Row) -> usize
+    requires { length (row_head width row.number (word_of row.address)) ≤ length out.old }
+    ensures { Put (row_head width row.number (word_of row.address)) out.old result out.new }
 {
-    let k = put_right(out, width, number);
-    k + put_address_cell(&mut out[k..], known, address)
+    let k = put_right(out, width, row.number);
+    k + put_address_cell(&mut out[k..], row.address)
 }
 
 // The last cell of a row, escaped, and its newline, into a room that suffices.
@@ -355,21 +335,19 @@ fn put_source_cell(out: &mut [u8], ws: &[u32], at: usize, start: usize, end: usi
 pub fn put_line_row(
     out: &mut [u8],
     width: usize,
-    number: u64,
-    known: bool,
-    address: u16,
+    row: Row,
     ws: &[u32],
     at: usize,
     start: usize,
     end: usize,
 ) -> usize
-    ensures { Put (line_line width number (known_word known address) (escaped_in ws.now at start end))
+    ensures { Put (line_line width row.number (word_of row.address) (escaped_in ws.now at start end))
         out.old result out.new }
 {
-    if !row_fits(out.len(), width, number, ws, at, start, end) {
+    if !row_fits(out.len(), width, row.number, ws, at, start, end) {
         return 0;
     }
-    let k = put_row_head(out, width, number, known, address);
+    let k = put_row_head(out, width, row);
     k + put_source_cell(&mut out[k..], ws, at, start, end)
 }
 
@@ -386,31 +364,19 @@ pub fn plain_line(ws: &[u32], at: usize, n: usize, start: usize) -> usize
 }
 
 // The room that a row of so many bytes that stand for themselves leaves: the newline is two bytes more.
-pub fn measure_plain_row(room: usize, width: usize, number: u64, len: usize) -> Room
+pub fn measure_plain_row(room: usize, width: usize, number: u64, len: usize) -> Option<usize>
     ensures { room_of result ≡ less room (13 + length (to_right width (decimal number)) + len) }
 {
-    let head = column(width, number);
-    if room < 13 {
-        return Room::Short;
-    }
-    let left = room - 13;
-    if left < head {
-        return Room::Short;
-    }
-    if left - head < len {
-        return Room::Short;
-    }
-    Room::Left(left - head - len)
+    let left = take(room, 13)?;
+    let rest = take(left, column(width, number))?;
+    take(rest, len)
 }
 
 // How many bytes there are from `start` up to `end`.
 fn span_len(start: usize, end: usize) -> usize
     ensures { result ≡ end - start }
 {
-    if end <= start {
-        return 0;
-    }
-    end - start
+    end.saturating_sub(start)
 }
 
 // The last cell of a row whose bytes stand for themselves, and its newline, into a room that suffices.
@@ -427,20 +393,18 @@ fn put_plain_cell(out: &mut [u8], ws: &[u32], at: usize, start: usize, end: usiz
 pub fn put_plain_row(
     out: &mut [u8],
     width: usize,
-    number: u64,
-    known: bool,
-    address: u16,
+    row: Row,
     ws: &[u32],
     at: usize,
     start: usize,
     end: usize,
 ) -> usize
-    ensures { Put (line_line width number (known_word known address) (plain_cell ws.now at start end))
+    ensures { Put (line_line width row.number (word_of row.address) (plain_cell ws.now at start end))
         out.old result out.new }
 {
-    let Room::Left(_) = measure_plain_row(out.len(), width, number, span_len(start, end)) else {
+    if measure_plain_row(out.len(), width, row.number, span_len(start, end)).is_none() {
         return 0;
-    };
-    let k = put_row_head(out, width, number, known, address);
+    }
+    let k = put_row_head(out, width, row);
     k + put_plain_cell(&mut out[k..], ws, at, start, end)
 }

@@ -2,13 +2,13 @@
 #![tactic(auto)]
 
 ghost use Rattle.std.specs.Prelude.{◌≡◌};
-ghost use Rattle.format.specs.Calls.{read_text, measured, WritesText, ReadsText};
-ghost use Rattle.units.specs.Filled.{filled_of, measured_of};
+ghost use Rattle.format.specs.Trips.{text};
 ghost use Rattle.text_format.specs.Formats.{text_format};
 
+use object_format::ObjectFormat;
 use text_read::{read_text, text_length};
 use text_write::write_text;
-use units::{Filled, Measured};
+use units::Refusal;
 
 // The text format: it has no version, and its first line is part of its grammar.
 #[derive(Clone, Copy)]
@@ -21,25 +21,20 @@ impl TextFormat {
     {
         TextFormat
     }
+}
 
-    // The file of an object, into the buffer lent: the length filled, or the number of the question that was answered no.
-    pub fn serialize(self, object: &[u32], out: &mut [u8]) -> Filled
-        ensures { WritesText object.now out.old (filled_of result out.new) }
-    {
+impl ObjectFormat for TextFormat {
+    ghost form = { text };
+
+    fn serialize(self, object: &[u32], out: &mut [u8]) -> Result<usize, Refusal> {
         write_text(object, out)
     }
 
-    // Whether a file reads, and how many words its object has; nothing is written.
-    pub fn length(self, s: &[u8]) -> Measured
-        ensures { measured_of result ≡ measured (read_text s.now) }
-    {
-        text_length(s)
+    fn length(self, file: &[u8]) -> Result<usize, Refusal> {
+        text_length(file)
     }
 
-    // The object of a file, into the buffer lent: the length filled, or the number of the question that was answered no.
-    pub fn deserialize(self, s: &[u8], out: &mut [u32]) -> Filled
-        ensures { ReadsText s.now out.old (filled_of result out.new) }
-    {
-        read_text(s, out)
+    fn deserialize(self, file: &[u8], out: &mut [u32]) -> Result<usize, Refusal> {
+        read_text(file, out)
     }
 }

@@ -13,13 +13,15 @@ use Rattle.std.specs.Prelude.{if◌then◌else◌}
 use Rattle.format.specs.Sorted.{order, by_ordering}
 use Rattle.format.specs.Records.{Record, label}
 use Rattle.format.specs.Words.{record_words}
-use Rattle.text_rows.specs.Rows.{symbol_row, label_row, row_in, row_at, labels_in, join_one, join_labels, only_symbol, only_start, both_fields}
+use Rattle.text_rows.specs.Rows.{number_of, symbol_row, label_row, row_in, row_at, labels_in, join_one, join_labels, only_symbol, only_start, both_fields}
 use Rattle.text_gather.specs.Keys.{line_at, cell_at, address_at}
 use Rattle.text_gather.specs.Order.{left}
 use Rattle.text_words.specs.Written.{external_at, index_at, symbol_words, words_at}
 use Rattle.text_labels.specs.declared.Stream.{Stream}
-use Rattle.text_labels.specs.declared.Next.{Next}
-use Rattle.text_labels.specs.Labels.{labels_of, left_in, Within, Refilled, chosen, both_words, next_words, stepped}
+use Rattle.label_items.specs.declared.Next.{Next}
+use Rattle.label_items.specs.declared.Next.TheVariants as next
+use Rattle.label_items.specs.Joins.{Tables, tables_of, chosen}
+use Rattle.text_labels.specs.Labels.{labels_of, left_in, Within, Refilled, both_words, next_words, stepped}
 use borrow.Rule.Slice.PartMut.{mid_of, put_mid}
 use Rattle.format.specs.Sorted.{sorted}
 use Rattle.text_rows.specs.Rows.{row_key, rows_of}
@@ -74,7 +76,7 @@ module _ (t : List ℕ) (p q : ℕ) (rs ds rs' ds' : List Record) where
   abbrev pub kept : Bool → List Record → List Record → List Record
   kept used after before = if used then after else before
 
-  abbrev Turn : Next → Type 0
+  abbrev Turn : Tables → Type 0
   Turn x =
       ((not x.symbol && not x.start) ≡ true → label_words rs ds ≡ [])
       × ((not x.symbol && not x.start) ≡ false → label_words rs ds ≡ next_words x t p q ∷ label_words (kept x.symbol rs' rs) (kept x.start ds' ds))
@@ -117,6 +119,12 @@ module _ (t : List ℕ) (p q : ℕ) (rs ds rs' ds' : List Record) where
       ((λ h. no (sym h)), (λ _. ap₂ label_words x y ∙ by_keys t p q rs' ds' ∙ ap (three t p q rs' ds') (sym e) ∙ ap (λ (z : List Record). words_at 3 t q ∷ label_words z ds') (sym x)), omega (arith, m), (λ _. omega (arith, m)))
 
 -- a table that the next label is from has rows left
+-- a label that there is has a row of a table
+pub some_left : (x : Next) → (not (tables_of x).symbol && not (tables_of x).start) ≡ false
+some_left next.Symbol = refl
+some_left next.Start = refl
+some_left next.Both = refl
+
 pub chosen_symbols : (a b : Bool) (o : Ordering) → (chosen a b o).symbol ≡ true → a ≡ true
 unfolding chosen
 chosen_symbols false b o h = h
@@ -132,7 +140,7 @@ chosen-starts true true o h = refl
 module _ (t sw dw : List ℕ) (s d : Stream) (p q : ℕ) (ws : Within 1 sw s) (wd : Within 3 dw d)
     (ep : s.i < s.n → p ≡ get_or sw s.i 0) (eq : d.i < d.n → q ≡ get_or dw d.i 0)
     (es : s.n ≤ s.i → left_in 1 t sw s ≡ []) (ed : d.n ≤ d.i → left_in 3 t dw d ≡ [])
-    (x : Next) (e : x ≡ chosen (ltb s.i s.n) (ltb d.i d.n) (order (cell_at 2 t p 2) (cell_at 1 t q 0))) where
+    (x : Tables) (e : x ≡ chosen (ltb s.i s.n) (ltb d.i d.n) (order (cell_at 2 t p 2) (cell_at 1 t q 0))) where
   abbrev rs : List Record
   rs = left_in 1 t sw s
 
@@ -149,10 +157,10 @@ module _ (t sw dw : List ℕ) (s d : Stream) (p q : ℕ) (ws : Within 1 sw s) (w
       (λ h. ed (ltb-false d.i d.n h)))
 
   pub symbol-there : x.symbol ≡ true → s.i < s.n
-  symbol-there h = ltb-true s.i s.n (chosen_symbols (ltb s.i s.n) (ltb d.i d.n) (order (cell_at 2 t p 2) (cell_at 1 t q 0)) (ap (λ (y : Next). y.symbol) (sym e) ∙ h))
+  symbol-there h = ltb-true s.i s.n (chosen_symbols (ltb s.i s.n) (ltb d.i d.n) (order (cell_at 2 t p 2) (cell_at 1 t q 0)) (ap (λ (y : Tables). y.symbol) (sym e) ∙ h))
 
   pub start-there : x.start ≡ true → d.i < d.n
-  start-there h = ltb-true d.i d.n (chosen-starts (ltb s.i s.n) (ltb d.i d.n) (order (cell_at 2 t p 2) (cell_at 1 t q 0)) (ap (λ (y : Next). y.start) (sym e) ∙ h))
+  start-there h = ltb-true d.i d.n (chosen-starts (ltb s.i s.n) (ltb d.i d.n) (order (cell_at 2 t p 2) (cell_at 1 t q 0)) (ap (λ (y : Tables). y.start) (sym e) ∙ h))
 
   kept-left : (kind : ℕ) (win : List ℕ) (u : Stream) (b : Bool) → kept t p q rs ds rs ds b (left_in kind t win (stepped u true)) (left_in kind t win u) ≡ left_in kind t win (stepped u b)
   unfolding stepped
@@ -208,11 +216,11 @@ joining_begin t room sw dw s d ws wd es ed =
           (sym (ap₂ label_words (unused 1 t sw s ws ∙ es) (unused 3 t dw d wd ∙ ed))) (puts_begin (map record_words (map label (labels_of t))) room);
     }
 
-pub own : (kind : ℕ) (win : List ℕ) (s : Stream) → Within kind win s → Within s.sorting.kind win s
+pub own : (kind : ℕ) (win : List ℕ) (s : Stream) → Within kind win s → Within (number_of s.sorting.kind) win s
 own kind win s w = record { same_kind = refl; ordered = w.ordered; inside = w.inside }
 
 module _ (t : List ℕ) (all : List (List ℕ)) (room out sw₀ sw sw' dw₀ dw dw' : List ℕ) (at : ℕ) (s s' d d' : Stream)
-    (j : Joining t all room out sw₀ sw dw₀ dw at s d) (qs : Refilled s.sorting.kind t sw sw' s s') (qd : Refilled d.sorting.kind t dw dw' d d')
+    (j : Joining t all room out sw₀ sw dw₀ dw at s d) (qs : Refilled (number_of s.sorting.kind) t sw sw' s s') (qd : Refilled (number_of d.sorting.kind) t dw dw' d d')
     (ls : length sw' ≡ length sw) (ld : length dw' ≡ length dw) where
   fs : Refilled 1 t sw sw' s s'
   fs = subst (λ (k : ℕ). Refilled k t sw sw' s s') j.symbols.same_kind qs
@@ -230,7 +238,7 @@ module _ (t : List ℕ) (all : List (List ℕ)) (room out sw₀ sw sw' dw₀ dw 
         puts = subst (λ (ps : List (List ℕ)). Puts ps all room out at) (sym (ap₂ label_words fs.same fd.same)) j.puts;
       }
 
-  module _ (p q : ℕ) (ep : s'.i < s'.n → p ≡ get_or sw' s'.i 0) (eq : d'.i < d'.n → q ≡ get_or dw' d'.i 0) (x : Next)
+  module _ (p q : ℕ) (ep : s'.i < s'.n → p ≡ get_or sw' s'.i 0) (eq : d'.i < d'.n → q ≡ get_or dw' d'.i 0) (x : Tables)
       (e : x ≡ chosen (ltb s'.i s'.n) (ltb d'.i d'.n) (order (cell_at 2 t p 2) (cell_at 1 t q 0))) where
     pub join_end : (not x.symbol && not x.start) ≡ true → PutEach all room at out
     join_end h =

@@ -11,26 +11,26 @@ use Rattle.format.specs.Sorted.{order, sorted}
 use Rattle.format.specs.Records.{label}
 use Rattle.format.specs.Words.{record_words}
 use Rattle.format.proofs.ListLaws.{by_test}
-use Rattle.text_rows.specs.Rows.{symbol_row, row_in, row_at, row_key, rows_of}
+use Rattle.text_rows.specs.Rows.{number_of, symbol_row, row_in, row_at, row_key, rows_of}
 use Rattle.text_gather.specs.Keys.{line_at, cell_at}
 use Rattle.text_words.specs.Written.{symbol_words, words_at}
 use Rattle.text_words.specs.Room.{room_for, room_after}
 use Rattle.format.proofs.Counts.{label-length}
 use Rattle.text_words.proofs.RoomLaws.{room-one, rooms_none, rooms_short, rooms_on}
 use Rattle.text_labels.specs.declared.Stream.{Stream}
-use Rattle.text_labels.specs.declared.Next.{Next}
-use Rattle.text_labels.specs.Labels.{labels_of, left_in, Within, Refilled, chosen, both_words, next_words, stepped}
+use Rattle.label_items.specs.Joins.{Tables, chosen}
+use Rattle.text_labels.specs.Labels.{labels_of, left_in, Within, Refilled, both_words, next_words, stepped}
 use Rattle.text_labels.proofs.JoinLaws.{label_words, unused, wider, symbol-there, start-there, turn_done, turn_on, turn_less, within_step}
 
 -- a label of both tables has as many words as that of its row of .SYMBOL
-pub next-symbol-length : (t : List ℕ) (x : Next) (p q : ℕ) → x.symbol ≡ true → length (words_at 1 t p) ≡ length (next_words x t p q)
+pub next-symbol-length : (t : List ℕ) (x : Tables) (p q : ℕ) → x.symbol ≡ true → length (words_at 1 t p) ≡ length (next_words x t p q)
 unfolding next_words both_words symbol_words words_at row_at row_in symbol_row cell_at line_at
 next-symbol-length t x p q e =
     by_test x.start
     (λ u. rw (e, u) (label-length _ ∙ sym (label-length _)))
     (λ u. rw (e, u) refl)
 
-pub next-start-length : (t : List ℕ) (x : Next) (p q : ℕ) → x.symbol ≡ false → length (words_at 3 t q) ≡ length (next_words x t p q)
+pub next-start-length : (t : List ℕ) (x : Tables) (p q : ℕ) → x.symbol ≡ false → length (words_at 3 t q) ≡ length (next_words x t p q)
 unfolding next_words
 next-start-length t x p q e = rw e refl
 
@@ -55,7 +55,7 @@ measuring_begin t room sw dw s d ws wd es ed =
     }
 
 module _ (t : List ℕ) (all : List (List ℕ)) (room m : ℕ) (sw₀ sw sw' dw₀ dw dw' : List ℕ) (s s' d d' : Stream)
-    (j : Measuring t all room m sw₀ sw dw₀ dw s d) (qs : Refilled s.sorting.kind t sw sw' s s') (qd : Refilled d.sorting.kind t dw dw' d d')
+    (j : Measuring t all room m sw₀ sw dw₀ dw s d) (qs : Refilled (number_of s.sorting.kind) t sw sw' s s') (qd : Refilled (number_of d.sorting.kind) t dw dw' d d')
     (ls : length sw' ≡ length sw) (ld : length dw' ≡ length dw) where
   fs : Refilled 1 t sw sw' s s'
   fs = subst (λ (k : ℕ). Refilled k t sw sw' s s') j.symbols.same_kind qs
@@ -73,7 +73,7 @@ module _ (t : List ℕ) (all : List (List ℕ)) (room m : ℕ) (sw₀ sw sw' dw�
         same = ap (λ (ps : List (List ℕ)). room_after ps m) (ap₂ label_words fs.same fd.same) ∙ j.same;
       }
 
-  module _ (p q : ℕ) (ep : s'.i < s'.n → p ≡ get_or sw' s'.i 0) (eq : d'.i < d'.n → q ≡ get_or dw' d'.i 0) (x : Next)
+  module _ (p q : ℕ) (ep : s'.i < s'.n → p ≡ get_or sw' s'.i 0) (eq : d'.i < d'.n → q ≡ get_or dw' d'.i 0) (x : Tables)
       (e : x ≡ chosen (ltb s'.i s'.n) (ltb d'.i d'.n) (order (cell_at 2 t p 2) (cell_at 1 t q 0))) where
     pub measure_end : (not x.symbol && not x.start) ≡ true → some m ≡ room_after all room
     measure_end h =

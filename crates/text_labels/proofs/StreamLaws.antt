@@ -1,24 +1,23 @@
 -- Streams of rows, and the next label of two. Assumes nothing.
 use mathlib.Core.Path.{◌≡◌, refl, sym, ap, ◌∙◌}
-use mathlib.Core.Bool.{Bool, true, false, not}
+use mathlib.Core.Bool.{true, false}
 use mathlib.Core.List.{List, [], ◌++◌, map}
-use Prim.Native.Nat.{ℕ, ◌≤◌, ◌<◌, Ordering}
+use Prim.Native.Nat.{ℕ, ◌≤◌, ◌<◌}
 use native.Mathlib.Omega.{arith}
 use lib.ListN.{length, take, drop, length-take, length-append, length-map, take-append-drop, drop_of_length-le}
 use lib.Seq.{take_all, length-take-le}
-use lib.Dec.{leb, eqb}
+use lib.Dec.{leb}
 use borrow.Author.Tests.{leb-true, leb-false}
 use Rattle.format.specs.Records.{Record}
 use Rattle.format.proofs.ListLaws.{by_test}
 use Rattle.gather.proofs.OrderLaws.{held_front}
-use Rattle.gather.specs.Tags.{rank}
-use Rattle.text_rows.specs.Rows.{row_at}
+use Rattle.text_rows.specs.Rows.{number_of, row_at}
 use Rattle.text_gather.specs.Order.{left, HandsOut}
 use Rattle.text_gather.specs.declared.Sorting.{Sorting}
 use Rattle.text_labels.specs.declared.Stream.{Stream}
-use Rattle.text_labels.specs.declared.Next.{Next}
+use Rattle.label_items.specs.Joins.{Tables}
 use Rattle.text_words.specs.Written.{words_at}
-use Rattle.text_labels.specs.Labels.{left_in, Within, Refilled, chosen, both_words, next_words}
+use Rattle.text_labels.specs.Labels.{left_in, Within, Refilled, both_words, next_words}
 
 -- a window that is not used up stays
 pub refill_stays : (kind : ℕ) (t win : List ℕ) (s : Stream) → Within kind win s → s.i < s.n → Refilled kind t win win s s
@@ -49,7 +48,7 @@ module _ (kind : ℕ) (t : List ℕ) (rows : List Record) (found now : List ℕ)
   none z p = let l : length rows ≤ 0 = omega (arith, counts, length-take (length found) rows) in drop_of_length-le rows {i = 0} l
 
 -- the next window
-pub refill_next : (kind : ℕ) (t win win' : List ℕ) (s : Stream) (o : Sorting) (n : ℕ) → Within kind win s → s.n ≤ s.i → 0 < length win → o.kind ≡ kind
+pub refill_next : (kind : ℕ) (t win win' : List ℕ) (s : Stream) (o : Sorting) (n : ℕ) → Within kind win s → s.n ≤ s.i → 0 < length win → number_of o.kind ≡ kind
     → HandsOut kind t (left t s.sorting) win win' n (left t o) → Refilled kind t win win' s (record { sorting = o; i = 0; n = n })
 unfolding left_in
 refill_next kind t win win' s o n w e p k h =
@@ -62,33 +61,15 @@ refill_next kind t win win' s o n w e p k h =
       ended = λ z. y ∙ none kind t rows win win' n (left t o) h z p;
     }
 
--- WHICH TABLES
-pub chosen-start : (d : Bool) (o : Ordering) (s : Bool) → s ≡ false → record { symbol = false; start = d } ≡ chosen s d o
-unfolding chosen
-chosen-start d o s e = rw e refl
-
-pub chosen-symbol : (o : Ordering) (s d : Bool) → s ≡ true → d ≡ false → record { symbol = true; start = false } ≡ chosen s d o
-unfolding chosen
-chosen-symbol o s d e f = rw (e, f) refl
-
-pub chosen-rank : (o : Ordering) (s d : Bool) (c : ℕ) → s ≡ true → d ≡ true → c ≡ rank o → record { symbol = not (eqb c 2); start = not (eqb c 0) } ≡ chosen s d o
-unfolding chosen
-chosen-rank o s d c e f q = rw (e, f, q) (go o)
-  where
-    go : (o : Ordering) → record { symbol = not (eqb (rank o) 2); start = not (eqb (rank o) 0) } ≡ chosen true true o
-    go Ordering.lt = refl
-    go Ordering.eq = refl
-    go Ordering.gt = refl
-
 -- THE WORDS of the next label
-pub next_both : (x : Next) (t : List ℕ) (p q : ℕ) → x.symbol ≡ true → x.start ≡ true → both_words t p q ≡ next_words x t p q
+pub next_both : (x : Tables) (t : List ℕ) (p q : ℕ) → x.symbol ≡ true → x.start ≡ true → both_words t p q ≡ next_words x t p q
 unfolding next_words
 next_both x t p q e f = rw (e, f) refl
 
-pub next-symbol : (x : Next) (t : List ℕ) (p q : ℕ) → x.symbol ≡ true → x.start ≡ false → words_at 1 t p ≡ next_words x t p q
+pub next-symbol : (x : Tables) (t : List ℕ) (p q : ℕ) → x.symbol ≡ true → x.start ≡ false → words_at 1 t p ≡ next_words x t p q
 unfolding next_words
 next-symbol x t p q e f = rw (e, f) refl
 
-pub next_start_lem : (x : Next) (t : List ℕ) (p q : ℕ) → x.symbol ≡ false → words_at 3 t q ≡ next_words x t p q
+pub next_start_lem : (x : Tables) (t : List ℕ) (p q : ℕ) → x.symbol ≡ false → words_at 3 t q ≡ next_words x t p q
 unfolding next_words
 next_start_lem x t p q e = rw e refl

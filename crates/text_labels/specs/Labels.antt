@@ -1,14 +1,14 @@
 -- The labels of a text file, of the rows of their two tables, each handed out in the order of names. Assumes nothing.
-use Rattle.std.specs.Prelude.{◌≡◌, Bool, true, false, List, [], ◌++◌, map, length, take, drop, if◌then◌else◌}
-use Prim.Native.Nat.{ℕ, ◌+◌, ◌≤◌, Ordering}
-use Rattle.format.specs.Sorted.{by_ordering, sorted}
+use Rattle.std.specs.Prelude.{◌≡◌, Bool, List, [], ◌++◌, map, length, take, drop, if◌then◌else◌}
+use Prim.Native.Nat.{ℕ, ◌+◌, ◌≤◌}
+use Rattle.format.specs.Sorted.{sorted}
 use Rattle.format.specs.ObjectFile.{Label}
 use Rattle.format.specs.Records.{Record}
-use Rattle.text_rows.specs.Rows.{row_key, rows_of, row_at, labels_in, join_labels}
+use Rattle.text_rows.specs.Rows.{number_of, row_key, rows_of, row_at, labels_in, join_labels}
 use Rattle.text_gather.specs.Order.{left}
 use Rattle.text_words.specs.Written.{index_at, symbol_words, words_at}
+use Rattle.label_items.specs.Joins.{Tables}
 use Rattle.text_labels.specs.declared.Stream.{Stream}
-use Rattle.text_labels.specs.declared.Next.{Next}
 
 -- the labels of a trimmed file
 unfoldable pub labels_of : List ℕ → List Label
@@ -20,7 +20,7 @@ left_in kind t win s = map (row_at kind t) (drop s.i (take s.n win)) ++ left t s
 
 -- a stream whose places are in its window
 pub record Within (kind : ℕ) (win : List ℕ) (s : Stream) : Type 0 where
-  pub same_kind : s.sorting.kind ≡ kind
+  pub same_kind : number_of s.sorting.kind ≡ kind
   pub ordered : s.i ≤ s.n
   pub inside : s.n ≤ length win
 
@@ -30,19 +30,12 @@ pub record Refilled (kind : ℕ) (t win win' : List ℕ) (s r : Stream) : Type 0
   pub same : left_in kind t win' r ≡ left_in kind t win s
   pub ended : r.n ≤ r.i → left_in kind t win' r ≡ []
 
--- which tables the next label is from: the one with the lower name, or both
-unfoldable pub chosen : Bool → Bool → Ordering → Next
-chosen false d o = record { symbol = false; start = d }
-chosen true false o = record { symbol = true; start = false }
-chosen true true o =
-    by_ordering o (record { symbol = true; start = false }) (record { symbol = true; start = true }) (record { symbol = false; start = true })
-
 -- the words of a label of both tables: "Later rows set their own fields"
 unfoldable pub both_words : List ℕ → ℕ → ℕ → List ℕ
 both_words t p q = symbol_words t p (index_at t q)
 
 -- the words of the next label, of the row of .SYMBOL at p, the row of the label table at q, or both
-unfoldable pub next_words : Next → List ℕ → ℕ → ℕ → List ℕ
+unfoldable pub next_words : Tables → List ℕ → ℕ → ℕ → List ℕ
 next_words x t p q = if x.symbol then (if x.start then both_words t p q else words_at 1 t p) else words_at 3 t q
 
 -- past its next row, if that is used

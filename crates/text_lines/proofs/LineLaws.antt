@@ -1,7 +1,7 @@
 -- Lines at places.
 -- Assumes nothing.
 use mathlib.Core.Path.{◌≡◌, refl, sym, ap, ◌∙◌}
-use mathlib.Core.Bool.{true, false}
+use mathlib.Core.Bool.{Bool, true, false, ◌&&◌}
 use mathlib.Core.List.{List, [], ◌∷◌}
 use Prim.Native.Nat.{ℕ, zero, suc, ◌+◌, ◌-◌, ◌≤◌, ◌<◌}
 use native.Mathlib.Omega.{arith}
@@ -9,12 +9,13 @@ use lib.ListN.{length, take, drop, get_or, drop_of_length-le, length-drop}
 use lib.Seq.{get_or-drop, take-length, length-take-le, take-take, take-nil, take_all}
 use lib.Dec.{eqb}
 use borrow.Author.Tests.{eq-eqb, ne_eqb, eqb-true, eqb-false}
+use Rattle.std.specs.Cmp.Lexicographic.{pointwise}
 use Rattle.format.specs.Basics.{keep, begins_with, ascii, eqs}
 use Rattle.format.specs.Utf8.{is_blank, trim}
 use Rattle.format.specs.TextReader.{on_first, lines, kept_lines}
 use Rattle.trim.specs.Span.{Spans, part}
-use Rattle.text_lines.specs.Lines.{line_length, LineAt, is_kept, kept}
-use Rattle.text_lines.proofs.TestLaws.{by_test, front, drop_more, and_no}
+use Rattle.text_lines.specs.Lines.{line_length, Lacks, LineAt, is_kept, kept}
+use Rattle.text_lines.proofs.TestLaws.{by_test, front, drop_more}
 
 module _ (s : List ℕ) (i : ℕ) where
   pub line-here : i < length s → get_or s i 0 ≡ 0x0A → line_length (drop i s) ≡ 0
@@ -43,6 +44,19 @@ line-short (b ∷ bs) (suc k) h e = by_test (eqb b 0x0A) (λ t. simp t (omega ar
 
 pub line-within : (s : List ℕ) (at k : ℕ) → at + k < length s → get_or s (at + k) 0 ≡ 0x0A → line_length (drop at s) ≤ k
 line-within s at k h e = line-short (drop at s) k (omega (arith, length-drop at s)) (rw (get_or-drop at s k 0) e)
+
+-- a line goes on past bytes with no LF
+pub line-past : (s : List ℕ) (at n : ℕ) → at + n ≤ length s → Lacks 0x0A s at (at + n)
+    → n + line_length (drop (at + n) s) ≡ line_length (drop at s)
+line-past s at zero h f =
+    let z : at + 0 ≡ at = omega arith in
+    let e : line_length (drop (at + 0) s) ≡ line_length (drop at s) = ap (λ (j : ℕ). line_length (drop j s)) z in
+    omega (arith, e)
+line-past s at (suc n) h f =
+    let z : at + suc n ≡ at + n + 1 = omega arith in
+    let e : line_length (drop (at + suc n) s) ≡ line_length (drop (at + n + 1) s) = ap (λ (j : ℕ). line_length (drop j s)) z in
+    let r = line-past s at n (omega arith) (λ i p q. f i p (omega arith)) in
+    omega (arith, e, r, line_on s (at + n) (omega arith) (f (at + n) (omega arith) (omega arith)))
 
 -- a text begins with LF just if its first line is empty
 lf_not : (bs : List ℕ) (k : ℕ) → line_length bs ≡ suc k → begins_with (0x0A ∷ []) bs ≡ false
@@ -261,22 +275,9 @@ module _ (s : List ℕ) where
   unfolding is_kept ascii
   kept_line t u = simp (t, u)
 
-pub eqs-length : (s t : List ℕ) → (length s ≡ length t → ⊥) → false ≡ eqs s t
+pub eqs-pointwise : (s t : List ℕ) → pointwise eqb s t ≡ eqs s t
 unfolding eqs
-eqs-length [] [] h = absurd (h refl)
-eqs-length [] (y ∷ ys) h = refl
-eqs-length (x ∷ xs) [] h = refl
-eqs-length (x ∷ xs) (y ∷ ys) h = rw (sym (eqs-length xs ys (λ q. h (ap suc q)))) (sym (and_no (eqb x y)))
-
-module _ (s t : List ℕ) (i : ℕ) where
-  pub eqs-on : i < length s → i < length t → get_or s i 0 ≡ get_or t i 0 → eqs (drop (i + 1) s) (drop (i + 1) t) ≡ eqs (drop i s) (drop i t)
-  unfolding eqs
-  eqs-on h k e = rw (front 0 s i h, front 0 t i k, eq-eqb (get_or s i 0) (get_or t i 0) e)
-
-  pub eqs_no : i < length s → i < length t → (get_or s i 0 ≡ get_or t i 0 → ⊥) → eqs (drop i s) (drop i t) ≡ false
-  unfolding eqs
-  eqs_no h k e = rw (front 0 s i h, front 0 t i k, ne_eqb (get_or s i 0) (get_or t i 0) e)
-
-  pub eqs-end : length s ≤ i → length t ≤ i → eqs (drop i s) (drop i t) ≡ true
-  unfolding eqs
-  eqs-end h k = rw (drop_of_length-le s h, drop_of_length-le t k)
+eqs-pointwise [] [] = refl
+eqs-pointwise [] (y ∷ ys) = refl
+eqs-pointwise (x ∷ xs) [] = refl
+eqs-pointwise (x ∷ xs) (y ∷ ys) = ap (λ (b : Bool). eqb x y && b) (eqs-pointwise xs ys)

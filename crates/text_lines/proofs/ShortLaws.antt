@@ -8,12 +8,15 @@ use lib.ListN.{length, drop, get_or, length-drop}
 use lib.Seq.{get_or-drop, get_or-take}
 use lib.Dec.{eqb, ltb}
 use borrow.Author.Tests.{lt-ltb, le-ltb, eq-eqb, ne_eqb, eqb-true, eqb-false, ltb-true, ltb-false}
+use Rattle.std.specs.Prelude.{Option, Some, None}
+use Rattle.std.specs.Option.{is_some}
 use Rattle.format.specs.Basics.{ascii, begins_with, is_empty}
 use Rattle.format.specs.Utf8.{char_at, is_white_space, trim_from, trim_start, is_blank}
 use Rattle.format.specs.TextReader.{lines}
 use Rattle.trim.specs.Span.{part}
 use Rattle.text_lines.specs.Lines.{line_length, LineAt, is_kept, is_four_long}
-use Rattle.text_lines.specs.Groups.{parts_from, RowAt, Spaces, ShowsRow}
+use Rattle.text_lines.specs.Groups.{parts_from, RowAt, NextRow, Spaces, ShowsRow}
+use Rattle.text_lines.specs.declared.Line.{Line}
 use Rattle.text_lines.proofs.LineLaws.{line-here, line_on, line-fits, line_lf, line_crlf, line-last, kept-yes, length_part, begins_at}
 use Rattle.text_lines.proofs.RowLaws.{row_line, rows_on}
 use Rattle.text_lines.proofs.TestLaws.{by_test, within_low, within-high}
@@ -210,12 +213,6 @@ module _ (t : List ℕ) (at i : ℕ) (h : i < length t) (l : at ≤ i) (s : (j :
       ap (λ (ls : List (List ℕ)). is_empty ls)
       (rows_on t at at e n (row_line t at at e n (kept-yes t at at e n ln k) (no 46 (λ q. omega arith) (λ u. (c u).1))))
 
-pub spaces-more : (t : List ℕ) (at i : ℕ) → Spaces t at i → get_or t i 0 ≡ 0x20 → Spaces t at (i + 1)
-spaces-more t at i s e = (
-  omega (arith, s.0),
-  λ j p q. by_test (ltb j i) (λ w. s.1 j p (ltb-true j i w)) (λ w. let z : j ≡ i = omega (arith, ltb-false j i w) in ap (λ (k : ℕ). get_or t k 0) z ∙ e),
-)
-
 pub row_some : (t : List ℕ) (at a e n : ℕ) → RowAt t at a e n → true ≡ not (is_empty (parts_from t at).before)
 unfolding is_empty
 row_some t at a e n l = ap (λ (ls : List (List ℕ)). not (is_empty ls)) (sym (rows_on t at a e n l))
@@ -223,6 +220,11 @@ row_some t at a e n l = ap (λ (ls : List (List ℕ)). not (is_empty ls)) (sym (
 pub row-end : (t : List ℕ) (at : ℕ) → (parts_from t at).before ≡ [] → false ≡ not (is_empty (parts_from t at).before)
 unfolding is_empty
 row-end t at e = ap (λ (ls : List (List ℕ)). not (is_empty ls)) (sym e)
+
+pub row-seen :
+    (t : List ℕ) (at : ℕ) (r : Option Line) → NextRow t at r → is_some r ≡ not (is_empty (parts_from t at).before)
+row-seen t at (Some l) row = row_some t at l.start l.end l.next row
+row-seen t at None end = row-end t at end
 
 -- a line is kept
 pub kept_shown : (s : List ℕ) (i : ℕ) → i < length s → Spaces s 0 i → ShowsRow (get_or s i 0) (ltb 0 i) → true ≡ is_kept s

@@ -1,12 +1,14 @@
 -- Groups from a place on: the lines left of the group that a place is in, and the groups after it.
 -- Assumes nothing.
-use Rattle.std.specs.Prelude.{◌≡◌, Bool, false, List, [], ℕ, ◌≤◌, ◌<◌, length, drop, get_or, if◌then◌else◌}
+use Rattle.std.specs.Prelude.{Option, Some, None, Result, Ok, Err, ◌≡◌, Bool, false, List, [], ℕ, ◌≤◌, ◌<◌, length, drop, get_or, if◌then◌else◌}
 use Rattle.format.specs.Basics.{ascii, eqs, begins_with, is_empty}
 use Rattle.format.specs.Tokens.{Parts, head_of, parts_at}
 use Rattle.text_lines.specs.declared.Line.{Line}
-use Rattle.text_lines.specs.declared.Line.TheVariants as ln
 use Rattle.text_lines.specs.declared.Head.{Head}
-use Rattle.text_lines.specs.declared.Head.TheVariants as hd
+use Rattle.text_lines.specs.declared.GroupKind.{GroupKind}
+use Rattle.text_lines.specs.declared.GroupKind.TheVariants as group
+use Rattle.units.specs.declared.refusal.Refusal.{Refusal}
+use Rattle.units.specs.Refusal.{number_of}
 use Rattle.text_lines.specs.Lines.{kept}
 use Rattle.text_lines.specs.Views.{View, StepAt}
 
@@ -22,9 +24,9 @@ group_view t at = ((parts_from t at).before, (parts_from t at).groups)
 abbrev pub RowAt : List ℕ → ℕ → ℕ → ℕ → ℕ → Type 0
 RowAt t at a e n = StepAt (group_view t) t at a e n
 
-abbrev pub NextRow : List ℕ → ℕ → Line → Type 0
-NextRow t at (ln.At a e n) = RowAt t at a e n
-NextRow t at ln.Done = (parts_from t at).before ≡ []
+abbrev pub NextRow : List ℕ → ℕ → Option Line → Type 0
+NextRow t at (Some l) = RowAt t at l.start l.end l.next
+NextRow t at None = (parts_from t at).before ≡ []
 
 -- spaces stand from a place up to another
 abbrev pub Spaces : List ℕ → ℕ → ℕ → Type 0
@@ -50,7 +52,15 @@ pub record HeadAt (t : List ℕ) (at k n : ℕ) : Type 0 where
   pub kind : k ≡ kind_of name
   pub same : parts_from t at ≡ head_of name (parts_from t n)
 
-abbrev pub NextHead : List ℕ → ℕ → Head → Type 0
-NextHead t at (hd.Opens k n) = HeadAt t at k n
-NextHead t at hd.Loose = is_empty (parts_from t at).before ≡ false
-NextHead t at hd.Done = parts_from t at ≡ record { before = []; groups = [] }
+-- a kind, as `kind_of` has it
+abbrev pub number_of_kind : GroupKind → ℕ
+number_of_kind group.Text = 0
+number_of_kind group.Symbols = 1
+number_of_kind group.Linker = 2
+number_of_kind group.Debug = 3
+number_of_kind group.Unknown = 4
+
+abbrev pub NextHead : List ℕ → ℕ → Result (Option Head) Refusal → Type 0
+NextHead t at (Ok (Some h)) = HeadAt t at (number_of_kind h.kind) h.next
+NextHead t at (Ok None) = parts_from t at ≡ record { before = []; groups = [] }
+NextHead t at (Err r) = (number_of r ≡ 22) × (is_empty (parts_from t at).before ≡ false)

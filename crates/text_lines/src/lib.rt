@@ -1,43 +1,48 @@
 // The text reader's lines: kept lines, the lines of a group, and the line that opens a group, in place on the input. Positions go by value.
 #![tactic(auto)]
 
-ghost use Rattle.std.specs.Prelude.{◌≡◌, true, false, not, ◌+◌, ◌-◌, ◌≤◌, ◌<◌, length, drop};
+ghost use Rattle.std.specs.Prelude.{◌≡◌, true, false, not, ◌+◌, ◌-◌, ◌≤◌, ◌<◌, length, drop, min};
 ghost use Rattle.format.specs.Basics.{eqs, is_empty};
 ghost use Rattle.format.specs.TextReader.{lines};
-ghost use Rattle.text_lines.specs.Lines.{line_length, Next, kept, begins_byte, is_kept, is_four_long};
-ghost use Rattle.text_lines.specs.Groups.{parts_from, RowAt, NextRow, Spaces, ShowsRow, kind_of, NextHead};
+ghost use Rattle.text_lines.specs.Lines.{line_length, Lacks, Holds, Next, kept, begins_byte, is_kept, is_four_long};
+ghost use Rattle.text_lines.specs.Groups.{parts_from, RowAt, NextRow, ShowsRow, kind_of, number_of_kind, NextHead};
 
-use trim::is_blank;
+use trim::{is_blank, spaces_end};
+use units::Refusal;
 
 // A line's end may have it before the LF.
-const CR: u8 = 0x0D;
+const CR: u8 = b'\r';
 
 // A line: where it starts and ends, and the place after it.
 #[derive(Clone, Copy)]
-pub enum Line {
-    At {
-        start: usize,
-        end: usize,
-        next: usize,
-    },
-    Done,
+pub struct Line {
+    pub start: usize,
+    pub end: usize,
+    pub next: usize,
 }
 
-// Whether an LF is among the n bytes from a place on. The loop has no exit in the middle, so that the bytes can be compared at once.
+// Whether a byte is among the n bytes from a place on, of those that are there. The loop has no exit in the middle, so that the bytes can be compared at once.
+pub fn has_byte(s: &[u8], at: usize, n: usize, byte: u8) -> bool
+    ensures { (result ≡ false → Lacks byte s.now at (min (at + n) (length s.now)))
+        × (result ≡ true → Holds byte s.now at (min (at + n) (length s.now))) }
+{
+    let end = at.saturating_add(n).min(s.len());
+    let mut found = false;
+    for i in at..end {
+        if s[i] == byte {
+            found = true;
+        }
+    }
+    found
+}
+
+// Whether an LF is among the n bytes from a place on.
 fn has_lf(s: &[u8], at: usize, n: usize) -> bool
     requires { at + n ≤ length s.now }
     ensures { (result ≡ false → n + line_length (drop (at + n) s.now) ≡ line_length (drop at s.now))
         × (result ≡ true → line_length (drop at s.now) < n) }
 {
-    let mut found = false;
-    let mut k = 0;
-    while k < n {
-        if s[at + k] == 0x0A {
-            found = true;
-        }
-        k += 1;
-    }
-    found
+    has_byte(s, at, n, b'\n')
 }
 
 // Past the blocks of 16 bytes without an LF from a place on.
@@ -48,10 +53,7 @@ fn line_blocks(s: &[u8], at: usize) -> usize
         × (16 ≤ length s.now - result → line_length (drop result s.now) < 16) }
 {
     let mut i = at;
-    while 16 <= s.len() - i {
-        if has_lf(s, i, 16) {
-            return i;
-        }
+    while 16 <= s.len() - i && !has_lf(s, i, 16) {
         i += 16;
     }
     i
@@ -66,7 +68,7 @@ fn find_lf(s: &[u8], at: usize) -> usize
     if !has_lf(s, at, 8) {
         i = at + 8;
     }
-    while s[i] != 0x0A {
+    while s[i] != b'\n' {
         i += 1;
     }
     i
@@ -77,48 +79,47 @@ fn line_end(s: &[u8], at: usize) -> usize
     requires { at ≤ length s.now }
     ensures { (at ≤ result) × (result ≤ length s.now) × (result ≡ at + line_length (drop at s.now)) }
 {
-    let mut i = line_blocks(s, at);
-    if 16 <= s.len() - i {
-        return find_lf(s, i);
+    let start = line_blocks(s, at);
+    if 16 <= s.len() - start {
+        return find_lf(s, start);
     }
-    while i < s.len() {
-        if s[i] == 0x0A {
+    for i in start..s.len() {
+        if s[i] == b'\n' {
             return i;
         }
-        i += 1;
     }
-    i
+    s.len()
 }
 
 // The next line of a text, by the rules of `str::lines`.
-fn next_line(s: &[u8], at: usize) -> Line
+fn next_line(s: &[u8], at: usize) -> Option<Line>
     ensures { Next lines s.now at result }
 {
     if s.len() <= at {
-        return Line::Done;
+        return None;
     }
     let e = line_end(s, at);
     if e == s.len() {
-        return Line::At {
+        return Some(Line {
             start: at,
             end: e,
             next: e,
-        };
+        });
     }
     if at < e {
         if s[e - 1] == CR {
-            return Line::At {
+            return Some(Line {
                 start: at,
                 end: e - 1,
                 next: e + 1,
-            };
+            });
         }
     }
-    Line::At {
+    Some(Line {
         start: at,
         end: e,
         next: e + 1,
-    }
+    })
 }
 
 // A text begins with the byte.
@@ -129,20 +130,6 @@ pub fn begins_with(s: &[u8], b: u8) -> bool
         return false;
     }
     b == s[0]
-}
-
-// Past the spaces from a place on.
-fn spaces_end(t: &[u8], at: usize) -> usize
-    ensures { Spaces t.now at result }
-{
-    let mut i = at;
-    while i < t.len() {
-        if t[i] != 0x20 {
-            return i;
-        }
-        i += 1;
-    }
-    i
 }
 
 // Whether a line is kept and opens no group by its first byte past spaces, where there are spaces or none.
@@ -168,7 +155,7 @@ fn shows_row(b: u8, spaced: bool) -> bool
 fn is_kept(s: &[u8]) -> bool
     ensures { result ≡ is_kept s.now }
 {
-    let i = spaces_end(s, 0);
+    let i = spaces_end(s, 0, s.len());
     if i < s.len() {
         if shows_row(s[i], 0 < i) {
             return true;
@@ -184,62 +171,41 @@ fn is_kept(s: &[u8]) -> bool
 }
 
 // The next line that is kept.
-pub fn next_kept(s: &[u8], from: usize) -> Line
+pub fn next_kept(s: &[u8], from: usize) -> Option<Line>
     ensures { Next kept s.now from result }
 {
     let mut at = from;
     loop {
-        let Line::At { start, end, next } = next_line(s, at) else {
-            return Line::Done;
-        };
-        if is_kept(&s[start..end]) {
-            return Line::At {
-                start: start,
-                end: end,
-                next: next,
-            };
+        let line = next_line(s, at)?;
+        if is_kept(&s[line.start..line.end]) {
+            return Some(line);
         }
-        at = next;
+        at = line.next;
     }
 }
 
-// Two texts are the same.
+// Two texts are the same. A byte string is lent as a slice here.
 pub fn equals(s: &[u8], t: &[u8]) -> bool
     ensures { result ≡ eqs s.now t.now }
 {
-    if s.len() != t.len() {
-        return false;
-    }
-    let mut i = 0;
-    while i < s.len() {
-        if s[i] != t[i] {
-            return false;
-        }
-        i += 1;
-    }
-    true
+    s == t
 }
 
-// Lines that were passed over.
+// The groups, by their headers, and those of another header.
 #[derive(Clone, Copy)]
-pub enum Passed {
-    To(usize),
-    Bad,
+pub enum GroupKind {
+    Text,
+    Symbols,
+    Linker,
+    Debug,
+    Unknown,
 }
 
-// What a group's check comes to, and the place after the group.
+// The line that opens a group: its kind, and the place after it.
 #[derive(Clone, Copy)]
-pub struct Group {
-    pub number: u8,
+pub struct Head {
+    pub kind: GroupKind,
     pub next: usize,
-}
-
-// The line that opens a group, by its kind; 4 is none.
-#[derive(Clone, Copy)]
-pub enum Head {
-    Opens { kind: u8, next: usize },
-    Loose,
-    Done,
 }
 
 // Whether an LF stands four bytes after a place.
@@ -278,32 +244,26 @@ fn is_short_row(t: &[u8], at: usize) -> bool
 }
 
 // The next line of the group, past comments and blank lines.
-fn find_row(t: &[u8], at: usize) -> Line
+fn find_row(t: &[u8], at: usize) -> Option<Line>
     ensures { NextRow t.now at result }
 {
-    let Line::At { start, end, next } = next_kept(t, at) else {
-        return Line::Done;
-    };
-    if begins_with(&t[start..end], b'.') {
-        return Line::Done;
+    let line = next_kept(t, at)?;
+    if begins_with(&t[line.start..line.end], b'.') {
+        return None;
     }
-    Line::At {
-        start: start,
-        end: end,
-        next: next,
-    }
+    Some(line)
 }
 
 // The next line of the group.
-pub fn next_row(t: &[u8], at: usize) -> Line
+pub fn next_row(t: &[u8], at: usize) -> Option<Line>
     ensures { NextRow t.now at result }
 {
     if is_short_row(t, at) {
-        return Line::At {
+        return Some(Line {
             start: at,
             end: at + 4,
             next: at + 4 + 1,
-        };
+        });
     }
     find_row(t, at)
 }
@@ -312,68 +272,46 @@ pub fn next_row(t: &[u8], at: usize) -> Line
 pub fn has_row(t: &[u8], at: usize) -> bool
     ensures { result ≡ not (is_empty (parts_from t.now at).before) }
 {
-    let i = spaces_end(t, at);
+    let i = spaces_end(t, at, t.len());
     if i < t.len() {
         if shows_row(t[i], at < i) {
             return true;
         }
     }
-    match next_row(t, at) {
-        Line::At {
-            start: _,
-            end: _,
-            next: _,
-        } => true,
-        Line::Done => false,
-    }
+    next_row(t, at).is_some()
 }
-
-const TEXT: [u8; 5] = [0x2E, 0x54, 0x45, 0x58, 0x54];
-
-const SYMBOL: [u8; 7] = [0x2E, 0x53, 0x59, 0x4D, 0x42, 0x4F, 0x4C];
-
-const LINKER_INFO: [u8; 12] = [
-    0x2E, 0x4C, 0x49, 0x4E, 0x4B, 0x45, 0x52, 0x5F, 0x49, 0x4E, 0x46, 0x4F,
-];
-
-const DEBUG: [u8; 6] = [0x2E, 0x44, 0x45, 0x42, 0x55, 0x47];
 
 // Which group a line opens.
-fn kind_of(l: &[u8]) -> u8
-    ensures { result ≡ kind_of l.now }
+fn kind_of(l: &[u8]) -> GroupKind
+    ensures { number_of_kind result ≡ kind_of l.now }
 {
-    let text = TEXT;
-    if equals(l, &text) {
-        return 0;
+    if equals(l, b".TEXT") {
+        return GroupKind::Text;
     }
-    let symbol = SYMBOL;
-    if equals(l, &symbol) {
-        return 1;
+    if equals(l, b".SYMBOL") {
+        return GroupKind::Symbols;
     }
-    let linker = LINKER_INFO;
-    if equals(l, &linker) {
-        return 2;
+    if equals(l, b".LINKER_INFO") {
+        return GroupKind::Linker;
     }
-    let debug = DEBUG;
-    if equals(l, &debug) {
-        return 3;
+    if equals(l, b".DEBUG") {
+        return GroupKind::Debug;
     }
-    4
+    GroupKind::Unknown
 }
 
-// The line that opens the next group.
-pub fn next_head(t: &[u8], at: usize) -> Head
+// The line that opens the next group, if there is one; a line in no group is refused.
+pub fn next_head(t: &[u8], at: usize) -> Result<Option<Head>, Refusal>
     ensures { NextHead t.now at result }
 {
-    let Line::At { start, end, next } = next_kept(t, at) else {
-        return Head::Done;
+    let Some(line) = next_kept(t, at) else {
+        return Ok(None);
     };
-    if begins_with(&t[start..end], b'.') {
-        let k = kind_of(&t[start..end]);
-        return Head::Opens {
-            kind: k,
-            next: next,
-        };
+    if !begins_with(&t[line.start..line.end], b'.') {
+        return Err(Refusal::LooseLine);
     }
-    Head::Loose
+    Ok(Some(Head {
+        kind: kind_of(&t[line.start..line.end]),
+        next: line.next,
+    }))
 }

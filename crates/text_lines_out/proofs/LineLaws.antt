@@ -3,7 +3,7 @@ use mathlib.Core.Path.{◌≡◌, refl, sym, ap, ap₂, subst, ◌∙◌}
 use mathlib.Core.Bool.{true, false}
 use mathlib.Core.List.{List, [], ◌∷◌, ◌++◌, map, flat_map, append-nil, append_assoc}
 use mathlib.Core.Option.{Option, none, some}
-use Prim.Native.Nat.{ℕ, zero, suc, ◌+◌, ◌-◌, ◌^◌, ◌≤◌, ◌<◌}
+use Prim.Native.Nat.{min, max, ℕ, zero, suc, ◌+◌, ◌-◌, ◌^◌, ◌≤◌, ◌<◌}
 use native.Mathlib.Omega.{arith}
 use native.Mathlib.Numerals.{add-one}
 use lib.ListN.{length, take, drop, get_or, length-append, length-map, length-drop, take-append-drop, drop_of_length-le}
@@ -463,3 +463,11 @@ pub header-length : (width : ℕ) → length (text_line (line_header width)) ≡
 unfolding ascii
 header-length width =
     omega (arith, ap length (header-parts width), length-append (spaces (width - 4)) after_name, spaces-length (width - 4))
+
+-- the library's smaller and larger of two
+pub min-is : (a b : ℕ) → min a b ≡ smaller a b
+min-is a b = omega arith
+
+-- the second number first
+pub max-is : (a b : ℕ) → max b a ≡ a + (b - a)
+max-is a b = omega arith

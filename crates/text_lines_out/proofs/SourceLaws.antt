@@ -21,7 +21,7 @@ use Rattle.object.specs.Texts.{text_len, text_bytes}
 use Rattle.object.proofs.Formed.{Formed, formed}
 use Rattle.object.proofs.ByteLaws.{text-len, text-bytes, text-within}
 use Rattle.source_info.specs.Sources.{Sourced}
-use Rattle.source_info.specs.declared.Place.TheVariants as place
+use Rattle.std.specs.Prelude.{Some, None}
 use Rattle.text_lines_out.specs.Walk.{line_blocks_in, source_table}
 
 utf8_source : (ws : List ℕ) (h : ObjectFile) → object_of ws ≡ given h → is_utf8 (source_text h.source) ≡ true
@@ -38,10 +38,10 @@ module _ (ws : List ℕ) (e : checked ws ≡ 0) where
       ap (λ (o : Option (List ℕ)). get_or (and_then o λ s. some (line_table s (line_blocks_in ws) ++ bar_line)) [])
       (ap (λ o. (given_or o empty_object).source) f.is ∙ q)
 
-  pub source-nothing : Sourced ws place.Nothing → source_table ws ≡ []
+  pub source-nothing : Sourced ws None → source_table ws ≡ []
   source-nothing q = table_is none (q f.object f.is)
 
-  module _ (at n : ℕ) (q : Sourced ws (place.At at)) (k : n ≡ text_len ws at (at + length (body_at ws at))) where
+  module _ (at n : ℕ) (q : Sourced ws (Some at)) (k : n ≡ text_len ws at (at + length (body_at ws at))) where
     abbrev found : (f.object.source ≡ some (text_at ws at)) × Text (body_at ws at)
     found = q f.object f.is
 

@@ -1,5 +1,6 @@
 -- What the code's answers on rows say. Assumes nothing.
-use Rattle.std.specs.Prelude.{◌≡◌, Bool, List, [], ◌∷◌, ℕ, zero, suc, ◌+◌, ◌-◌, length, drop, get_or}
+use Rattle.std.specs.Prelude as prelude
+use Rattle.std.specs.Prelude.{Some, None, ◌≡◌, Bool, true, false, List, [], ◌∷◌, ℕ, zero, suc, ◌+◌, ◌-◌, length, drop, get_or}
 use Rattle.std.proofs.Math.Option.{Option, none, some}
 use Rattle.format.specs.ObjectFile.{line_end}
 use Rattle.format.specs.TextWriter.{Row}
@@ -13,19 +14,23 @@ use Rattle.text_lines_out.specs.declared.Plan.{Plan}
 use Rattle.text_lines_out.specs.declared.Table.{Table}
 use Rattle.text_lines_out.specs.declared.Run.{Run}
 use Rattle.text_lines_out.specs.declared.Rows.{Rows}
-use Rattle.text_lines_out.specs.declared.Rows.TheVariants as answer
 
 abbrev pub row : ℕ → Option ℕ → Row  -- of a line, with its address if it has one
 row number address = record { number = number; address = address }
 
 -- the room that rows leave, and where the line of the next number starts
-abbrev pub Measured : ℕ → List ℕ → ℕ → List Row → ℕ → Rows → Type 0
-Measured room s width rows m (answer.Left left start) = (some left ≡ less_part room (rows_text width s rows)) × At s m start
-Measured room s width rows m answer.Short = none ≡ less_part room (rows_text width s rows)
+abbrev pub Measured : ℕ → List ℕ → ℕ → List Row → ℕ → prelude.Option Rows → Type 0
+Measured room s width rows m (Some r) = (some r.left ≡ less_part room (rows_text width s rows)) × At s m r.start
+Measured room s width rows m None = none ≡ less_part room (rows_text width s rows)
 
 -- the address in word k from a place on, if addresses are known
 abbrev pub address_from : Bool → List ℕ → ℕ → ℕ → Option ℕ
 address_from known ws place k = known_word known (address_in (get_or ws (place + k) 0))
+
+-- the addresses from a place on, if there is one
+abbrev pub addresses_of : prelude.Option ℕ → List ℕ → ℕ → Option ℕ
+addresses_of (Some place) ws = address_from true ws place
+addresses_of None ws = address_from false ws 0
 
 -- rows of n lines from line first + k on, with the addresses of k and those after it
 unfoldable pub run_rows : ℕ → (ℕ → Option ℕ) → ℕ → ℕ → List Row
@@ -37,7 +42,7 @@ abbrev pub source_of : List ℕ → Table → List ℕ
 source_of ws t = text_bytes ws t.text t.n
 
 abbrev pub rows_of : List ℕ → Run → List Row
-rows_of ws run = run_rows run.first (address_from run.known ws run.place) 0 run.count
+rows_of ws run = run_rows run.first (addresses_of run.place ws) 0 run.count
 
 -- the rows of the line block at a place of the object, after rows that wrapped and those of the lines that are done
 pub record Planned (ws : List ℕ) (at lines wraps done : ℕ) (r : Plan) : Type 0 where

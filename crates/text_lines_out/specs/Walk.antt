@@ -1,5 +1,6 @@
 -- What a record adds to the rows of the line table, in a walk along the records of an object. Assumes nothing.
-use Rattle.std.specs.Prelude.{◌≡◌, true, List, [], ◌∷◌, ◌++◌, ℕ, ◌+◌, ◌-◌, ◌^◌, ◌≤◌, ◌<◌, length, drop, eqb, if◌then◌else◌}
+use Rattle.std.specs.Prelude as prelude
+use Rattle.std.specs.Prelude.{Some, None, ◌≡◌, true, List, [], ◌∷◌, ◌++◌, ℕ, ◌+◌, ◌-◌, ◌^◌, ◌≤◌, ◌<◌, length, drop, eqb, if◌then◌else◌}
 use Rattle.std.proofs.Math.Option.{none, some, get_or}
 use Rattle.format.specs.Basics.{given_or, and_then}
 use Rattle.format.specs.ObjectFile.{LineBlock, line_end}
@@ -15,7 +16,6 @@ use Rattle.text_lines_out.specs.Runs.{address_from, run_rows}
 use Rattle.text_lines_out.specs.declared.Wrapped.{Wrapped}
 use Rattle.text_lines_out.specs.declared.Lines.{Lines}
 use Rattle.text_lines_out.specs.declared.Passed.{Passed}
-use Rattle.text_lines_out.specs.declared.Passed.TheVariants as answer
 
 module _ (ws : List ℕ) (at lines wraps done : ℕ) where
   -- the source's rows before the line block at a place, and its own
@@ -40,10 +40,10 @@ module _ (ws : List ℕ) (at lines wraps done : ℕ) where
       × (done ≡ smaller (wraps + (e - wraps)) lines)
 
 -- the room that rows leave, how many of the source's lines are done, and where the next one starts
-abbrev pub Passes : ℕ → List ℕ → ℕ → List Row → ℕ → Passed → Type 0
-Passes room s width rows m (answer.Left left start done) =
-    (some left ≡ less_part room (rows_text width s rows)) × (done ≡ m) × At s m start
-Passes room s width rows m answer.Short = none ≡ less_part room (rows_text width s rows)
+abbrev pub Passes : ℕ → List ℕ → ℕ → List Row → ℕ → prelude.Option Passed → Type 0
+Passes room s width rows m (Some r) =
+    (some r.left ≡ less_part room (rows_text width s rows)) × (r.done ≡ m) × At s m r.start
+Passes room s width rows m None = none ≡ less_part room (rows_text width s rows)
 
 -- the line blocks of well formed words; none of others, which no caller has
 abbrev pub line_blocks_in : List ℕ → List LineBlock

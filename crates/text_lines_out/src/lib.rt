@@ -2,28 +2,21 @@
 // functions on them that hold of every input. The walk itself is crate text_write's.
 #![tactic(auto)]
 
-ghost use Rattle.std.specs.Prelude.{◌≡◌, ◌+◌, ◌-◌, ◌^◌, max, length, get_or};
+ghost use Rattle.std.specs.Prelude.{◌≡◌, ◌+◌, ◌-◌, ◌%◌, ◌^◌, max, length, get_or};
 ghost use Rattle.format.specs.TextWriter.{decimal, text_line, line_header};
 ghost use Rattle.writing.specs.Written.{Put};
 ghost use Rattle.object.specs.Access.{address_in};
 ghost use Rattle.measuring.specs.Room.{room_of, less_part};
+ghost use Rattle.text_numerals.specs.Memory.{word_of};
+ghost use Rattle.text_lines_out.specs.Runs.{addresses_of};
 ghost use Rattle.text_lines_out.specs.Merge.{smaller};
 ghost use Rattle.text_lines_out.specs.Walk.{LinesAt, WrapsOn, top_at};
 
-use measuring::Room;
-use object::{body_len, kind, number_at};
+use measuring::take;
+use object::{Kind, body_len, number_at};
+use text_escape::Row;
 use text_numerals::{count_digits, put_spaces};
 use writing::put_bytes;
-
-// The smaller of two.
-pub fn smaller(a: usize, b: usize) -> usize
-    ensures { result ≡ smaller a b }
-{
-    if a < b {
-        return a;
-    }
-    b
-}
 
 // What is the same for all rows of a table: the source of `n` bytes and so many lines in the words from `text` on, the width of the
 // column of line numbers, and how many rows wrapped.
@@ -36,20 +29,33 @@ pub struct Table {
     pub wraps: u64,
 }
 
-// The rows of `count` lines from line `first` on: with the addresses from a place on if they are known, else with none.
+// The rows of `count` lines from line `first` on: with the addresses from a place on, or with none.
 #[derive(Clone, Copy)]
 pub struct Run {
     pub first: u64,
     pub count: usize,
-    pub known: bool,
-    pub place: usize,
+    pub place: Option<usize>,
+}
+
+impl Run {
+    // Its row `k`; past the largest 64-bit number of a line is 0.
+    pub fn row(self, ws: &[u32], k: usize) -> Row
+        ensures { (result.number ≡ (self.first + k) % 2 ^ 64) × (word_of result.address ≡ addresses_of self.place ws.now k) }
+    {
+        let number = self.first.wrapping_add(k as u64);
+        let address = match self.place {
+            Some(place) => Some(line_address(ws, place, k)),
+            None => None,
+        };
+        Row { number, address }
+    }
 }
 
 // What is left of the room after rows, and where the line of the next row starts.
 #[derive(Clone, Copy)]
-pub enum Rows {
-    Left(usize, usize),
-    Short,
+pub struct Rows {
+    pub left: usize,
+    pub start: usize,
 }
 
 // How much rows have filled, and where the line of the next row starts.
@@ -60,7 +66,7 @@ pub struct Written {
 }
 
 // The line's address in word `k` from a place on; 0 past the last word.
-pub fn line_address(ws: &[u32], place: usize, k: usize) -> u16
+fn line_address(ws: &[u32], place: usize, k: usize) -> u16
     ensures { result ≡ address_in (get_or ws.now (place + k) 0) }
 {
     if ws.len() <= place {
@@ -70,36 +76,6 @@ pub fn line_address(ws: &[u32], place: usize, k: usize) -> u16
         return 0;
     }
     (ws[place + k] % 0x1_0000) as u16
-}
-
-// The larger of two numbers.
-pub fn larger(a: u64, b: u64) -> u64
-    ensures { result ≡ a + (b - a) }
-{
-    if a < b {
-        return b;
-    }
-    a
-}
-
-// How much the first number is larger.
-pub fn minus(a: u64, b: u64) -> u64
-    ensures { result ≡ a - b }
-{
-    if a < b {
-        return 0;
-    }
-    a - b
-}
-
-// The smaller of two line numbers.
-pub fn smaller_line(a: u64, b: u64) -> u64
-    ensures { result ≡ smaller a b }
-{
-    if a < b {
-        return a;
-    }
-    b
 }
 
 // How many of the lines of a block don't wrap.
@@ -117,13 +93,7 @@ pub fn straight_count(first: u64, count: usize) -> usize
 pub fn lines_done(first: u64, count: usize, lines: u64) -> u64
     ensures { result ≡ smaller (first + count) lines }
 {
-    if lines <= first {
-        return lines;
-    }
-    if lines - first <= count as u64 {
-        return lines;
-    }
-    first + count as u64
+    first.saturating_add(count as u64).min(lines)
 }
 
 // The rows of a line block: so many of the source before it, and its own. And how many of the source's lines are done then.
@@ -137,9 +107,10 @@ pub struct Plan {
 // What is left of the room after the rows of a record, where the line of the next row starts, and how many of the source's lines are
 // done.
 #[derive(Clone, Copy)]
-pub enum Passed {
-    Left(usize, usize, u64),
-    Short,
+pub struct Passed {
+    pub left: usize,
+    pub start: usize,
+    pub done: u64,
 }
 
 // How much they have filled, where the line of the next row starts, and how many of the source's lines are done.
@@ -161,11 +132,7 @@ pub struct Wrapped {
 pub fn last_line(first: u64, count: usize) -> u64
     ensures { result ≡ smaller (first + (count - 1)) (2 ^ 64 - 1) }
 {
-    let more = minus(count as u64, 1);
-    if more <= 0xFFFF_FFFF_FFFF_FFFF - first {
-        return first + more;
-    }
-    0xFFFF_FFFF_FFFF_FFFF
+    first.saturating_add((count as u64).saturating_sub(1))
 }
 
 // The lines of a line block: the first, how many, and the place of the first one's word.
@@ -187,7 +154,7 @@ fn lines_at(ws: &[u32], at: usize) -> Lines
             place: 0,
         };
     }
-    if kind(ws[at]) != 3 {
+    if Kind::of(ws[at]) != Kind::LineBlock {
         return Lines {
             first: 0,
             count: 0,
@@ -213,7 +180,7 @@ pub fn top_at(ws: &[u32], at: usize, top: u64) -> u64
     if lines.count == 0 {
         return top;
     }
-    larger(top, last_line(lines.first, lines.count))
+    last_line(lines.first, lines.count).max(top)
 }
 
 // The words found before whose lines wrap; else those of the record at a place.
@@ -235,40 +202,26 @@ pub fn wrapped_on(ws: &[u32], at: usize, before: Wrapped) -> Wrapped
 pub fn column_width(top: u64) -> usize
     ensures { result ≡ max (length (decimal top)) 4 }
 {
-    let digits = count_digits(top);
-    if digits < 4 {
-        return 4;
-    }
-    digits
+    count_digits(top).max(4)
 }
 
 // The header of the line table, for a column of this width.
 pub fn put_line_header(out: &mut [u8], width: usize) -> usize
     ensures { Put (text_line (line_header width)) out.old result out.new }
 {
-    let fill = minus(width as u64, 4) as usize;
-    if out.len() < 21 {
+    if measure_line_header(out.len(), width).is_none() {
         return 0;
     }
-    if out.len() - 21 < fill {
-        return 0;
-    }
+    let fill = width.saturating_sub(4);
     let mut k = put_bytes(out, b"LINE");
     k += put_spaces(&mut out[k..], fill);
     k + put_bytes(&mut out[k..], b" | ADDR | SOURCE\n")
 }
 
 // The room that the header leaves.
-pub fn measure_line_header(room: usize, width: usize) -> Room
+pub fn measure_line_header(room: usize, width: usize) -> Option<usize>
     ensures { room_of result ≡ less_part room (text_line (line_header width)) }
 {
-    let spaces = minus(width as u64, 4) as usize;
-    if room < 21 {
-        return Room::Short;
-    }
-    let left = room - 21;
-    if left < spaces {
-        return Room::Short;
-    }
-    Room::Left(left - spaces)
+    let left = take(room, 21)?;
+    take(left, width.saturating_sub(4))
 }

@@ -7,6 +7,7 @@ use mathlib.Core.Option.{Option, none, some}
 use Prim.Native.Nat.{ℕ, ◌+◌, ◌-◌, ◌≤◌}
 use native.Mathlib.Omega.{arith}
 use lib.ListN.{length, get_or}
+use Rattle.std.specs.Prelude.{Some, Ok}
 use Rattle.format.specs.Basics.{given, ◌>>=◌, need, and_then}
 use Rattle.format.specs.Utf8.{trim}
 use Rattle.format.specs.TextReader.{splitn, hex2u16, same_cells, parse_linker_row, parse_linker_group}
@@ -19,8 +20,7 @@ use Rattle.text_lines.proofs.LineLaws.{length_part, part-inside}
 use Rattle.text_tables.specs.Reads.{read_from}
 use Rattle.text_tables.proofs.ReadLaws.{at_none, at_header, at_rows_lem, read-on}
 use Rattle.text_linker.specs.Linker.{linker_in, set_linker, linker_of, linker_columns, LinkerIs, NextLinker}
-use Rattle.text_linker.specs.declared.LinkerRow.TheVariants as lr
-use Rattle.text_linker.specs.declared.LinkerStep.TheVariants as ls
+use Rattle.text_linker.specs.declared.LinkerRow.{LinkerRow}
 
 pub linker-row : (h : ObjectFile) (l : List ℕ) → parse_linker_row h l ≡ (need 26 (linker_in l) >>= λ q. given (set_linker h q))
 unfolding parse_linker_row linker_in set_linker
@@ -63,11 +63,13 @@ module _ (l : List ℕ) where
   linker_some a s e f h = rw (← f, h)
 
 -- a row of the group that reads, its name placed in the text
-pub linker-inside : (t : List ℕ) (at a e n : ℕ) → RowAt t at a e n → (d s f : ℕ) → LinkerIs (part a e t) (lr.Row d s f) → NextLinker t at (ls.Row d (a + s) (a + f) n)
-linker-inside t at a e n l d s f i =
-    let h : f ≤ e - a = omega (arith, i.1, length_part a e t l.ordered l.inside) in
+pub linker-inside : (t : List ℕ) (at a e n : ℕ) → RowAt t at a e n → (r : LinkerRow) → LinkerIs (part a e t) (Some r)
+    → NextLinker t at (Ok (Some (record { address = r.address; start = a + r.start; end = a + r.end }, n)))
+linker-inside t at a e n l r i =
+    let h : r.end ≤ e - a = omega (arith, i.1, length_part a e t l.ordered l.inside) in
     let k : e ≤ length t = l.inside in (
       omega (arith, i.0),
       omega (arith, l.ordered),
-      read-on linker_in (group_view t) t at a e n l _ (i.2 ∙ ap (λ (p : List ℕ). some (record { address = d; name = p })) (sym (part-inside t a e s f i.0 h))),
+      read-on linker_in (group_view t) t at a e n l _
+          (i.2 ∙ ap (λ (p : List ℕ). some (record { address = r.address; name = p })) (sym (part-inside t a e r.start r.end i.0 h))),
     )

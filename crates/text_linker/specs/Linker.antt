@@ -1,6 +1,7 @@
 -- .LINKER_INFO's table from a place on.
 -- Assumes nothing.
-use Rattle.std.specs.Prelude.{◌≡◌, List, [], ◌∷◌, ℕ, ◌≤◌, length, get_or}
+use Rattle.std.specs.Prelude as std
+use Rattle.std.specs.Prelude.{Some, None, Result, Ok, Err, ◌≡◌, List, [], ◌∷◌, ℕ, ◌≤◌, length, get_or}
 use Rattle.std.proofs.Math.Option.{Option, none, some}
 use Rattle.format.specs.Basics.{and_then, ascii}
 use Rattle.format.specs.Utf8.{trim}
@@ -13,9 +14,8 @@ use Rattle.trim.specs.Span.{part}
 use Rattle.text_lines.specs.Groups.{parts_from, group_view}
 use Rattle.text_tables.specs.Reads.{read_from, ReadAt}
 use Rattle.text_linker.specs.declared.LinkerRow.{LinkerRow}
-use Rattle.text_linker.specs.declared.LinkerRow.TheVariants as lr
-use Rattle.text_linker.specs.declared.LinkerStep.{LinkerStep}
-use Rattle.text_linker.specs.declared.LinkerStep.TheVariants as ls
+use Rattle.units.specs.declared.refusal.Refusal.{Refusal}
+use Rattle.units.specs.Refusal.{number_of}
 
 abbrev pub linker_columns : List (List ℕ)
 linker_columns = ascii "ADDR" ∷ ascii "LABEL" ∷ []
@@ -31,14 +31,15 @@ set_linker h q = put_record h (relocation q)
 abbrev pub linker_of : List ℕ → ℕ → ℕ → ℕ → Relocation
 linker_of t a s e = record { address = a; name = part s e t }
 
-abbrev pub LinkerIs : List ℕ → LinkerRow → Type 0
-LinkerIs l (lr.Row a s e) = (s ≤ e) × (e ≤ length l) × (linker_in l ≡ some (linker_of l a s e))
-LinkerIs l lr.Bad = linker_in l ≡ none
+abbrev pub LinkerIs : List ℕ → std.Option LinkerRow → Type 0
+LinkerIs l (Some r) = (r.start ≤ r.end) × (r.end ≤ length l) × (linker_in l ≡ some (linker_of l r.address r.start r.end))
+LinkerIs l None = linker_in l ≡ none
 
-abbrev pub NextLinker : List ℕ → ℕ → LinkerStep → Type 0
-NextLinker t at (ls.Row a s e n) = (s ≤ e) × (e ≤ length t) × ReadAt linker_in (group_view t) t at (linker_of t a s e) n
-NextLinker t at ls.Done = (parts_from t at).before ≡ []
-NextLinker t at ls.Bad = read_from linker_in (group_view t) at ≡ none
+abbrev pub NextLinker : List ℕ → ℕ → Result (std.Option (LinkerRow × ℕ)) Refusal → Type 0
+NextLinker t at (Ok (Some p)) =
+    (p.0.start ≤ p.0.end) × (p.0.end ≤ length t) × ReadAt linker_in (group_view t) t at (linker_of t p.0.address p.0.start p.0.end) p.1
+NextLinker t at (Ok None) = (parts_from t at).before ≡ []
+NextLinker t at (Err r) = (number_of r ≡ 26) × (read_from linker_in (group_view t) at ≡ none)
 
 -- .LINKER_INFO's lines, checked
 abbrev pub LinkerChecked : List ℕ → ℕ → ℕ → ℕ → Type 0

@@ -4,129 +4,77 @@
 ghost use Rattle.std.specs.Prelude.{◌≡◌, map};
 ghost use Rattle.format.specs.Utf8.{trim};
 ghost use Rattle.format.specs.TextReader.{splitn, same_cells};
+ghost use Rattle.units.specs.Refusal.{number_in};
+ghost use Rattle.text_tables.specs.Symbols.{place_or};
 ghost use Rattle.text_linker.specs.Linker.{LinkerIs, NextLinker, LinkerChecked, linker_columns};
 
-use text_cells::{Number, cell_is, hex2u16, trimmed_cell};
-use text_lines::{Group, Line, next_row};
+use text_cells::{cell_is, hex2u16, trimmed_cell};
+use text_lines::next_row;
+use units::Refusal;
 
 // A row of .LINKER_INFO, and where its name stands.
 #[derive(Clone, Copy)]
-pub enum LinkerRow {
-    Row {
-        address: u16,
-        start: usize,
-        end: usize,
-    },
-    Bad,
+pub struct LinkerRow {
+    pub address: u16,
+    pub start: usize,
+    pub end: usize,
 }
-
-// The same, with the place after it.
-#[derive(Clone, Copy)]
-pub enum LinkerStep {
-    Row {
-        address: u16,
-        start: usize,
-        end: usize,
-        next: usize,
-    },
-    Done,
-    Bad,
-}
-
-const ADDR: [u8; 4] = [0x41, 0x44, 0x44, 0x52];
-
-const LABEL: [u8; 5] = [0x4C, 0x41, 0x42, 0x45, 0x4C];
 
 // ADDR and LABEL.
 fn parse_linker_header(l: &[u8]) -> bool
     ensures { result ≡ same_cells (map trim (splitn 1 l.now)) linker_columns }
 {
-    let addr = ADDR;
-    if !cell_is(l, 1, 0, &addr) {
+    if !cell_is(l, 1, 0, b"ADDR") {
         return false;
     }
-    let label = LABEL;
-    cell_is(l, 1, 1, &label)
+    cell_is(l, 1, 1, b"LABEL")
 }
 
 // What a row says.
-fn parse_linker_row(l: &[u8]) -> LinkerRow
+fn parse_linker_row(l: &[u8]) -> Option<LinkerRow>
     ensures { LinkerIs l.now result }
 {
     let c = trimmed_cell(l, 1, 0);
-    let c_start = c.start;
-    let c_end = c.end;
-    let Number::Value(a) = hex2u16(&l[c_start..c_end]) else {
-        return LinkerRow::Bad;
-    };
+    let address = hex2u16(&l[c.start..c.end])?;
     let n = trimmed_cell(l, 1, 1);
-    LinkerRow::Row {
-        address: a as u16,
+    Some(LinkerRow {
+        address,
         start: n.start,
         end: n.end,
-    }
+    })
 }
 
-// The next row.
-pub fn next_linker(t: &[u8], at: usize) -> LinkerStep
+// The next row, and the place after it, if there is one; a row that doesn't read is refused.
+pub fn next_linker(t: &[u8], at: usize) -> Result<Option<(LinkerRow, usize)>, Refusal>
     ensures { NextLinker t.now at result }
 {
-    let Line::At { start, end, next } = next_row(t, at) else {
-        return LinkerStep::Done;
+    let Some(line) = next_row(t, at) else {
+        return Ok(None);
     };
-    let LinkerRow::Row {
-        address,
-        start: s,
-        end: e,
-    } = parse_linker_row(&t[start..end])
-    else {
-        return LinkerStep::Bad;
+    let Some(row) = parse_linker_row(&t[line.start..line.end]) else {
+        return Err(Refusal::BadLabels);
     };
-    LinkerStep::Row {
-        address: address,
-        start: start + s,
-        end: start + e,
-        next: next,
-    }
+    let placed = LinkerRow {
+        address: row.address,
+        start: line.start + row.start,
+        end: line.start + row.end,
+    };
+    Ok(Some((placed, line.next)))
 }
 
-// The lines of the group, checked: 26.
-pub fn parse_linker_table(t: &[u8], at: usize) -> Group
-    ensures { LinkerChecked t.now at result.number result.next }
+// The lines of the group, checked: the place after them.
+pub fn parse_linker_table(t: &[u8], at: usize) -> Result<usize, Refusal>
+    ensures { LinkerChecked t.now at (number_in result) (place_or at result) }
 {
-    let Line::At { start, end, next } = next_row(t, at) else {
-        return Group {
-            number: 0,
-            next: at,
-        };
+    let Some(header) = next_row(t, at) else {
+        return Ok(at);
     };
-    if !parse_linker_header(&t[start..end]) {
-        return Group {
-            number: 26,
-            next: at,
-        };
+    if !parse_linker_header(&t[header.start..header.end]) {
+        return Err(Refusal::BadLabels);
     }
-    let mut i = next;
-    loop {
-        let step = next_linker(t, i);
-        match step {
-            LinkerStep::Row {
-                address: _,
-                start: _,
-                end: _,
-                next: n,
-            } => {
-                i = n;
-            }
-            LinkerStep::Done => {
-                return Group { number: 0, next: i };
-            }
-            LinkerStep::Bad => {
-                return Group {
-                    number: 26,
-                    next: at,
-                };
-            }
-        }
+    let mut i = header.next;
+    while let Some((_, next)) = next_linker(t, i)? {
+        i = next;
     }
+    Ok(i)
 }

@@ -6,13 +6,12 @@ use native.Mathlib.Nat.{pow-suc, pow-zero, div-lt_iff_lt-mul, mul-le-mul_left}
 use native.Mathlib.Numerals.{add-one}
 use native.Mathlib.Omega.{arith}
 use lib.ListN.{length, drop, set, take, length-append, length-set, length-drop, drop_of_length-le}
-use lib.Seq.{sets, take_all}
+use lib.Seq.{take_all}
 use borrow.Author.Tests.{lt-ltb, le-ltb}
 use mathlib.Core.List.{◌++◌}
 use Rattle.format.specs.Digits.{digits_of}
 use Rattle.format.specs.TextWriter.{upper_digit, lower_digit, numeral, hex4, decimal, spaces, to_right}
 use Rattle.writing.specs.Written.{Put}
-use Rattle.writing.proofs.WriteLaws.{stored as stored-part}
 
 numeral-on : (k base v : ℕ) (ds : List ℕ) → base ≤ v → numeral (suc k) base v ds ≡ numeral k base (v / base) (lower_digit (v % base) ∷ ds)
 unfolding numeral
@@ -129,18 +128,11 @@ less base v two h =
 pub count_of : (s : ℕ) (bytes ds : List ℕ) → s < 20 → length bytes ≡ 20 → drop s bytes ≡ ds → 20 - s ≡ length ds
 count_of s bytes ds h e q = omega (arith, length-drop s bytes, ap length q)
 
-made :
+pub made :
     (v a b c d : ℕ) → a ≡ upper_digit (v / 16 / 16 / 16 % 16) → b ≡ upper_digit (v / 16 / 16 % 16) → c ≡ upper_digit (v / 16 % 16)
     → d ≡ upper_digit (v % 16) → a ∷ b ∷ c ∷ d ∷ [] ≡ hex4 v
 unfolding hex4 digits_of
 made v a b c d ea eb ec ed = rw (ea, eb, ec, ed)
-
--- four digits stored
-pub hex4-stored :
-    (v a b c d : ℕ) (room : List ℕ) → a ≡ upper_digit (v / 16 / 16 / 16 % 16) → b ≡ upper_digit (v / 16 / 16 % 16) → c ≡ upper_digit (v / 16 % 16)
-    → d ≡ upper_digit (v % 16) → 4 ≤ length room → Put (hex4 v) room 4 (sets room 0 (a ∷ b ∷ c ∷ d ∷ []))
-hex4-stored v a b c d room ea eb ec ed h =
-    subst (λ (p : List ℕ). Put p room 4 (sets room 0 (a ∷ b ∷ c ∷ d ∷ []))) (made v a b c d ea eb ec ed) (stored-part (a ∷ b ∷ c ∷ d ∷ []) room 4 refl h)
 
 -- spaces
 more : (n i : ℕ) → i < n → drop i (spaces n) ≡ 0x20 ∷ drop (suc i) (spaces n)

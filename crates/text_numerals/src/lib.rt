@@ -1,12 +1,12 @@
 // The text writer's numerals and columns: `{:04X}`, `{}`, ????, and spaces. Part writers: each takes the unused rest of the output.
 #![tactic(auto)]
 
-ghost use Rattle.std.specs.Prelude.{◌≡◌, [], ◌^◌, ◌≤◌, ◌<◌, length, drop};
-ghost use Rattle.format.specs.TextWriter.{upper_digit, lower_digit, hex4, numeral, decimal, spaces, to_right, memory_text};
+ghost use Rattle.std.specs.Prelude.{◌≡◌, [], ◌+◌, ◌-◌, ◌^◌, ◌≤◌, ◌<◌, length, drop, ltb, if◌then◌else◌};
+ghost use Rattle.format.specs.TextWriter.{hex4, numeral, decimal, spaces, to_right, memory_text};
 ghost use Rattle.writing.specs.Written.{Put};
-ghost use Rattle.text_numerals.specs.Memory.{known_word};
+ghost use Rattle.text_numerals.specs.Memory.{word_of};
 
-use writing::put_bytes;
+use writing::{put_all, put_bytes};
 
 // A numeral's digits: those from `start` on.
 #[derive(Clone, Copy)]
@@ -15,59 +15,40 @@ struct Digits {
     start: usize,
 }
 
-// 000's TFMT_UNINIT.
-const TFMT_UNINIT: [u8; 4] = [0x3F, 0x3F, 0x3F, 0x3F];
-
-fn upper_digit(d: u16) -> u8
-    requires { d < 16 }
-    ensures { result ≡ upper_digit d }
+// A digit: past nine come the letters from `ten` on.
+fn digit(d: u64, ten: u8) -> u8
+    requires { (d < 16) × (10 ≤ ten) × (ten < 0x70) }
+    ensures { result ≡ (if ltb d 10 then 48 + d else ten - 10 + d) }
 {
     if d < 10 {
-        return 48 + d as u8;
+        return b'0' + d as u8;
     }
-    55 + d as u8
-}
-
-fn lower_digit(d: u64) -> u8
-    requires { d < 16 }
-    ensures { result ≡ lower_digit d }
-{
-    if d < 10 {
-        return 48 + d as u8;
-    }
-    87 + d as u8
+    ten - 10 + d as u8
 }
 
 // Four upper-case hexadecimal digits.
 pub fn put_hex4(out: &mut [u8], v: u16) -> usize
     ensures { Put (hex4 v) out.old result out.new }
 {
-    if out.len() < 4 {
-        return 0;
-    }
-    let v1 = v / 16;
-    let v2 = v1 / 16;
-    let v3 = v2 / 16;
-    let a = upper_digit(v3 % 16);
-    let b = upper_digit(v2 % 16);
-    let c = upper_digit(v1 % 16);
-    let d = upper_digit(v % 16);
-    out[0] = a;
-    out[1] = b;
-    out[2] = c;
-    out[3] = d;
-    4
+    let n = u64::from(v);
+    let n1 = n / 16;
+    let n2 = n1 / 16;
+    let n3 = n2 / 16;
+    let a = digit(n3 % 16, b'A');
+    let b = digit(n2 % 16, b'A');
+    let c = digit(n1 % 16, b'A');
+    let d = digit(n % 16, b'A');
+    put_all(out, &[a, b, c, d])
 }
 
 // A memory word or an address, or ???? where it isn't known.
-pub fn put_memory(out: &mut [u8], known: bool, value: u16) -> usize
-    ensures { Put (memory_text (known_word known value)) out.old result out.new }
+pub fn put_memory(out: &mut [u8], word: Option<u16>) -> usize
+    ensures { Put (memory_text (word_of word)) out.old result out.new }
 {
-    if known {
-        return put_hex4(out, value);
+    match word {
+        Some(value) => put_hex4(out, value),
+        None => put_bytes(out, b"????"),
     }
-    let uninit = TFMT_UNINIT;
-    put_bytes(out, &uninit)
 }
 
 // The digits of `n`, filled from the last.
@@ -79,12 +60,12 @@ fn digits_of(n: u64, base: u64) -> Digits
     let mut i: usize = 20;
     let mut v = n;
     while base <= v {
-        let d = lower_digit(v % base);
+        let d = digit(v % base, b'a');
         i -= 1;
         bytes[i] = d;
         v = v / base;
     }
-    let d = lower_digit(v);
+    let d = digit(v, b'a');
     i -= 1;
     bytes[i] = d;
     Digits {
@@ -152,12 +133,8 @@ pub fn put_spaces(out: &mut [u8], n: usize) -> usize
     if out.len() < n {
         return 0;
     }
-    let mut i = 0;
-    while i < n {
-        out[i] = 0x20;
-        i += 1;
-    }
-    i
+    out[..n].fill(b' ');
+    n
 }
 
 // The decimal numeral of `n`, filled to the right of a column.

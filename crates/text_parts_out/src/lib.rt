@@ -11,8 +11,8 @@ ghost use Rattle.measuring.specs.Room.{room_of, less, less_part};
 ghost use Rattle.measuring.specs.Fitting.{fitting};
 ghost use Rattle.text_parts_out.specs.Parts.{heads, memory_lines, block_text, block_places, link_text};
 
-use measuring::Room;
-use object::{body_end, goes_on, kind, text_len};
+use measuring::take;
+use object::{Kind, body_end, goes_on, text_len};
 use text_numerals::count_digits;
 use text_rows_out::{
     measure_linker_row, put_address_line, put_count_line, put_linker_row, put_memory_line,
@@ -33,39 +33,30 @@ fn put_memory_lines(out: &mut [u8], ws: &[u32], at: usize) -> usize
 }
 
 // The room that a block of so many words leaves: address, count, and five bytes for each word.
-fn block_room(room: usize, count: usize) -> Room
+fn block_room(room: usize, count: usize) -> Option<usize>
     ensures { room_of result ≡ less room (length (decimal count) + 6 + 5 * count) }
 {
-    let head = count_digits(count as u64) + 6;
-    if room < head {
-        return Room::Short;
-    }
-    let left = room - head;
-    if left / 5 < count {
-        return Room::Short;
-    }
-    Room::Left(left - 5 * count)
+    let left = take(room, count_digits(count as u64) + 6)?;
+    let words = count.checked_mul(5)?;
+    take(left, words)
 }
 
 // The room that .TEXT leaves: the records from the front on, as long as they are blocks.
-pub fn measure_blocks(room: usize, ws: &[u32]) -> Room
+pub fn measure_blocks(room: usize, ws: &[u32]) -> Option<usize>
     ensures { room_of result ≡ less_part room (flat_map (block_text ws.now) (block_places ws.now)) }
 {
     let mut left = room;
     let mut at = 0;
     while at < ws.len() {
-        if kind(ws[at]) != 0 {
-            return Room::Left(left);
+        if Kind::of(ws[at]) != Kind::Block {
+            return Some(left);
         }
         let body = at + 1;
         let end = body_end(ws, body);
-        let Room::Left(rest) = block_room(left, end - body) else {
-            return Room::Short;
-        };
-        left = rest;
+        left = block_room(left, end - body)?;
         at = end;
     }
-    Room::Left(left)
+    Some(left)
 }
 
 // The first two lines of a block: address and count.
@@ -82,9 +73,9 @@ fn put_block(out: &mut [u8], ws: &[u32], at: usize, count: usize) -> usize
     requires { (at < length ws.now) × (count ≡ length (body_at ws.now (at + 1))) }
     ensures { Put (block_text ws.now at) out.old result out.new }
 {
-    let Room::Left(_) = block_room(out.len(), count) else {
+    if block_room(out.len(), count).is_none() {
         return 0;
-    };
+    }
     let n = put_block_head(out, (ws[at] % 0x1_0000) as u16, count);
     n + put_memory_lines(&mut out[n..], ws, at + 1)
 }
@@ -97,7 +88,7 @@ pub fn put_blocks(out: &mut [u8], ws: &[u32]) -> usize
     let mut n = 0;
     let mut at = 0;
     while at < ws.len() {
-        if kind(ws[at]) != 0 {
+        if Kind::of(ws[at]) != Kind::Block {
             return n;
         }
         let body = at + 1;
@@ -109,13 +100,13 @@ pub fn put_blocks(out: &mut [u8], ws: &[u32]) -> usize
 }
 
 // The room that the record at a place leaves in .LINKER_INFO, whose body ends at another.
-fn measure_relocation(room: usize, ws: &[u32], at: usize, end: usize) -> Room
+fn measure_relocation(room: usize, ws: &[u32], at: usize, end: usize) -> Option<usize>
     requires { (at < length ws.now) × (end ≡ at + 1 + length (body_at ws.now (at + 1))) }
     ensures { room_of result ≡ less_part room (link_text ws.now at) }
 {
     let w = ws[at];
-    if kind(w) != 5 {
-        return Room::Left(room);
+    if Kind::of(w) != Kind::Relocation {
+        return Some(room);
     }
     let body = at + 1;
     let n = text_len(ws, body, end);
@@ -128,7 +119,7 @@ fn put_relocation(out: &mut [u8], ws: &[u32], at: usize, end: usize) -> usize
     ensures { Put (link_text ws.now at) out.old result out.new }
 {
     let w = ws[at];
-    if kind(w) != 5 {
+    if Kind::of(w) != Kind::Relocation {
         return 0;
     }
     let body = at + 1;
@@ -137,20 +128,17 @@ fn put_relocation(out: &mut [u8], ws: &[u32], at: usize, end: usize) -> usize
 }
 
 // The room that the rows of the relocations from a head on leave.
-pub fn measure_relocations(room: usize, ws: &[u32], from: usize) -> Room
+pub fn measure_relocations(room: usize, ws: &[u32], from: usize) -> Option<usize>
     ensures { room_of result ≡ less_part room (flat_map (link_text ws.now) (heads ws.now from)) }
 {
     let mut left = room;
     let mut at = from;
     while at < ws.len() {
         let end = body_end(ws, at + 1);
-        let Room::Left(rest) = measure_relocation(left, ws, at, end) else {
-            return Room::Short;
-        };
-        left = rest;
+        left = measure_relocation(left, ws, at, end)?;
         at = end;
     }
-    Room::Left(left)
+    Some(left)
 }
 
 // The rows of the relocations from a head on, each that fits.

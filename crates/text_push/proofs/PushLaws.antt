@@ -16,8 +16,9 @@ use Rattle.writing.proofs.WriteLaws.{filled-fits, written-fits, length-into}
 use Rattle.writing.proofs.Parts.{Emits, emit_one, room-one, emitted}
 use Rattle.encode.specs.Scalar.{scalar_bytes}
 use Rattle.format.proofs.PieceLengths.{encode_few}
-use Rattle.text_push.specs.declared.Held.{Held}
-use Rattle.text_push.specs.Pushes.{full_word, last_word, place_after, stored, pushed, pushed_all, flushed, Pushes, Stores, Flushes}
+use Rattle.text_push.specs.declared.Over.{Over}
+use Rattle.text_push.specs.declared.Over.TheVariants as over
+use Rattle.text_push.specs.Pushes.{State, held_over, full_word, last_word, place_after, stored, pushed, pushed_all, flushed, Pushes, Stores, Flushes}
 
 -- A WORD STORED
 set_past : (xs : List ℕ) (i a : ℕ) → length xs ≤ i → xs ≡ set xs i a
@@ -42,7 +43,7 @@ module _ (at : ℕ) (out : List ℕ) where
   store_there w h = ap (λ (k : ℕ). (record { at = k; count = 0; low = 0; mid = 0 }, set out at w)) (place-next h)
 
 -- A BYTE
-module _ (h : Held) (b : ℕ) (out : List ℕ) where
+module _ (h : State) (b : ℕ) (out : List ℕ) where
   pub push_first : h.count ≡ 0 → Pushes (b ∷ []) h out (record { at = h.at; count = 1; low = b; mid = 0 }) out
   unfolding pushed_all pushed
   push_first e = rw (eq-eqb h.count 0 e) refl
@@ -52,23 +53,23 @@ module _ (h : Held) (b : ℕ) (out : List ℕ) where
     unfolding pushed_all pushed
     push_second e = rw (ne_eqb h.count 0 z, eq-eqb h.count 1 e) refl
 
-    pub push_third : (h.count ≡ 1 → ⊥) → (r : Held) (after : List ℕ) → Stores (full_word h.low h.mid b) h.at out r after
+    pub push_third : (h.count ≡ 1 → ⊥) → (r : State) (after : List ℕ) → Stores (full_word h.low h.mid b) h.at out r after
         → Pushes (b ∷ []) h out r after
     unfolding pushed_all pushed
     push_third o r after w = rw (ne_eqb h.count 0 z, ne_eqb h.count 1 o) w
 
 -- BYTES, one after the other and three at once
-three_is : (h : Held) (out : List ℕ) (a b c : ℕ) (bs : List ℕ) → h.count ≡ 0
+three_is : (h : State) (out : List ℕ) (a b c : ℕ) (bs : List ℕ) → h.count ≡ 0
     → pushed_all (a ∷ b ∷ c ∷ bs) (h, out) ≡ pushed_all bs (stored (full_word a b c) h.at out)
 unfolding pushed_all pushed
 three_is h out a b c bs e = rw (eq-eqb h.count 0 e) refl
 
-pub record Pushing (s : List ℕ) (start h : Held) (room out : List ℕ) (i : ℕ) : Type 0 where
+pub record Pushing (s : List ℕ) (start h : State) (room out : List ℕ) (i : ℕ) : Type 0 where
   pub inside : i ≤ length s
   pub long : length out ≡ length room
   pub same : pushed_all (drop i s) (h, out) ≡ pushed_all s (start, room)
 
-pub pushing_begin : (s : List ℕ) (start : Held) (room : List ℕ) → Pushing s start start room room 0
+pub pushing_begin : (s : List ℕ) (start : State) (room : List ℕ) → Pushing s start start room room 0
 pushing_begin s start room = record { inside = omega arith; long = refl; same = refl }
 
 three-bytes : (s : List ℕ) (i : ℕ) → 3 ≤ length s - i → drop i s ≡ get_or s i 0 ∷ get_or s (i + 1) 0 ∷ get_or s (i + 2) 0 ∷ drop (i + 3) s
@@ -82,8 +83,8 @@ three-bytes s i h =
     ∙ ap (λ (l : List ℕ). get_or s (i + 1) 0 ∷ l)
     (drop_at_place 0 s (i + 2) (omega arith) ∙ ap (λ (k : ℕ). get_or s (i + 2) 0 ∷ drop k s) three))
 
-module _ (s : List ℕ) (start h : Held) (room out : List ℕ) (i : ℕ) (p : Pushing s start h room out i) where
-  pub pushing_on : i < length s → (g : Held) (after : List ℕ) → length after ≡ length out
+module _ (s : List ℕ) (start h : State) (room out : List ℕ) (i : ℕ) (p : Pushing s start h room out i) where
+  pub pushing_on : i < length s → (g : State) (after : List ℕ) → length after ≡ length out
       → Pushes (get_or s i 0 ∷ []) h out g after → Pushing s start g room after (i + 1)
   unfolding pushed_all
   pushing_on l g after e w =
@@ -95,7 +96,7 @@ module _ (s : List ℕ) (start h : Held) (room out : List ℕ) (i : ℕ) (p : Pu
             ∙ ap (λ (bs : List ℕ). pushed_all bs (h, out)) (sym (drop_at_place 0 s i l)) ∙ p.same;
       }
 
-  pub pushing_three : 3 ≤ length s - i → h.count ≡ 0 → (g : Held) (after : List ℕ) → length after ≡ length out
+  pub pushing_three : 3 ≤ length s - i → h.count ≡ 0 → (g : State) (after : List ℕ) → length after ≡ length out
       → Stores (full_word (get_or s i 0) (get_or s (i + 1) 0) (get_or s (i + 2) 0)) h.at out g after → Pushing s start g room after (i + 3)
   pushing_three l z g after e w =
       record {
@@ -132,13 +133,13 @@ module _ (v : ℕ) (bytes after : List ℕ) (n : ℕ) (l : length bytes ≡ 4) (
       ∙ take_at (scalar_bytes v) (drop (length (scalar_bytes v)) bytes) (length (scalar_bytes v)) refl
 
 -- THE END
-module _ (h : Held) (out : List ℕ) where
+module _ (h : State) (out : List ℕ) where
   pub flush_none : h.count ≡ 0 → Flushes h out h.at out
   unfolding flushed
   flush_none e = rw (eq-eqb h.count 0 e) refl
 
   module _ (z : h.count ≡ 0 → ⊥) where
-    pub flush_past : length out ≤ h.at → Flushes h out h.at out
+    flush_past : length out ≤ h.at → Flushes h out h.at out
     unfolding flushed
     flush_past l =
         rw (ne_eqb h.count 0 z)
@@ -149,6 +150,11 @@ module _ (h : Held) (out : List ℕ) where
     flush_there w e l =
         rw (ne_eqb h.count 0 z) (ap₂ (λ (k : ℕ) (x : ℕ). (k, set out h.at x)) (place-next h.at out l) e)
 
+pub flush_full : (at : ℕ) (o : Over) (out : List ℕ) → length out ≤ at → Flushes (held_over at o) out at out
+flush_full at over.Nothing out l = flush_none _ out refl
+flush_full at (over.One a) out l = flush_past _ out (λ z. absurd (omega arith)) l
+flush_full at (over.Two a b) out l = flush_past _ out (λ z. absurd (omega arith)) l
+
 pub last_one : (n a b : ℕ) → n ≡ 1 → 0xE100_0000 + a ≡ last_word n a b
 last_one n a b e = rw (eq-eqb n 1 e) refl
 
@@ -156,13 +162,13 @@ pub last-two : (n a b : ℕ) → (n ≡ 1 → ⊥) → 0xE200_0000 + a + 256 * b
 last-two n a b e = rw (ne_eqb n 1 e) refl
 
 -- A TEXT being written that has room: the words before those of the bytes held over stand, and these bytes are left
-abbrev pub HeldIs : Held → List ℕ → Type 0
+abbrev pub HeldIs : State → List ℕ → Type 0
 HeldIs h [] = h.count ≡ 0
 HeldIs h (a ∷ []) = (h.count ≡ 1) × (h.low ≡ a)
 HeldIs h (a ∷ b ∷ []) = (h.count ≡ 2) × (h.low ≡ a) × (h.mid ≡ b)
 HeldIs h (a ∷ b ∷ c ∷ bs) = ⊥
 
-pub record Texting (whole room left : List ℕ) (s : Held × List ℕ) : Type 0 where
+pub record Texting (whole room left : List ℕ) (s : State × List ℕ) : Type 0 where
   pub held : List ℕ
   pub is : HeldIs s.0 held
   pub emits : Emits whole room (text_words (held ++ left)) (record { at = s.0.at; out = s.1 })
@@ -173,7 +179,7 @@ module _ (whole room : List ℕ) where
   full-word a b c left =
       let w : word 7 (value_of 8 (a ∷ b ∷ c ∷ 3 ∷ [])) ≡ full_word a b c = omega arith in ap (λ (k : ℕ). k ∷ text_words left) w
 
-  one_byte : (hs : List ℕ) (b : ℕ) (left : List ℕ) (s : Held × List ℕ) → HeldIs s.0 hs
+  one_byte : (hs : List ℕ) (b : ℕ) (left : List ℕ) (s : State × List ℕ) → HeldIs s.0 hs
       → Emits whole room (text_words (hs ++ b ∷ left)) (record { at = s.0.at; out = s.1 }) → Texting whole room left (pushed b s)
   unfolding pushed
   one_byte [] b left s i f =
@@ -195,13 +201,13 @@ module _ (whole room : List ℕ) where
   one_byte (a ∷ d ∷ e ∷ hs) b left s i f = absurd i
 
   -- bytes are taken off it
-  pub pushed-text : (bs left : List ℕ) (s : Held × List ℕ) → Texting whole room (bs ++ left) s → Texting whole room left (pushed_all bs s)
+  pub pushed-text : (bs left : List ℕ) (s : State × List ℕ) → Texting whole room (bs ++ left) s → Texting whole room left (pushed_all bs s)
   unfolding pushed_all
   pushed-text [] left s x = x
   pushed-text (b ∷ bs) left s x = pushed-text bs left (pushed b s) (one_byte x.held b (bs ++ left) s x.is x.emits)
 
   -- it ends, and all its words stand
-  last-bytes : (hs : List ℕ) (h : Held) (out : List ℕ) → HeldIs h hs
+  last-bytes : (hs : List ℕ) (h : State) (out : List ℕ) → HeldIs h hs
       → Emits whole room (text_words (hs ++ [])) (record { at = h.at; out = out }) → Put whole room (flushed h out).0 (flushed h out).1
   unfolding flushed text_words value_of
   last-bytes [] h out i f = rw (eq-eqb h.count 0 i) (emitted f refl)
@@ -222,5 +228,5 @@ module _ (whole room : List ℕ) where
       (emitted (emit_one f _ [] e) refl))
   last-bytes (a ∷ b ∷ c ∷ hs) h out i f = absurd i
 
-  pub flushed-text : (h : Held) (out : List ℕ) → Texting whole room [] (h, out) → Put whole room (flushed h out).0 (flushed h out).1
+  pub flushed-text : (h : State) (out : List ℕ) → Texting whole room [] (h, out) → Put whole room (flushed h out).0 (flushed h out).1
   flushed-text h out x = last-bytes x.held h out x.is x.emits

@@ -3,89 +3,78 @@
 
 ghost use Rattle.std.specs.Prelude.{◌+◌, ◌*◌, [], ◌∷◌};
 ghost use Rattle.encode.specs.Scalar.{scalar_bytes};
-ghost use Rattle.text_push.specs.Pushes.{full_word, Stores, Pushes, Flushes};
+ghost use Rattle.text_push.specs.Pushes.{state_of, full_word, Stores, Pushes, Flushes};
 
 use encode::encode_scalar;
 
-// A text that is being written: the place of its next word, and the bytes that are held over for it, at most two.
+// The bytes that are held over for a text's next word, at most two.
+#[derive(Clone, Copy)]
+pub enum Over {
+    Nothing,
+    One(u8),
+    Two(u8, u8),
+}
+
+// A text that is being written: the place of its next word, and the bytes that are held over for it.
 #[derive(Clone, Copy)]
 pub struct Held {
     pub at: usize,
-    pub count: u8,
-    pub low: u8,
-    pub mid: u8,
+    pub over: Over,
 }
 
 // A word of three bytes, where there is room for it; no bytes are held over then.
 fn store_word(out: &mut [u32], at: usize, low: u8, mid: u8, high: u8) -> Held
-    ensures { Stores (full_word low mid high) at out.old result out.new }
+    ensures { Stores (full_word low mid high) at out.old (state_of result) out.new }
 {
-    let a = low as u32;
-    let b = mid as u32;
-    let c = high as u32;
+    let over = Over::Nothing;
     if out.len() <= at {
-        return Held {
-            at: at,
-            count: 0,
-            low: 0,
-            mid: 0,
-        };
+        return Held { at, over };
     }
-    out[at] = 0xE300_0000 + a + 256 * b + 65536 * c;
-    Held {
-        at: at + 1,
-        count: 0,
-        low: 0,
-        mid: 0,
-    }
+    out[at] = 0xE300_0000 + u32::from(low) + 256 * u32::from(mid) + 65536 * u32::from(high);
+    Held { at: at + 1, over }
 }
 
 // One more byte of a text.
 pub fn push(out: &mut [u32], h: Held, b: u8) -> Held
-    ensures { Pushes (b ∷ []) h out.old result out.new }
+    ensures { Pushes (b ∷ []) (state_of h) out.old (state_of result) out.new }
 {
-    if h.count == 0 {
-        return Held {
+    match h.over {
+        Over::Nothing => Held {
             at: h.at,
-            count: 1,
-            low: b,
-            mid: 0,
-        };
-    }
-    if h.count == 1 {
-        return Held {
+            over: Over::One(b),
+        },
+        Over::One(low) => Held {
             at: h.at,
-            count: 2,
-            low: h.low,
-            mid: b,
-        };
+            over: Over::Two(low, b),
+        },
+        Over::Two(low, mid) => store_word(out, h.at, low, mid, b),
     }
-    store_word(out, h.at, h.low, h.mid, b)
 }
 
 // More bytes of a text, word by word where none are held over.
 pub fn push_bytes(out: &mut [u32], start: Held, s: &[u8]) -> Held
-    ensures { Pushes s.now start out.old result out.new }
+    ensures { Pushes s.now (state_of start) out.old (state_of result) out.new }
 {
     let mut h = start;
     let mut i = 0;
     while i < s.len() {
-        if h.count == 0 {
-            if 3 <= s.len() - i {
+        match h.over {
+            Over::Nothing if 3 <= s.len() - i => {
                 h = store_word(out, h.at, s[i], s[i + 1], s[i + 2]);
                 i += 3;
-                continue;
+            }
+            _ => {
+                h = push(out, h, s[i]);
+                i += 1;
             }
         }
-        h = push(out, h, s[i]);
-        i += 1;
     }
     h
 }
 
 // The bytes of a scalar value; none of another number.
 pub fn push_scalar(out: &mut [u32], h: Held, v: u32) -> Held
-    ensures { Pushes (scalar_bytes v) h out.old result out.new }
+    ensures { Pushes (scalar_bytes v) (state_of h) out.old (state_of result) out.new }
 {
     let mut bytes = [0u8; 4];
     let n = encode_scalar(&mut bytes, v);
@@ -94,21 +83,16 @@ pub fn push_scalar(out: &mut [u32], h: Held, v: u32) -> Held
 
 // The word of the bytes that are left over at the end, where there is room for it: the length of all that is written.
 pub fn flush(out: &mut [u32], h: Held) -> usize
-    ensures { Flushes h out.old result out.new }
+    ensures { Flushes (state_of h) out.old result out.new }
 {
     let at = h.at;
-    if h.count == 0 {
-        return at;
-    }
     if out.len() <= at {
         return at;
     }
-    let low = h.low as u32;
-    if h.count == 1 {
-        out[at] = 0xE100_0000 + low;
-        return at + 1;
+    match h.over {
+        Over::Nothing => return at,
+        Over::One(low) => out[at] = 0xE100_0000 + u32::from(low),
+        Over::Two(low, mid) => out[at] = 0xE200_0000 + u32::from(low) + 256 * u32::from(mid),
     }
-    let mid = h.mid as u32;
-    out[at] = 0xE200_0000 + low + 256 * mid;
     at + 1
 }

@@ -21,9 +21,8 @@ use Rattle.format.proofs.TextBound.{text-words-few, text-source-few}
 use Rattle.text_tables.specs.Debug.{line_view}
 use Rattle.text_source.specs.Stream.{source_from}
 use Rattle.text_blocks.specs.Blocks.{blocks_length}
-use Rattle.text_scan.specs.declared.Scanned.{Scanned}
 use Rattle.text_scan.specs.Walk.{line_blocks_of, source_of}
-use Rattle.text_scan.specs.Scan.{Read, Scans}
+use Rattle.text_scan.specs.Scan.{Scan, Read, Scans}
 use Rattle.text_rows.proofs.FileLaws.{PartsOf, text-parts}
 use Rattle.text_labels.specs.Labels.{labels_of}
 use Rattle.text_labels.proofs.FileLaws.{text-words}
@@ -66,7 +65,7 @@ relocations_are : (sourced : Bool) (u : List ℕ)
 unfolding relocation_parts keeps_relocations flat_map
 relocations_are sourced u = by_test (is_empty (labels_of u) && not sourced) (λ e. simp e) (λ e. simp e)
 
-module _ (s t : List ℕ) (r : Scanned) (h : ObjectFile) (e : text_object s ≡ given h) (x : Read t r h) where
+module _ (s t : List ℕ) (r : Scan) (h : ObjectFile) (e : text_object s ≡ given h) (x : Read t r h) where
   abbrev u : List ℕ
   u = trim s
 
@@ -138,34 +137,34 @@ module _ (s t : List ℕ) (r : Scanned) (h : ObjectFile) (e : text_object s ≡ 
       omega (arith, text-source-few s h e, ap (λ (o : Option (List ℕ)). length (source_text o)) is)
 
 -- THE CALLS: a refusal, a buffer that is too short, and the words
-pub read-refused : (s t : List ℕ) (r : Scanned) (buffer : List ℕ) → Scans t (text_object s) r → (r.number ≡ 0 → ⊥)
+pub read-refused : (s t : List ℕ) (r : Scan) (buffer : List ℕ) → Scans t (text_object s) r → (r.number ≡ 0 → ⊥)
     → record { number = r.number; len = 0; buffer = buffer } ≡ fill (read_text s) buffer
 unfolding read_text fill
 read-refused s t r buffer q z = go (text_object s) q
   where
     go : (o : Outcome ObjectFile) → Scans t o r
         → record { number = r.number; len = 0; buffer = buffer } ≡ fill (o >>= λ h. given (words_of h)) buffer
-    go (refused n) q = ap (λ (x : Scanned). record { number = x.number; len = 0; buffer = buffer }) q.0
+    go (refused n) q = ap (λ (x : Scan). record { number = x.number; len = 0; buffer = buffer }) q.0
     go (given h) q = absurd (z q.yes)
 
-pub read-given : (s t : List ℕ) (r : Scanned) → Scans t (text_object s) r → r.number ≡ 0
+pub read-given : (s t : List ℕ) (r : Scan) → Scans t (text_object s) r → r.number ≡ 0
     → (h : ObjectFile) × (text_object s ≡ given h) × Read t r h
 read-given s t r q z = go (text_object s) refl q
   where
     go : (o : Outcome ObjectFile) → text_object s ≡ o → Scans t o r → (h : ObjectFile) × (text_object s ≡ given h) × Read t r h
-    go (refused n) e q = let k : 0 ≡ n = sym z ∙ ap (λ (x : Scanned). x.number) q.0 in absurd (omega (arith, q.1))
+    go (refused n) e q = let k : 0 ≡ n = sym z ∙ ap (λ (x : Scan). x.number) q.0 in absurd (omega (arith, q.1))
     go (given h) e q = (h, e, q)
 
-pub length-refused : (s t : List ℕ) (r : Scanned) → Scans t (text_object s) r → (r.number ≡ 0 → ⊥)
+pub length-refused : (s t : List ℕ) (r : Scan) → Scans t (text_object s) r → (r.number ≡ 0 → ⊥)
     → record { number = r.number; len = 0 } ≡ measured (read_text s)
 unfolding read_text measured
 length-refused s t r q z = go (text_object s) q
   where
     go : (o : Outcome ObjectFile) → Scans t o r → record { number = r.number; len = 0 } ≡ measured (o >>= λ h. given (words_of h))
-    go (refused n) q = ap (λ (x : Scanned). record { number = x.number; len = 0 }) q.0
+    go (refused n) q = ap (λ (x : Scan). record { number = x.number; len = 0 }) q.0
     go (given h) q = absurd (z q.yes)
 
-module _ (s t : List ℕ) (r : Scanned) (q : Scans t (text_object s) r) (z : r.number ≡ 0) where
+module _ (s t : List ℕ) (r : Scan) (q : Scans t (text_object s) r) (z : r.number ≡ 0) where
   answer : read_text s ≡ given (joined (object_parts (trim s) t r.sourced r.rows))
   unfolding read_text
   answer =
@@ -251,7 +250,7 @@ module _ (u t : List ℕ) (sourced : Bool) (rows fixed : ℕ) (e : fixed ≡ fix
   fill-fits m h = omega (arith, h, e, total_words u t sourced rows)
 
 -- THE FILE'S RANGES, as the calls lend them: what trimming leaves, and the file up to the end of it
-module _ (s : List ℕ) (r : Scanned) (q : Scans (take r.end s) (text_object s) r) (z : r.number ≡ 0) where
+module _ (s : List ℕ) (r : Scan) (q : Scans (take r.end s) (text_object s) r) (z : r.number ≡ 0) where
   cut_is : take r.end s ≡ take (r.end - 0) s
   cut_is = let k : r.end ≡ r.end - 0 = omega arith in ap (λ (n : ℕ). take n s) k
 

@@ -18,8 +18,7 @@ use Rattle.encode.specs.Scalar.{scalar_bytes}
 use Rattle.text_source.specs.declared.Source.{Source}
 use Rattle.text_source.specs.Stream.{source_from, bytes_left}
 use Rattle.text_source.specs.Unescape.{tokens_left, TokenAt}
-use Rattle.text_push.specs.declared.Held.{Held}
-use Rattle.text_push.specs.Pushes.{Pushes, Flushes}
+use Rattle.text_push.specs.Pushes.{State, Pushes, Flushes}
 use Rattle.text_push.proofs.PushLaws.{Texting, pushed-text, flushed-text}
 use Rattle.text_read.specs.SourceText.{source_at, Unescapes}
 
@@ -62,7 +61,7 @@ module _ (t : List ℕ) (cur : Source) (left : List ℕ) (r : Drains t cur left)
       )
 
 -- written
-pub record Draining (t : List ℕ) (rows : ℕ) (room out : List ℕ) (cur : Source) (h : Held) : Type 0 where
+pub record Draining (t : List ℕ) (rows : ℕ) (room out : List ℕ) (cur : Source) (h : State) : Type 0 where
   pub left : List ℕ
   pub drains : Drains t cur left
   pub state : Texting (text_words (source_at t rows)) room left (h, out)
@@ -80,14 +79,14 @@ scalar_is : (v : ℕ) → is_scalar v ≡ true → scalar_bytes v ≡ encode_sca
 unfolding scalar_bytes
 scalar_is v z = simp z
 
-module _ (t : List ℕ) (rows : ℕ) (room out : List ℕ) (cur : Source) (h : Held) (s : Draining t rows room out cur h) where
+module _ (t : List ℕ) (rows : ℕ) (room out : List ℕ) (cur : Source) (h : State) (s : Draining t rows room out cur h) where
   abbrev whole : List ℕ
   whole = text_words (source_at t rows)
 
   pub draining_long : length out ≡ length room
   draining_long = same s.state.emits
 
-  pub draining_on : (bs : List ℕ) (d : Source) → TokenAt t cur bs d → (g : Held) (after : List ℕ) → Pushes bs h out g after
+  pub draining_on : (bs : List ℕ) (d : Source) → TokenAt t cur bs d → (g : State) (after : List ℕ) → Pushes bs h out g after
       → Draining t rows room after d g
   draining_on bs d k g after w =
       let n = drains_on t cur s.left s.drains bs d k in
@@ -95,10 +94,10 @@ module _ (t : List ℕ) (rows : ℕ) (room out : List ℕ) (cur : Source) (h : H
       record {
         left = n.0;
         drains = n.2;
-        state = subst (λ (p : Held × List ℕ). Texting whole room n.0 p) (sym w) (pushed-text whole room bs n.0 (h, out) x);
+        state = subst (λ (p : State × List ℕ). Texting whole room n.0 p) (sym w) (pushed-text whole room bs n.0 (h, out) x);
       }
 
-  pub draining_scalar : (v : ℕ) → is_scalar v ≡ true → (d : Source) → TokenAt t cur (encode_scalar v) d → (g : Held) (after : List ℕ)
+  pub draining_scalar : (v : ℕ) → is_scalar v ≡ true → (d : Source) → TokenAt t cur (encode_scalar v) d → (g : State) (after : List ℕ)
       → Pushes (scalar_bytes v) h out g after → Draining t rows room after d g
   draining_scalar v z d k g after w =
       draining_on (encode_scalar v) d k g after (subst (λ (bs : List ℕ). Pushes bs h out g after) (scalar_is v z) w)

@@ -3,3 +3,4 @@ pub mod TakenLaws
 pub mod FileLaws
 pub mod SkipLaws
 pub mod StepLaws
+pub mod KindLaws

@@ -1,11 +1,12 @@
 -- Lines passed over many at a time, up to one that begins with `.`. Assumes nothing.
 use mathlib.Core.Path.{◌≡◌, refl, sym, ap, ◌∙◌, subst}
-use mathlib.Core.Bool.{true, false}
+use mathlib.Core.Bool.{true, false, ◌&&◌}
 use mathlib.Core.List.{List, [], ◌∷◌}
 use Prim.Native.Nat.{ℕ, zero, suc, ◌+◌, ◌-◌, ◌≤◌, ◌<◌}
 use native.Mathlib.Omega.{arith}
 use lib.ListN.{length, get_or}
 use lib.Dec.{eqb, ltb}
+use Rattle.std.proofs.lemmas.Bool.Decides.{nat_tests}
 use borrow.Author.Tests.{ne_eqb, eqb-true, eqb-false, ltb-true, ltb-false}
 use Rattle.format.specs.Basics.{ascii, begins_with, is_empty}
 use Rattle.format.specs.Utf8.{char_at, is_white_space, trim_from, trim_start, is_blank}
@@ -121,16 +122,31 @@ headless_more t a e h n i p q x y =
 pub headless_join : (t : List ℕ) (a b e : ℕ) → Headless t a b → Headless t b e → Headless t a e
 headless_join t a b e h k i p q x y = by_test (ltb i b) (λ w. h i p (ltb-true i b w) x y) (λ w. k i (ltb-false i b w) q x y)
 
-module _ (t : List ℕ) (at i : ℕ) (v : (at ≤ i) × (i ≤ length t) × Headless t at i) where
-  pub dot_there : i + 1 < length t → get_or t i 0 ≡ 0x0A → get_or t (i + 1) 0 ≡ 0x2E → DotAfter t at (i + 1)
-  dot_there h l d =
+-- an LF before a `.`
+head-yes : (a b : ℕ) → true ≡ (eqb a 0x0A && eqb b 0x2E) → (a ≡ 0x0A) × (b ≡ 0x2E)
+head-yes a b e = grind (arith, nat_tests)
+
+head-no : (a b : ℕ) → false ≡ (eqb a 0x0A && eqb b 0x2E) → a ≡ 0x0A → b ≡ 0x2E → ⊥
+head-no a b e f g = grind (arith, nat_tests)
+
+module _ (t : List ℕ) (at i : ℕ) (v : (at < i) × Headless t at (i - 1)) where
+  pub dot_there : i < length t → true ≡ (eqb (get_or t (i - 1) 0) 0x0A && eqb (get_or t i 0) 0x2E) → DotAfter t at i
+  dot_there h e =
+      let d = head-yes (get_or t (i - 1) 0) (get_or t i 0) e in
       record {
         from = omega arith;
         inside = omega arith;
-        none = λ j p q. v.2 j p (omega arith);
-        there = λ _. (d, λ j q. let z : j ≡ i = omega arith in (omega arith, ap (λ (k : ℕ). get_or t k 0) z ∙ l));
+        none = λ j p q. v.1 j p (omega arith);
+        there = λ _. (d.1, λ j q. let z : j ≡ i - 1 = omega arith in (omega arith, ap (λ (k : ℕ). get_or t k 0) z ∙ d.0));
       }
 
-  pub dot_end : length t - i ≤ 1 → DotAfter t at (length t)
-  dot_end h =
-      record { from = omega arith; inside = omega arith; none = λ j p q. v.2 j p (omega arith); there = λ z. absurd (omega arith) }
+  pub headless_next : false ≡ (eqb (get_or t (i - 1) 0) 0x0A && eqb (get_or t i 0) 0x2E) → Headless t at (i + 1 - 1)
+  headless_next e =
+      let z : i - 1 + 1 ≡ i = omega arith in
+      let y : i - 1 + 1 ≡ i + 1 - 1 = omega arith in
+      subst (Headless t at) y
+      (headless_more t at (i - 1) v.1 (λ p q. head-no (get_or t (i - 1) 0) (get_or t i 0) e p (ap (λ (k : ℕ). get_or t k 0) (sym z) ∙ q)))
+
+  pub dot_end : at ≤ length t → length t ≤ i → DotAfter t at (length t)
+  dot_end h l =
+      record { from = h; inside = omega arith; none = λ j p q. v.1 j p (omega arith); there = λ z. absurd (omega arith) }

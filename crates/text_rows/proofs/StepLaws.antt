@@ -11,7 +11,11 @@ use Rattle.format.specs.Basics.{ascii, begins_with, is_empty}
 use Rattle.format.specs.Tokens.{Parts}
 use Rattle.format.specs.Records.{Record}
 use Rattle.trim.specs.Span.{part}
-use Rattle.text_lines.specs.Groups.{parts_from, kind_of, RowAt, HeadAt}
+use Rattle.std.specs.Prelude.{Option, Some, None, Result, Ok, Err}
+use Rattle.std.specs.Result.{result_ok}
+use Rattle.units.specs.declared.refusal.Refusal.{Refusal}
+use Rattle.text_lines.specs.declared.Head.{Head}
+use Rattle.text_lines.specs.Groups.{parts_from, kind_of, RowAt, HeadAt, NextHead, number_of_kind}
 use Rattle.text_lines.proofs.RowLaws.{rows_on, row-groups}
 use Rattle.text_rows.specs.Rows.{count_in, first_line, lines_after, ends_table, row_in, rows_in, under_header, group_rows, rows_from, rows_of, row_at}
 use Rattle.text_rows.specs.Steps.{Skips, GroupEnd, FirstRow, TableAt, FoundAt, LineOf}
@@ -220,6 +224,25 @@ module _ (kind : ℕ) (t : List ℕ) (from at e : ℕ) (p : Passing kind t from 
           same = sym p.same ∙ heads ∙ rw w (ap (λ (rs : List Record). rs ++ rows_of_groups (parts_from t n).groups) (sym f.rows))
               ∙ ap (λ (gs : List Group). rows_in kind 0 (parts_from t q).before ++ rows_of_groups gs) (sym f.groups);
         }
+
+-- what opens the next group, if anything does
+pub next-head : (t : List ℕ) (at : ℕ) (r : Result (Option Head) Refusal) (h : Head) → NextHead t at r → Some (Some h) ≡ result_ok r
+    → HeadAt t at (number_of_kind h.kind) h.next
+next-head t at (Ok (Some g)) h n e = let q : g ≡ h = cc in subst (λ (x : Head). HeadAt t at (number_of_kind x.kind) x.next) q n
+next-head t at (Ok None) h n e = absurd (cc)
+next-head t at (Err r) h n e = absurd (cc)
+
+module _ (kind : ℕ) (t : List ℕ) (from at e : ℕ) (p : Passing kind t from at) (g : GroupEnd t at e) where
+  pub no_head : (r : Result (Option Head) Refusal) → NextHead t e r → result_ok r ≡ Some None
+      → flat_map (group_rows kind) (parts_from t from).groups ≡ []
+  no_head (Ok (Some h)) n q = absurd (cc)
+  no_head (Ok None) n q = table_none kind t from at e p g n
+  no_head (Err r) n q = absurd (cc)
+
+  pub refused_head : (r : Result (Option Head) Refusal) → NextHead t e r → result_ok r ≡ None
+      → flat_map (group_rows kind) (parts_from t from).groups ≡ []
+  refused_head (Ok h) n q = absurd (cc)
+  refused_head (Err r) n q = table_loose kind t from at e p g n.1
 
 -- THE NEXT ROW
 pub record Seeking (kind : ℕ) (t : List ℕ) (from at : ℕ) : Type 0 where

@@ -11,6 +11,14 @@ use Rattle.format.specs.ObjectFile.{Block, Label, Relocation, block_key, label_k
 use Rattle.format.specs.Records.{Record, block, label, line_block, source, relocation}
 use Rattle.text_lines.specs.Groups.{parts_from, kind_of}
 use Rattle.text_blocks.specs.Blocks.{words_in}
+use Rattle.text_rows.specs.declared.Kind.{Kind}
+use Rattle.text_rows.specs.declared.Kind.TheVariants as kind
+
+abbrev pub number_of : Kind → ℕ  -- a kind's number
+number_of kind.Block = 0
+number_of kind.Symbol = 1
+number_of kind.Relocation = 2
+number_of kind.Start = 3
 
 abbrev pub or_zero : Option ℕ → ℕ  -- a number, or 0 where none is read
 or_zero none = 0

@@ -1,13 +1,10 @@
 -- What the walk over a kind's rows finds at a place. Assumes nothing.
-use Rattle.std.specs.Prelude.{◌≡◌, ℕ, ◌+◌, ◌≤◌, ◌<◌, length, drop, get_or}
+use Rattle.std.specs.Prelude.{◌≡◌, Option, Some, None, ℕ, ◌+◌, ◌≤◌, ◌<◌, length, drop, get_or}
 use mathlib.Core.List.{List, [], ◌∷◌, flat_map}
 use Rattle.text_lines.specs.Groups.{parts_from}
 use Rattle.trim.specs.Span.{Spans}
 use Rattle.text_rows.specs.Rows.{first_line, rows_in, under_header, group_rows, rows_from, rows_of, row_at}
-use Rattle.text_rows.specs.declared.Place.{Place}
-use Rattle.text_rows.specs.declared.Place.TheVariants as place
-use Rattle.text_rows.specs.declared.Found.{Found}
-use Rattle.text_rows.specs.declared.Found.TheVariants as found
+use Rattle.text_rows.specs.declared.Row.{Row}
 
 -- n lines of the group were passed over, or all that there were
 pub record Skips (t : List ℕ) (at n q : ℕ) : Type 0 where
@@ -44,9 +41,9 @@ pub record TableAt (kind : ℕ) (t : List ℕ) (at q : ℕ) : Type 0 where
   pub inside : q ≤ length t
   pub same : flat_map (group_rows kind) (parts_from t at).groups ≡ rows_from kind t q
 
-abbrev pub NextTable : ℕ → List ℕ → ℕ → Place → Type 0
-NextTable kind t at (place.At q) = TableAt kind t at q
-NextTable kind t at place.Nothing = flat_map (group_rows kind) (parts_from t at).groups ≡ []
+abbrev pub NextTable : ℕ → List ℕ → ℕ → Option ℕ → Type 0
+NextTable kind t at (Some q) = TableAt kind t at q
+NextTable kind t at None = flat_map (group_rows kind) (parts_from t at).groups ≡ []
 
 -- a row at p, and the place after it
 pub record FoundAt (kind : ℕ) (t : List ℕ) (at p next : ℕ) : Type 0 where
@@ -59,13 +56,13 @@ pub record FoundAt (kind : ℕ) (t : List ℕ) (at p next : ℕ) : Type 0 where
 abbrev pub LineOf : List ℕ → ℕ → ℕ → ℕ → Type 0
 LineOf t p start end = Spans t start end (first_line (parts_from t p).before)
 
-abbrev pub RowHere : ℕ → List ℕ → ℕ → Found → Type 0
-RowHere kind t at (found.At p start end next) = FoundAt kind t at p next × LineOf t p start end
-RowHere kind t at found.Nothing = rows_in kind 0 (parts_from t at).before ≡ []
+abbrev pub RowHere : ℕ → List ℕ → ℕ → Option Row → Type 0
+RowHere kind t at (Some r) = FoundAt kind t at r.at r.next × LineOf t r.at r.start r.end
+RowHere kind t at None = rows_in kind 0 (parts_from t at).before ≡ []
 
-abbrev pub NextPlace : ℕ → List ℕ → ℕ → Found → Type 0
-NextPlace kind t at (found.At p start end next) = FoundAt kind t at p next × LineOf t p start end
-NextPlace kind t at found.Nothing = rows_from kind t at ≡ []
+abbrev pub NextPlace : ℕ → List ℕ → ℕ → Option Row → Type 0
+NextPlace kind t at (Some r) = FoundAt kind t at r.at r.next × LineOf t r.at r.start r.end
+NextPlace kind t at None = rows_from kind t at ≡ []
 
 -- where the walk begins, for rows of every kind
 abbrev pub BeginsAt : List ℕ → ℕ → Type 0

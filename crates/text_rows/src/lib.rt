@@ -1,38 +1,42 @@
-// The text reader's rows by kind, in place on the input: 0 the blocks of .TEXT, 1 the rows of .SYMBOL, 2 those of .LINKER_INFO, 3 those of
-// .DEBUG's label table.
+// The text reader's rows by kind, in place on the input.
 #![tactic(auto)]
 
-ghost use Rattle.std.specs.Prelude.{◌≡◌, true, suc, ◌+◌, ◌≤◌, ◌<◌, length};
+ghost use Rattle.std.specs.Prelude.{◌≡◌, true, ◌&&◌, suc, ◌+◌, ◌≤◌, ◌<◌, length, eqb};
 ghost use Rattle.format.specs.TextReader.{parse_decimal};
-ghost use Rattle.text_lines.specs.Groups.{parts_from};
-ghost use Rattle.text_rows.specs.Rows.{or_zero, count_in, ends_table};
+ghost use Rattle.text_lines.specs.Groups.{parts_from, number_of_kind};
+ghost use Rattle.text_rows.specs.Rows.{number_of, or_zero, count_in, ends_table};
 ghost use Rattle.text_rows.specs.Steps.{Skips, Headless, DotAfter, GroupEnd, FirstRow, NextTable, RowHere, NextPlace, BeginsAt};
 
-use text_cells::{Number, decimal};
-use text_lines::{Head, Line, begins_with, next_head, next_row};
+use text_cells::decimal;
+use text_lines::{GroupKind, begins_with, next_head, next_row};
 
-// A place in the input, or none.
-#[derive(Clone, Copy)]
-pub enum Place {
-    At(usize),
-    Nothing,
+// The kinds of rows.
+#[derive(Clone, Copy, PartialEq, Eq)]
+pub enum Kind {
+    // A block of .TEXT.
+    Block,
+    // A row of .SYMBOL: a label's address.
+    Symbol,
+    // A row of .LINKER_INFO.
+    Relocation,
+    // A row of .DEBUG's label table: a label's source start.
+    Start,
 }
 
-// The next row of a kind: its place, where its first line starts and ends, and the place after it.
+// A row of a kind: its place, where its first line starts and ends, and the place after it.
 #[derive(Clone, Copy)]
-pub enum Found {
-    At(usize, usize, usize, usize),
-    Nothing,
+pub struct Row {
+    pub at: usize,
+    pub start: usize,
+    pub end: usize,
+    pub next: usize,
 }
 
 // A block's count; 0 where it doesn't read.
 pub fn count_of(l: &[u8]) -> u64
     ensures { result ≡ or_zero (parse_decimal 65536 l.now) }
 {
-    match decimal(l, 65535) {
-        Number::Value(n) => n,
-        Number::Nothing => 0,
-    }
+    decimal(l, 65535).unwrap_or(0)
 }
 
 // Past the next n lines of the group.
@@ -40,18 +44,11 @@ fn skip_rows(t: &[u8], from: usize, n: u64) -> usize
     ensures { Skips t.now from n result }
 {
     let mut at = from;
-    let mut left = n;
-    while 0 < left {
-        let Line::At {
-            start: _,
-            end: _,
-            next,
-        } = next_row(t, at)
-        else {
+    for passed in 0..n {
+        let Some(line) = next_row(t, at) else {
             return at;
         };
-        at = next;
-        left -= 1;
+        at = line.next;
     }
     at
 }
@@ -60,23 +57,17 @@ fn skip_rows(t: &[u8], from: usize, n: u64) -> usize
 fn block_end(t: &[u8], at: usize) -> usize
     ensures { Skips t.now at (suc (count_in (parts_from t.now at).before)) result }
 {
-    let Line::At { start, end, next } = next_row(t, at) else {
+    let Some(line) = next_row(t, at) else {
         return at;
     };
-    skip_rows(t, next, count_of(&t[start..end]))
+    skip_rows(t, line.next, count_of(&t[line.start..line.end]))
 }
 
-// 1 for an LF before a `.`.
-fn is_head(a: u8, b: u8) -> u8
-    ensures { (result ≤ 1) × (result ≡ 0 → a ≡ 0x0A → b ≡ 0x2E → ⊥) × (result ≡ 1 → (a ≡ 0x0A) × (b ≡ 0x2E)) }
+// An LF before a `.`.
+fn is_head(a: u8, b: u8) -> bool
+    ensures { result ≡ (eqb a 0x0A && eqb b 0x2E) }
 {
-    if a != 0x0A {
-        return 0;
-    }
-    if b != 0x2E {
-        return 0;
-    }
-    1
+    a == b'\n' && b == b'.'
 }
 
 // Whether no LF among the 64 bytes from a place on stands before a `.`. They are counted, so that the loop has no exit in the middle.
@@ -85,10 +76,8 @@ fn is_headless_block(t: &[u8], at: usize) -> bool
     ensures { result ≡ true → Headless t.now at (at + 64) }
 {
     let mut heads: u8 = 0;
-    let mut k = 0;
-    while k < 64 {
-        heads += is_head(t[at + k], t[at + k + 1]);
-        k += 1;
+    for k in 0..64 {
+        heads += u8::from(is_head(t[at + k], t[at + k + 1]));
     }
     heads == 0
 }
@@ -114,12 +103,10 @@ fn next_dot(t: &[u8], at: usize) -> usize
     requires { at ≤ length t.now }
     ensures { DotAfter t.now at result }
 {
-    let mut i = headless_blocks(t, at);
-    while 1 < t.len() - i {
-        if is_head(t[i], t[i + 1]) == 1 {
-            return i + 1;
+    for i in headless_blocks(t, at) + 1..t.len() {
+        if is_head(t[i - 1], t[i]) {
+            return i;
         }
-        i += 1;
     }
     t.len()
 }
@@ -128,100 +115,97 @@ fn next_dot(t: &[u8], at: usize) -> usize
 fn end_of_group(t: &[u8], from: usize) -> usize
     ensures { GroupEnd t.now from result }
 {
-    if t.len() <= from {
-        return from;
-    }
-    if t[from] == 0x2E {
+    if t.len() <= from || t[from] == b'.' {
         return from;
     }
     next_dot(t, from)
 }
 
-// Whether a line ends a table of a kind, as the first bar ends .DEBUG's labels.
-fn ends_table(kind: u8, l: &[u8]) -> bool
-    ensures { result ≡ ends_table kind l.now }
-{
-    if kind != 3 {
-        return false;
+impl Kind {
+    // Groups of this kind have such rows.
+    fn is_of(self, group: GroupKind) -> bool
+        ensures { result ≡ eqb (number_of_kind group) (number_of self) }
+    {
+        match self {
+            Kind::Block => matches!(group, GroupKind::Text),
+            Kind::Symbol => matches!(group, GroupKind::Symbols),
+            Kind::Relocation => matches!(group, GroupKind::Linker),
+            Kind::Start => matches!(group, GroupKind::Debug),
+        }
     }
-    begins_with(l, b'=')
+}
+
+// Whether a line ends a table of a kind, as the first bar ends .DEBUG's labels.
+fn ends_table(kind: Kind, l: &[u8]) -> bool
+    ensures { result ≡ ends_table (number_of kind) l.now }
+{
+    kind == Kind::Start && begins_with(l, b'=')
 }
 
 // Past the header of a table; .TEXT has none.
-fn first_row(t: &[u8], kind: u8, at: usize) -> usize
-    ensures { FirstRow kind t.now at result }
+fn first_row(t: &[u8], kind: Kind, at: usize) -> usize
+    ensures { FirstRow (number_of kind) t.now at result }
 {
-    if kind == 0 {
+    if kind == Kind::Block {
         return at;
     }
-    let Line::At { start, end, next } = next_row(t, at) else {
+    let Some(header) = next_row(t, at) else {
         return at;
     };
-    if ends_table(kind, &t[start..end]) {
+    if ends_table(kind, &t[header.start..header.end]) {
         return at;
     }
-    next
+    header.next
 }
 
 // Where the rows of the next table of a kind begin, from within another group.
-fn next_table(t: &[u8], kind: u8, from: usize) -> Place
-    ensures { NextTable kind t.now from result }
+fn next_table(t: &[u8], kind: Kind, from: usize) -> Option<usize>
+    ensures { NextTable (number_of kind) t.now from result }
 {
     let mut at = from;
     loop {
-        let e = end_of_group(t, at);
-        let head = next_head(t, e);
-        match head {
-            Head::Opens { kind: k, next } => {
-                if k == kind {
-                    return Place::At(first_row(t, kind, next));
-                }
-                at = next;
-            }
-            Head::Loose => {
-                return Place::Nothing;
-            }
-            Head::Done => {
-                return Place::Nothing;
-            }
+        let head = next_head(t, end_of_group(t, at)).ok()??;
+        if kind.is_of(head.kind) {
+            return Some(first_row(t, kind, head.next));
         }
+        at = head.next;
     }
 }
 
 // The row that begins at a place of a table, where one does.
-fn row_at(t: &[u8], kind: u8, at: usize) -> Found
-    ensures { RowHere kind t.now at result }
+fn row_at(t: &[u8], kind: Kind, at: usize) -> Option<Row>
+    ensures { RowHere (number_of kind) t.now at result }
 {
-    let Line::At { start, end, next } = next_row(t, at) else {
-        return Found::Nothing;
-    };
-    if kind == 0 {
-        return Found::At(at, start, end, block_end(t, next));
+    let line = next_row(t, at)?;
+    if kind == Kind::Block {
+        return Some(Row {
+            at,
+            start: line.start,
+            end: line.end,
+            next: block_end(t, line.next),
+        });
     }
-    if ends_table(kind, &t[start..end]) {
-        return Found::Nothing;
+    if ends_table(kind, &t[line.start..line.end]) {
+        return None;
     }
-    Found::At(at, start, end, next)
+    Some(Row {
+        at,
+        start: line.start,
+        end: line.end,
+        next: line.next,
+    })
 }
 
 // The first row of a kind from a place on, where one begins or its table ends.
-pub fn next_place(t: &[u8], kind: u8, from: usize) -> Found
-    ensures { NextPlace kind t.now from result }
+pub fn next_place(t: &[u8], kind: Kind, from: usize) -> Option<Row>
+    ensures { NextPlace (number_of kind) t.now from result }
 {
     let mut at = from;
     loop {
-        let row = row_at(t, kind, at);
-        match row {
-            Found::At(p, start, end, next) => {
-                return Found::At(p, start, end, next);
-            }
-            Found::Nothing => {
-                let Place::At(n) = next_table(t, kind, at) else {
-                    return Found::Nothing;
-                };
-                at = n;
-            }
+        if let Some(row) = row_at(t, kind, at) {
+            return Some(row);
         }
+        at = next_table(t, kind, at)?;
     }
 }
 

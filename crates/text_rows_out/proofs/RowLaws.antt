@@ -10,7 +10,8 @@ use Rattle.format.specs.Basics.{ascii}
 use Rattle.format.specs.Digits.{digits_of}
 use Rattle.format.specs.TextWriter.{hex4, memory_text, text_line, table_div}
 use Rattle.format.proofs.ListLaws.{by_test}
-use Rattle.text_numerals.specs.Memory.{known_word}
+use Rattle.std.specs.Bool.{then_some}
+use Rattle.text_numerals.specs.Memory.{word_of}
 use Rattle.object.specs.Access.{memory_in}
 use Rattle.text_rows_out.specs.Rows.{linker_line}
 
@@ -29,7 +30,7 @@ unfolding memory_in ascii
 memory_length w = by_test (eqb (w % 2 ^ 29) 0) (λ t. rw t) (λ t. rw t (address-length (w % 2 ^ 16)))
 
 -- the word as the code takes it apart
-pub memory_known : (w : ℕ) (t : Bool) → t ≡ not (eqb (w % 2 ^ 29) 0) → memory_text (known_word t (w % 2 ^ 16)) ≡ memory_text (memory_in w)
+pub memory_known : (w : ℕ) (t : Bool) → t ≡ not (eqb (w % 2 ^ 29) 0) → word_of (then_some t (w % 2 ^ 16)) ≡ memory_in w
 unfolding memory_in
 memory_known w t e = by_test (eqb (w % 2 ^ 29) 0) (λ q. rw (e, q)) (λ q. rw (e, q))
 

@@ -7,10 +7,11 @@ ghost use Rattle.format.specs.TextWriter.{hex4, decimal, memory_text, text_line,
 ghost use Rattle.writing.specs.Written.{Put};
 ghost use Rattle.object.specs.Texts.{text_bytes};
 ghost use Rattle.object.specs.Access.{memory_in};
+ghost use Rattle.text_numerals.specs.Memory.{word_of};
 ghost use Rattle.measuring.specs.Room.{room_of, less_part};
 ghost use Rattle.text_rows_out.specs.Rows.{linker_line};
 
-use measuring::Room;
+use measuring::take;
 use object::put_text;
 use text_numerals::{count_digits, put_decimal, put_hex4, put_memory};
 use writing::{put_bytes, put_u8};
@@ -47,6 +48,13 @@ pub fn put_count_line(out: &mut [u8], count: u64) -> usize
     at
 }
 
+// What a memory word holds, if it is known.
+fn memory_in(w: u32) -> Option<u16>
+    ensures { word_of result ≡ memory_in w }
+{
+    (w % 0x2000_0000 != 0).then_some((w % 0x1_0000) as u16)
+}
+
 // A memory word.
 pub fn put_memory_line(out: &mut [u8], w: u32) -> usize
     ensures { Put (text_line (memory_text (memory_in w))) out.old result out.new }
@@ -54,22 +62,22 @@ pub fn put_memory_line(out: &mut [u8], w: u32) -> usize
     if out.len() < 5 {
         return 0;
     }
-    let known = w % 0x2000_0000 != 0;
-    let value = (w % 0x1_0000) as u16;
-    let mut at = 0;
-    at += put_memory(&mut out[at..], known, value);
-    at += put_u8(&mut out[at..], 0x0A);
-    at
+    let k = put_memory(out, memory_in(w));
+    k + put_u8(&mut out[k..], b'\n')
 }
 
 // The room that a row of the linker table leaves whose name has `n` bytes.
-pub fn measure_linker_row(room: usize, address: u16, ws: &[u32], at: usize, n: usize) -> Room
+pub fn measure_linker_row(
+    room: usize,
+    address: u16,
+    ws: &[u32],
+    at: usize,
+    n: usize,
+) -> Option<usize>
     ensures { room_of result ≡ less_part room (linker_line address (text_bytes ws.now at n)) }
 {
-    if room < LINKER_ROW {
-        return Room::Short;
-    }
-    measuring::take(room - 8, n)
+    let left = take(room, LINKER_ROW)?;
+    take(left, n)
 }
 
 // The address of a row and a divider, into a room that suffices.
@@ -95,10 +103,7 @@ fn put_name_line(out: &mut [u8], ws: &[u32], at: usize, n: usize) -> usize
 pub fn put_linker_row(out: &mut [u8], address: u16, ws: &[u32], at: usize, n: usize) -> usize
     ensures { Put (linker_line address (text_bytes ws.now at n)) out.old result out.new }
 {
-    if out.len() < 8 {
-        return 0;
-    }
-    if out.len() - 8 < n {
+    if measure_linker_row(out.len(), address, ws, at, n).is_none() {
         return 0;
     }
     let k = put_link_address(out, address);

@@ -9,7 +9,8 @@ use lib.Seq.{take_at, length-take-le}
 use borrow.Author.Tests.{ne_eqb, eq-eqb}
 use borrow.Author.Rules.{part_to_end}
 use borrow.Rule.Slice.PartMut.{mid_of, put_mid}
-use Rattle.std.specs.Prelude.{if◌then◌else◌}
+use Rattle.std.specs.Prelude as std
+use Rattle.std.specs.Prelude.{Some, None, if◌then◌else◌}
 use Rattle.format.specs.Basics.{and_then, is_empty}
 use Rattle.format.specs.TextReader.{runs_from}
 use Rattle.format.specs.ObjectFile.{LineBlock}
@@ -23,7 +24,7 @@ use Rattle.writing.proofs.WriteLaws.{too_short}
 use Rattle.text_lines.specs.Views.{StepAt}
 use Rattle.text_tables.specs.Debug.{Groups, line_view}
 use Rattle.text_tables.specs.declared.LineRow.{LineRow}
-use Rattle.text_tables.specs.declared.LineRow.TheVariants as lr
+use Rattle.text_cells.specs.Cells.{number_read}
 use Rattle.text_tables.specs.LineRows.{line_in, line_of}
 use Rattle.text_debug.specs.declared.Runs.{Runs}
 use Rattle.text_debug.specs.LineRuns.{address_in, run_on, words_after, run_end, runs_over, no_runs, runs_in}
@@ -33,21 +34,22 @@ use Rattle.text_words.proofs.PutLaws.{Puts, puts_begin, puts_on, puts_end, put_o
 use Rattle.text_runs.specs.Runs.{addresses_from, RunEnds, block_words, run_words, run_parts}
 
 -- A ROW
-address_is : (l : List ℕ) (r : LineRow) (o : Option ℕ) → line_of r ≡ line_in l → (and_then (line_of r) λ x. x.1) ≡ o → address_in l ≡ o
+address_is : (l : List ℕ) (r : std.Option LineRow) (o : Option ℕ) → line_of r ≡ line_in l → (and_then (line_of r) λ x. x.1) ≡ o → address_in l ≡ o
 unfolding address_in
 address_is l r o e f = ap (λ (x : Option (ℕ × Option ℕ)). and_then x λ y. y.1) (sym e) ∙ f
 
-pub word-known : (l : List ℕ) (n a : ℕ) → line_of (lr.Known n a) ≡ line_in l → 0x2001_0000 + a ≡ memory_word (address_in l)
+pub word-known : (l : List ℕ) (r : LineRow) (a : ℕ) → line_of (Some r) ≡ line_in l → r.address ≡ Some a → 0x2001_0000 + a ≡ memory_word (address_in l)
 unfolding memory_word
-word-known l n a e = (let w : 0x2001_0000 + a ≡ memory_word (some a) = omega arith in w) ∙ ap memory_word (sym (address_is l (lr.Known n a) (some a) e refl))
+word-known l r a e f =
+    (let w : 0x2001_0000 + a ≡ memory_word (some a) = omega arith in w) ∙ ap memory_word (sym (address_is l (Some r) (some a) e (ap number_read f)))
 
-pub word_unknown : (l : List ℕ) (n : ℕ) → line_of (lr.Unknown n) ≡ line_in l → 0x2000_0000 ≡ memory_word (address_in l)
+pub word_unknown : (l : List ℕ) (r : LineRow) → line_of (Some r) ≡ line_in l → r.address ≡ None → 0x2000_0000 ≡ memory_word (address_in l)
 unfolding memory_word
-word_unknown l n e = ap memory_word (sym (address_is l (lr.Unknown n) none e refl))
+word_unknown l r e f = ap memory_word (sym (address_is l (Some r) none e (ap number_read f)))
 
-pub word-bad : (l : List ℕ) → line_of lr.Bad ≡ line_in l → 0x2000_0000 ≡ memory_word (address_in l)
+pub word-bad : (l : List ℕ) → line_of None ≡ line_in l → 0x2000_0000 ≡ memory_word (address_in l)
 unfolding memory_word
-word-bad l e = ap memory_word (sym (address_is l lr.Bad none e refl))
+word-bad l e = ap memory_word (sym (address_is l None none e refl))
 
 -- an address, by its word
 none_is : (o : Option ℕ) → memory_word o ≡ 0x2000_0000 → o ≡ none

@@ -1,5 +1,6 @@
 -- The line blocks of a text file, run by run, from the rows of its line table. Assumes nothing.
-use Rattle.std.specs.Prelude.{◌≡◌, List, [], ◌∷◌, ◌++◌, map, ℕ, ◌+◌, ◌≤◌, ◌<◌, length, take, set, if◌then◌else◌}
+use Rattle.std.specs.Prelude as std
+use Rattle.std.specs.Prelude.{Some, None, ◌≡◌, List, [], ◌∷◌, ◌++◌, map, ℕ, ◌+◌, ◌≤◌, ◌<◌, length, take, set, if◌then◌else◌}
 use Rattle.std.proofs.Math.Option.{Option, none, some}
 use Rattle.format.specs.Basics.{is_empty}
 use Rattle.format.specs.ObjectFile.{LineBlock}
@@ -8,7 +9,6 @@ use Rattle.format.specs.Words.{word, memory_word, number_words, record_words}
 use Rattle.text_tables.specs.Debug.{line_view}
 use Rattle.text_debug.specs.LineRuns.{address_in}
 use Rattle.text_runs.specs.declared.Run.{Run}
-use Rattle.text_runs.specs.declared.Run.TheVariants as run
 
 -- the addresses of the rows from a place on
 abbrev pub addresses_from : List ℕ → ℕ → List (Option ℕ)
@@ -27,9 +27,9 @@ abbrev pub Kept : List ℕ → ℕ → ℕ → List ℕ → Type 0
 Kept t at n kept = n ≤ length kept → take n kept ≡ map memory_word (take n (addresses_from t at))
 
 -- "a run reaching the last row is dropped"
-abbrev pub NextRun : List ℕ → ℕ → List ℕ → Run → Type 0
-NextRun t at kept (run.Ends n next) = RunEnds t at n next × Kept t at n kept
-NextRun t at kept run.Last = (run : List ℕ) × (addresses_from t at ≡ map some run)
+abbrev pub NextRun : List ℕ → ℕ → List ℕ → std.Option Run → Type 0
+NextRun t at kept (Some r) = RunEnds t at r.count r.next × Kept t at r.count kept
+NextRun t at kept None = (run : List ℕ) × (addresses_from t at ≡ map some run)
 
 -- a word is kept after n others, if there is room
 abbrev pub KeepsWord : ℕ → ℕ → List ℕ → List ℕ → Type 0

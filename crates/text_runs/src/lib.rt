@@ -10,25 +10,29 @@ ghost use Rattle.text_debug.specs.DebugGroup.{line_blocks_in};
 ghost use Rattle.text_words.specs.Written.{PutEach};
 ghost use Rattle.text_runs.specs.Runs.{addresses_from, KeepsWord, Kept, NextRun, block_words, run_parts};
 
-use text_lines::Line;
-use text_tables::{LineRow, next_source_line, parse_line_row};
+use text_tables::{next_source_line, parse_line_row};
 use writing::{put_number_words, put_word};
 
-// A run of rows with an address: how many, and the place after the row without one that ends it; or one that reaches the last row.
+// The word of an address that is not known.
+const UNKNOWN: u32 = 0x2000_0000;
+
+// A run of rows with an address that a row without one ends: how many, and the place after that row.
 #[derive(Clone, Copy)]
-enum Run {
-    Ends(usize, usize),
-    Last,
+struct Run {
+    count: usize,
+    next: usize,
 }
 
 // The memory word of a row's address.
 fn address_word(l: &[u8]) -> u32
     ensures { result ≡ memory_word (address_in l.now) }
 {
-    match parse_line_row(l) {
-        LineRow::Known(_, a) => 0x2001_0000 + a as u32,
-        LineRow::Unknown(_) => 0x2000_0000,
-        LineRow::Bad => 0x2000_0000,
+    let Some(row) = parse_line_row(l) else {
+        return UNKNOWN;
+    };
+    match row.address {
+        Some(a) => 0x2001_0000 + u32::from(a),
+        None => UNKNOWN,
     }
 }
 
@@ -44,22 +48,26 @@ fn keep_word(kept: &mut [u32], n: usize, w: u32) -> usize
     n + 1
 }
 
-// The run of rows that begins at a place. The memory words of its addresses are kept, if there is room for them all.
-fn next_run(t: &[u8], from: usize, kept: &mut [u32]) -> Run
+// The run of rows that begins at a place; none where it reaches the last row. The memory words of its addresses are kept, if there is room for
+// them all.
+fn next_run(t: &[u8], from: usize, kept: &mut [u32]) -> Option<Run>
     ensures { NextRun t.now from kept.new result }
 {
     let mut at = from;
     let mut n = 0;
     loop {
-        let Line::At { start, end, next } = next_source_line(t, at) else {
-            return Run::Last;
+        let Some(line) = next_source_line(t, at) else {
+            return None;
         };
-        let w = address_word(&t[start..end]);
-        if w == 0x2000_0000 {
-            return Run::Ends(n, next);
+        let w = address_word(&t[line.start..line.end]);
+        if w == UNKNOWN {
+            return Some(Run {
+                count: n,
+                next: line.next,
+            });
         }
         n = keep_word(kept, n, w);
-        at = next;
+        at = line.next;
     }
 }
 
@@ -70,12 +78,8 @@ fn put_words(out: &mut [u32], s: &[u32]) -> usize
     if out.len() < s.len() {
         return 0;
     }
-    let mut i = 0;
-    while i < s.len() {
-        out[i] = s[i];
-        i += 1;
-    }
-    i
+    out[..s.len()].copy_from_slice(s);
+    s.len()
 }
 
 // The memory words of the addresses of the next n rows.
@@ -83,17 +87,15 @@ fn put_addresses(out: &mut [u32], t: &[u8], from: usize, n: usize) -> usize
     requires { (n ≤ length out.old) × (n ≤ length (addresses_from t.now from)) }
     ensures { Put (map memory_word (take n (addresses_from t.now from))) out.old result out.new }
 {
-    let mut i = 0;
     let mut at = from;
-    while i < n {
-        let Line::At { start, end, next } = next_source_line(t, at) else {
+    for i in 0..n {
+        let Some(line) = next_source_line(t, at) else {
             return i;
         };
-        out[i] = address_word(&t[start..end]);
-        i += 1;
-        at = next;
+        out[i] = address_word(&t[line.start..line.end]);
+        at = line.next;
     }
-    i
+    n
 }
 
 // The same, from the words that are kept if these are all.
@@ -135,14 +137,12 @@ fn put_runs(out: &mut [u32], t: &[u8], rows: usize, kept: &mut [u32]) -> usize
     let mut at = 0;
     let mut row = rows;
     let mut line: u64 = 0;
-    loop {
-        let Run::Ends(n, next) = next_run(t, row, kept) else {
-            return at;
-        };
-        at += put_run(&mut out[at..], t, row, line, n, kept);
-        line += n as u64 + 1;
-        row = next;
+    while let Some(run) = next_run(t, row, kept) {
+        at += put_run(&mut out[at..], t, row, line, run.count, kept);
+        line += run.count as u64 + 1;
+        row = run.next;
     }
+    at
 }
 
 // The line blocks of the rows from a place on.

@@ -1,6 +1,7 @@
 -- Rows of the line table with the lines that follow each other from a byte of the source on, for any words, rows and byte. That they are
 -- the rows of a well formed object is said where it is written. Assumes nothing.
-use Rattle.std.specs.Prelude.{◌≡◌, ℕ, ◌+◌, ◌-◌, ◌%◌, ◌^◌, length, drop, ltb, eqb, if◌then◌else◌}
+use Rattle.std.specs.Prelude as prelude
+use Rattle.std.specs.Prelude.{Some, None, ◌≡◌, ℕ, ◌+◌, ◌-◌, ◌%◌, ◌^◌, length, drop, ltb, eqb, if◌then◌else◌}
 use mathlib.Core.List.{List, [], ◌∷◌, ◌++◌, flat_map}
 use Rattle.std.proofs.Math.Option.{Option, none, some}
 use Rattle.format.specs.TextWriter.{Row, plain_rows}
@@ -12,9 +13,7 @@ use Rattle.text_lines_out.specs.Runs.{source_of}
 use Rattle.text_lines_out.specs.Walk.{record_rows, record_done}
 use Rattle.text_lines_out.specs.declared.Table.{Table}
 use Rattle.text_lines_out.specs.declared.Rows.{Rows}
-use Rattle.text_lines_out.specs.declared.Rows.TheVariants as answer
 use Rattle.text_lines_out.specs.declared.Passed.{Passed}
-use Rattle.text_lines_out.specs.declared.Passed.TheVariants as passed
 
 -- past the newline of a line that goes on at byte i; one byte past the text where there is none
 unfoldable pub past_line : ℕ → List ℕ → ℕ
@@ -58,11 +57,11 @@ placed_rows ws lines wraps done (p ∷ ps) =
     record_rows ws p lines wraps done ++ placed_rows ws lines wraps (record_done ws p lines wraps done) ps
 
 -- the room that rows leave, and where the next line starts
-abbrev pub Leaves : ℕ → List ℕ → ℕ → Rows → Type 0
-Leaves room text next (answer.Left left start) = (some left ≡ less_part room text) × (start ≡ next)
-Leaves room text next answer.Short = none ≡ less_part room text
+abbrev pub Leaves : ℕ → List ℕ → ℕ → prelude.Option Rows → Type 0
+Leaves room text next (Some r) = (some r.left ≡ less_part room text) × (r.start ≡ next)
+Leaves room text next None = none ≡ less_part room text
 
 -- and how many of the source's lines are done
-abbrev pub Passed-on : ℕ → List ℕ → ℕ → ℕ → Passed → Type 0
-Passed-on room text next m (passed.Left left start done) = (some left ≡ less_part room text) × (start ≡ next) × (done ≡ m)
-Passed-on room text next m passed.Short = none ≡ less_part room text
+abbrev pub Passed-on : ℕ → List ℕ → ℕ → ℕ → prelude.Option Passed → Type 0
+Passed-on room text next m (Some r) = (some r.left ≡ less_part room text) × (r.start ≡ next) × (r.done ≡ m)
+Passed-on room text next m None = none ≡ less_part room text

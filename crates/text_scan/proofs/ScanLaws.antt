@@ -21,12 +21,10 @@ use Rattle.text_lines.specs.Lines.{kept, LineAt}
 use Rattle.text_lines.proofs.LineLaws.{kept-trimmed, to_end}
 use Rattle.text_lines.specs.Groups.{parts_from}
 use Rattle.text_blocks.specs.Blocks.{is_marked, Seen, Counts}
-use Rattle.text_scan.specs.declared.Walked.{Walked}
-use Rattle.text_scan.specs.declared.Scanned.{Scanned}
-use Rattle.text_scan.specs.Walk.{blocks_rise, Lined, Comes, groups_from, GroupsWalked}
+use Rattle.text_scan.specs.Walk.{Walk, blocks_rise, Lined, Comes, groups_from, GroupsWalked}
 use Rattle.text_scan.proofs.RunLaws.{lined_rise}
 use Rattle.text_scan.proofs.WalkLaws.{groups-read}
-use Rattle.text_scan.specs.Scan.{groups_object, trimmed_object, refused_scan, Read, Scans}
+use Rattle.text_scan.specs.Scan.{groups_object, trimmed_object, Scan, refused_scan, Read, Scans}
 
 -- NO BLOCK IS MARKED
 get_d_zero : (n a : ℕ) → ◌≡◌ {A = ℕ} (get_or (replicate n 0) a 0) 0
@@ -82,7 +80,7 @@ module _ (t : List ℕ) (start a e n : ℕ) (l : LineAt kept t start a e n) wher
       ∙ after_22 (is_empty (parts_at (begins_with (ascii ".")) (kept (drop n t))).before)
       (fold_outcome parse_group empty_object (parts_at (begins_with (ascii ".")) (kept (drop n t))).groups) (concluded text_questions)
 
-  pub scan_magic : eqs (part a e t) (ascii "LC-3 OBJ FILE") ≡ true → (r : Scanned) → Scans t (groups_object t n) r → Scans t (trimmed_object t start) r
+  pub scan_magic : eqs (part a e t) (ascii "LC-3 OBJ FILE") ≡ true → (r : Scan) → Scans t (groups_object t n) r → Scans t (trimmed_object t start) r
   scan_magic q r s = subst (λ (o : Outcome ObjectFile). Scans t o r) (sym (magic-yes q)) s
 
 -- THE GROUPS
@@ -91,7 +89,7 @@ module _ (t : List ℕ) (n : ℕ) where
   unfolding groups_object
   from-groups o g = ap (λ (x : Outcome ObjectFile). x >>= concluded text_questions) g
 
-  module _ (w : Walked) (c : GroupsWalked t n w) where
+  module _ (w : Walk) (c : GroupsWalked t n w) where
     abbrev Agreed : ObjectFile → Type 0
     Agreed h = Lined t w.sourced w.rows w.lines h × Counts h w.words
 
@@ -137,7 +135,7 @@ module _ (t : List ℕ) (n : ℕ) where
       pub scan_read : n ≤ length t → (not w.sourced || w.lines.rise) ≡ true
           → Scans t (groups_object t n) (record { number = 0; first = n; end = length t; sourced = w.sourced; rows = w.rows; lines = w.lines; words = w.words })
       scan_read inside q =
-          let r : Scanned = record { number = 0; first = n; end = length t; sourced = w.sourced; rows = w.rows; lines = w.lines; words = w.words } in
+          let r : Scan = record { number = 0; first = n; end = length t; sourced = w.sourced; rows = w.rows; lines = w.lines; words = w.words } in
           subst (λ (o : Outcome ObjectFile). Scans t o r) (sym (concludes true q))
           (record {
             yes = refl;
@@ -152,7 +150,7 @@ module _ (t : List ℕ) (n : ℕ) where
           })
 
 -- a refusal
-pub scans_no : (t : List ℕ) (o : Outcome ObjectFile) (n : ℕ) (r : Scanned) → o ≡ refused n → 0 < n → r ≡ refused_scan n → Scans t o r
+pub scans_no : (t : List ℕ) (o : Outcome ObjectFile) (n : ℕ) (r : Scan) → o ≡ refused n → 0 < n → r ≡ refused_scan n → Scans t o r
 scans_no t o n r e l q = subst (λ (x : Outcome ObjectFile). Scans t x r) (sym e) (q, l)
 
 -- THE FILE
@@ -180,12 +178,12 @@ module _ (s : List ℕ) where
         ∙ ap (λ (ls : List (List ℕ)). after_magic ls >>= after_line) trimmed-lines
 
 -- the number that a scan hands back
-pub scans_number : (t : List ℕ) (o : Outcome ObjectFile) (r : Scanned) → Scans t o r → r.number ≡ refusal_of o
-scans_number t (refused n) r s = ap (λ (x : Scanned). x.number) s.0
+pub scans_number : (t : List ℕ) (o : Outcome ObjectFile) (r : Scan) → Scans t o r → r.number ≡ refusal_of o
+scans_number t (refused n) r s = ap (λ (x : Scan). x.number) s.0
 scans_number t (given h) r s = s.yes
 
 -- of a file up to the end that is handed back
-pub scans_end : (s : List ℕ) (end : ℕ) (o : Outcome ObjectFile) (r : Scanned) → end ≤ length s → Scans (take end s) o r
+pub scans_end : (s : List ℕ) (end : ℕ) (o : Outcome ObjectFile) (r : Scan) → end ≤ length s → Scans (take end s) o r
     → Scans (take r.end s) o r
 scans_end s end (refused n) r h q = q
 scans_end s end (given h') r h q =

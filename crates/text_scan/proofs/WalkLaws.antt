@@ -17,7 +17,9 @@ use Rattle.format.specs.TextReader.{hex2u16, parse_decimal, maybe_hex2u16, block
 use Rattle.format.specs.TextReader.{parse_linker_row, parse_linker_group, parse_debug_group, parse_group}
 use Rattle.format.specs.Calls.{refusal_of}
 use Rattle.format.proofs.Outcomes.{Gives, gives_ask, gives_bind}
-use Rattle.text_lines.specs.declared.Group.{Group}
+use Rattle.std.specs.Prelude as std
+use Rattle.std.specs.Prelude.{Some, None}
+use Rattle.std.specs.Option as options
 use Rattle.text_lines.specs.Groups.{parts_from, kind_of, HeadAt}
 use Rattle.text_tables.specs.Debug.{line_view}
 use Rattle.text_tables.specs.Symbols.{symbol_columns, symbol_in, set_symbol, SymbolsChecked}
@@ -25,16 +27,14 @@ use Rattle.text_tables.proofs.SymbolLaws.{symbol-row}
 use Rattle.text_tables.proofs.GroupLaws.{by_kind, group_kind}
 use Rattle.text_linker.specs.Linker.{linker_columns, linker_in, set_linker, LinkerChecked}
 use Rattle.text_linker.proofs.LinkerLaws.{linker-row}
-use Rattle.text_blocks.specs.declared.Text.{Text}
-use Rattle.text_blocks.specs.Blocks.{Seen, blocks_length, Counts, Settles, BlocksChecked}
-use Rattle.text_debug.specs.declared.DebugGroup.{DebugGroup}
+use Rattle.text_blocks.specs.Blocks.{Seen, blocks_length, Counts, Settles, Checked, BlocksChecked}
+use Rattle.text_debug.specs.declared.SourceRows.{SourceRows}
 use Rattle.text_debug.specs.declared.Lines.{Lines}
 use Rattle.text_debug.specs.LineTable.{no_lines}
-use Rattle.text_debug.specs.DebugGroup.{DebugSettles, DebugChecked}
+use Rattle.text_debug.specs.DebugGroup.{DebugRead, without_rows, rows_read, DebugSettles, DebugChecked}
 use Rattle.format.proofs.Numbered.{RefusedAbove, text_numbered}
 use Rattle.text_debug.proofs.DebugGroupLaws.{Kept, Keeps, table_keeps}
-use Rattle.text_scan.specs.declared.Walked.{Walked}
-use Rattle.text_scan.specs.Walk.{line_blocks_of, source_of, Lined, Agrees, Comes, LinesChecked, GroupChecked, DebugWalked}
+use Rattle.text_scan.specs.Walk.{Walk, rows_in, lines_in, line_blocks_of, source_of, Lined, Agrees, Comes, LinesChecked, GroupChecked, DebugWalked}
 use Rattle.text_scan.specs.Walk.{groups_from, no_groups, GroupsWalked}
 
 -- from one object to the next: the blocks are marked and counted, the lines stand
@@ -136,10 +136,10 @@ module _ (t : List ℕ) (kind at words : ℕ) (seen : List ℕ) where
   Settled seen' words' n =
       (name : List ℕ) → kind ≡ kind_of name → (h : ObjectFile) → Seen h seen → Counts h words → Comes (Stands seen' words' h) n (parse_group h (name, lines))
 
-  abbrev kept : Group → Text  -- a group that has no blocks
-  kept g = record { number = g.number; next = g.next; words = words }
+  abbrev kept : ℕ → ℕ → Checked  -- a group that has no blocks
+  kept number next = record { number = number; next = next; words = words }
 
-  pub lines-text : (seen' : List ℕ) (r : Text) → kind ≡ 0 → 8192 ≤ length seen → BlocksChecked t at words seen seen' r
+  pub lines-text : (seen' : List ℕ) (r : Checked) → kind ≡ 0 → 8192 ≤ length seen → BlocksChecked t at words seen seen' r
       → LinesChecked t kind at words seen seen' r
   lines-text seen' r k l c =
       let f : Settled seen' r.words r.number = λ name e h s n.
@@ -147,18 +147,18 @@ module _ (t : List ℕ) (kind at words : ℕ) (seen : List ℕ) where
       (text_comes h seen' r.words r.number (parse_text_group h lines) (c.settles l h s n) (text_keeps h lines) (text_numbered h lines)) in
       record { from = c.from; after = c.after; settles = f }
 
-  pub lines-symbol : (r : Group) → kind ≡ 1 → SymbolsChecked t at r.number r.next → LinesChecked t kind at words seen seen (kept r)
-  lines-symbol r k c =
-      let f : Settled seen words r.number = λ name e h s n.
-      subst (Comes (Stands seen words h) r.number) (sym (is_symbol h name lines kind e k))
-      (keeps_comes h seen words s n r.number (parse_symbol_group h lines) (symbol_keeps h lines r.number c.same)) in
+  pub lines-symbol : (number next : ℕ) → kind ≡ 1 → SymbolsChecked t at number next → LinesChecked t kind at words seen seen (kept number next)
+  lines-symbol number next k c =
+      let f : Settled seen words number = λ name e h s n.
+      subst (Comes (Stands seen words h) number) (sym (is_symbol h name lines kind e k))
+      (keeps_comes h seen words s n number (parse_symbol_group h lines) (symbol_keeps h lines number c.same)) in
       record { from = c.from; after = c.after; settles = f }
 
-  pub lines-linker : (r : Group) → kind ≡ 2 → LinkerChecked t at r.number r.next → LinesChecked t kind at words seen seen (kept r)
-  lines-linker r k c =
-      let f : Settled seen words r.number = λ name e h s n.
-      subst (Comes (Stands seen words h) r.number) (sym (is_linker h name lines kind e k))
-      (keeps_comes h seen words s n r.number (parse_linker_group h lines) (linker_keeps h lines r.number c.same)) in
+  pub lines-linker : (number next : ℕ) → kind ≡ 2 → LinkerChecked t at number next → LinesChecked t kind at words seen seen (kept number next)
+  lines-linker number next k c =
+      let f : Settled seen words number = λ name e h s n.
+      subst (Comes (Stands seen words h) number) (sym (is_linker h name lines kind e k))
+      (keeps_comes h seen words s n number (parse_linker_group h lines) (linker_keeps h lines number c.same)) in
       record { from = c.from; after = c.after; settles = f }
 
   pub lines_unknown : (kind ≡ 0 → ⊥) → (kind ≡ 1 → ⊥) → (kind ≡ 2 → ⊥) → (kind ≡ 3 → ⊥)
@@ -168,13 +168,18 @@ module _ (t : List ℕ) (kind at words : ℕ) (seen : List ℕ) where
       subst (Comes (Stands seen words h) 23) (sym (is_none h name lines kind e a b c d)) (refl, omega arith) in
       record { from = omega arith; after = λ z. absurd (omega (arith, z)); settles = f }
 
+-- a group that is refused: nothing is said of what it leaves
+comes_no : (P Q : ObjectFile → Type 0) (n : ℕ) (o : Outcome ObjectFile) → (n ≡ 0 → ⊥) → Comes P n o → Comes Q n o
+comes_no P Q n (refused m) ne s = s
+comes_no P Q n (given h) ne s = absurd (ne s.0)
+
 -- .DEBUG
 lined_some : (t : List ℕ) (sourced : Bool) (rows : ℕ) (lines : Lines) (h : ObjectFile) → Lined t sourced rows lines h → is_some h.source ≡ sourced
 unfolding source_of is_some
 lined_some t true rows lines h l = ap is_some l.source
 lined_some t false rows lines h l = ap is_some l.source
 
-module _ (t : List ℕ) (at : ℕ) (sourced : Bool) (rows : ℕ) (lines : Lines) (words : ℕ) (g : DebugGroup) (c : DebugChecked t at sourced g) where
+module _ (t : List ℕ) (at : ℕ) (sourced : Bool) (rows : ℕ) (lines : Lines) (words : ℕ) (g : DebugRead) (c : DebugChecked t at sourced g) where
   lined-new : g.lined ≡ true → (h : ObjectFile) (n : ℕ) (o : Outcome ObjectFile) → DebugSettles true (line_view t g.rows).0 h n o
       → Comes (λ h'. (h'.blocks ≡ h.blocks) × Lined t true g.rows g.lines h') n o
   unfolding line_blocks_of source_of
@@ -215,18 +220,41 @@ module _ (t : List ℕ) (at : ℕ) (sourced : Bool) (rows : ℕ) (lines : Lines)
             lined_old h l (line_view t g.rows).0 g.number (parse_debug_group h (parts_from t at).before) (settles_as false e h l);
       }
 
+-- a group that is refused
+pub debug_no : (t : List ℕ) (at : ℕ) (sourced : Bool) (rows : ℕ) (lines : Lines) (words n : ℕ) → DebugChecked t at sourced (without_rows n at) → (n ≡ 0 → ⊥)
+    → DebugWalked t at sourced rows lines words (record { number = n; next = at; sourced = false; rows = 0; lines = no_lines; words = words })
+debug_no t at sourced rows lines words n c ne =
+    let d = debug_old t at sourced rows lines words (without_rows n at) c refl in
+    record {
+      counted = refl;
+      from = d.from;
+      after = d.after;
+      settles = λ h l.
+          comes_no (λ h'. (h'.blocks ≡ h.blocks) × Lined t sourced rows lines h') (λ h'. (h'.blocks ≡ h.blocks) × Lined t false 0 no_lines h') n _ ne
+          (d.settles h l);
+    }
+
+-- the source that stands after the group
+pub debug_walked : (t : List ℕ) (at : ℕ) (old : std.Option SourceRows) (words next : ℕ) (own : std.Option SourceRows)
+    → DebugChecked t at (options.is_some old) (rows_read next own)
+    → let now = options.option_or own old in
+    DebugWalked t at (options.is_some old) (rows_in old) (lines_in old) words
+    (record { number = 0; next = next; sourced = options.is_some now; rows = rows_in now; lines = lines_in now; words = words })
+debug_walked t at old words next (Some r) c = debug_new t at (options.is_some old) (rows_in old) (lines_in old) words (rows_read next (Some r)) c refl
+debug_walked t at old words next None c = debug_old t at (options.is_some old) (rows_in old) (lines_in old) words (rows_read next None) c refl
+
 -- ANY GROUP
 comes_map : (P Q : ObjectFile → Type 0) → ((h : ObjectFile) → P h → Q h) → (n : ℕ) (o : Outcome ObjectFile) → Comes P n o → Comes Q n o
 comes_map P Q f n (refused m) s = s
 comes_map P Q f n (given h) s = (s.0, f h s.1)
 
 module _ (t : List ℕ) (kind at : ℕ) (sourced : Bool) (rows : ℕ) (lines : Lines) (words : ℕ) (seen : List ℕ) where
-  abbrev Fits : List ℕ → Walked → Type 0
+  abbrev Fits : List ℕ → Walk → Type 0
   Fits seen' r =
       (name : List ℕ) → kind ≡ kind_of name → (h : ObjectFile) → Agrees t seen sourced rows lines words h
       → Comes (Agrees t seen' r.sourced r.rows r.lines r.words) r.number (parse_group h (name, (parts_from t at).before))
 
-  pub group_debug : (r : Walked) → kind ≡ 3 → DebugWalked t at sourced rows lines words r → GroupChecked t kind at sourced rows lines words seen seen r
+  pub group_debug : (r : Walk) → kind ≡ 3 → DebugWalked t at sourced rows lines words r → GroupChecked t kind at sourced rows lines words seen seen r
   group_debug r k c =
       let f : Fits seen r = λ name e h s.
       subst (Comes (Agrees t seen r.sourced r.rows r.lines r.words) r.number) (sym (is_debug h name (parts_from t at).before kind e k))
@@ -239,7 +267,7 @@ module _ (t : List ℕ) (kind at : ℕ) (sourced : Bool) (rows : ℕ) (lines : L
       r.number (parse_debug_group h (parts_from t at).before) (c.settles h s.lines)) in
       record { from = c.from; after = c.after; settles = f }
 
-  pub group_lines : (seen' : List ℕ) (r : Text) → LinesChecked t kind at words seen seen' r
+  pub group_lines : (seen' : List ℕ) (r : Checked) → LinesChecked t kind at words seen seen' r
       → GroupChecked t kind at sourced rows lines words seen seen'
       (record { number = r.number; next = r.next; sourced = sourced; rows = rows; lines = lines; words = r.words })
   group_lines seen' r c =
@@ -251,6 +279,20 @@ module _ (t : List ℕ) (kind at : ℕ) (sourced : Bool) (rows : ℕ) (lines : L
       record { marks = p.0; counts = p.1; lines = b })
       r.number (parse_group h (name, (parts_from t at).before)) (c.settles name e h s.marks s.counts) in
       record { from = c.from; after = c.after; settles = f }
+
+-- a group that is refused
+module _ (t : List ℕ) (kind at : ℕ) (sourced : Bool) (rows : ℕ) (lines : Lines) (words : ℕ) (seen seen' : List ℕ) where
+  pub group_no : (r : Checked) → LinesChecked t kind at words seen seen' r → (r.number ≡ 0 → ⊥)
+      → GroupChecked t kind at sourced rows lines words seen seen'
+      (record { number = r.number; next = at; sourced = false; rows = 0; lines = no_lines; words = words })
+  group_no r c ne =
+      let g = group_lines t kind at sourced rows lines words seen seen' r c in
+      record {
+        from = omega arith;
+        after = λ z. absurd (ne z);
+        settles = λ name e h s.
+            comes_no (Agrees t seen' sourced rows lines r.words) (Agrees t seen' false 0 no_lines words) r.number _ ne (g.settles name e h s);
+      }
 
 -- THE SAME ANSWER FROM THE NEXT GROUP
 module _ (t : List ℕ) (at k n : ℕ) (l : HeadAt t at k n) (h : ObjectFile) where
@@ -303,10 +345,10 @@ walking_begin t first seen lines s =
     record { size = refl; object = empty_object; same = refl; agrees = record { marks = s; counts = refl; lines = b } }
 
 -- as the loop keeps it
-abbrev pub WalkedTo : List ℕ → ℕ → List ℕ → List ℕ → Walked → Type 0
+abbrev pub WalkedTo : List ℕ → ℕ → List ℕ → List ℕ → Walk → Type 0
 WalkedTo t first seen₀ seen w = (w.number ≡ 0) × Walking t first seen₀ w.next seen w.sourced w.rows w.lines w.words
 
-pub walked_begin : (t : List ℕ) (first : ℕ) (seen : List ℕ) (w : Walked) → w ≡ no_groups 0 first → Seen empty_object seen → WalkedTo t first seen seen w
+pub walked_begin : (t : List ℕ) (first : ℕ) (seen : List ℕ) (w : Walk) → w ≡ no_groups 0 first → Seen empty_object seen → WalkedTo t first seen seen w
 walked_begin t first seen w e s = subst (WalkedTo t first seen seen) (sym e) (refl, walking_begin t first seen no_lines s)
 
 module _ (t : List ℕ) (first : ℕ) (seen₀ : List ℕ) (at : ℕ) (seen : List ℕ) (sourced : Bool) (rows : ℕ) (lines : Lines) (words : ℕ)
@@ -315,7 +357,7 @@ module _ (t : List ℕ) (first : ℕ) (seen₀ : List ℕ) (at : ℕ) (seen : Li
       → Comes P n (groups_from t first empty_object)
   settled P n o e s = subst (Comes P n) (sym e ∙ w.same) s
 
-  module _ (k n : ℕ) (l : HeadAt t at k n) (seen' : List ℕ) (r : Walked) (g : GroupChecked t k n sourced rows lines words seen seen' r) where
+  module _ (k n : ℕ) (l : HeadAt t at k n) (seen' : List ℕ) (r : Walk) (g : GroupChecked t k n sourced rows lines words seen seen' r) where
     abbrev parsed : Outcome ObjectFile
     parsed = parse_group w.object (l.name, (parts_from t n).before)
 
@@ -350,3 +392,8 @@ module _ (t : List ℕ) (first : ℕ) (seen₀ : List ℕ) (at : ℕ) (seen : Li
   walking_done number z e =
       settled (λ h. Lined t sourced rows lines h × Counts h words) number (given w.object) (groups-done t at w.object e)
       (z, (w.agrees.lines, w.agrees.counts))
+
+-- groups that are refused: nothing is said of what they leave
+pub walked_no : (t : List ℕ) (first : ℕ) (r : Walk) → GroupsWalked t first r → (r.number ≡ 0 → ⊥) → GroupsWalked t first (no_groups r.number first)
+walked_no t first r g ne =
+    comes_no (λ h. Lined t r.sourced r.rows r.lines h × Counts h r.words) (λ h. Lined t false 0 no_lines h × Counts h 0) r.number _ ne g

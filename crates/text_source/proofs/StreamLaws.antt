@@ -1,5 +1,6 @@
 -- The source column at a cursor.
 -- Assumes nothing.
+use Rattle.std.specs.Prelude.{min}
 use Rattle.std.proofs.Common.{◌≡◌, ℕ, suc, ◌+◌, ◌-◌, ◌<◌, ◌≤◌, ltb, List, [], ◌∷◌, ◌++◌, length, get_or, take, drop, sym, refl, ap, ◌∙◌, arith, length-drop, take_all, ltb-false, ltb-true, le-ltb}
 use mathlib.Core.List.{flat_map}
 use Rattle.trim.specs.Span.{part, Spans}
@@ -36,6 +37,11 @@ part_most t a e =
 pub most_same : (e most : ℕ) → e ≤ most → e ≡ at_most e most
 unfolding at_most
 most_same e most h = simp (le-ltb most e h)
+
+-- it is the smaller of the two
+pub most-min : (e most : ℕ) → min e most ≡ at_most e most
+unfolding at_most
+most-min e most = by_test (ltb most e) (λ h. let k : most < e = ltb-true most e h in simp h (omega arith)) (λ h. let k : e ≤ most = ltb-false most e h in simp h (omega arith))
 
 pub at_most_lem : (e most : ℕ) → at_most e most ≤ most
 unfolding at_most

@@ -17,13 +17,14 @@ use Rattle.trim.specs.Span.{part}
 use Rattle.text_lines.proofs.LineLaws.{length_part}
 use Rattle.text_source.specs.Stream.{bytes_left, source_from, at_most}
 use Rattle.text_source.proofs.StreamLaws.{part_front, part_end, part_most, at_most_lem}
-use Rattle.text_source.specs.Unescape.{escape_byte, ends_escape, EscapeAt, tokens_left, Plain, TokenAt, NextToken, NextDigits, NextEscape, UnescapedIs}
-use Rattle.text_source.specs.declared.Unicode.{Unicode}
-use Rattle.text_source.specs.declared.Unicode.TheVariants as un
+use Rattle.format.specs.Calls.{Measured}
+use Rattle.std.specs.Prelude as std
+use Rattle.std.specs.Prelude.{Some, None, Result, Ok, Err}
+use Rattle.units.specs.declared.refusal.Refusal.{Refusal}
+use Rattle.text_source.specs.Unescape.{escape_byte, ends_escape, EscapeAt, tokens_left, Plain, TokenAt, TokenIs, NextToken, NextDigits, NextEscape, UnescapedIs}
 use Rattle.text_source.specs.declared.Source.{Source}
 use Rattle.text_source.specs.declared.Token.{Token}
 use Rattle.text_source.specs.declared.Token.TheVariants as tk
-use Rattle.text_source.specs.declared.Unescaped.{Unescaped}
 use Rattle.text_lines.proofs.TestLaws.{by_test, and_no, within-yes, within_low, within-high}
 
 digit_no : (b : ℕ) → 16 ≤ digit_or16 b → digit_value 16 b ≡ none
@@ -448,6 +449,18 @@ counted-on t c bs d w n k m e q = go (tokens_left t d) ∙ ap (counted_from n) (
         let z : (m + bytes_of ts) % 2 ^ 64 ≡ (n + bytes_of (w.parts ++ ts)) % 2 ^ 64 = omega (arith, q, e, more_bytes w.parts ts bs w.bytes) in
         ap (λ (x : ℕ). (0, x)) z
 
+-- how many bytes a part has
+abbrev pub token_length : Token → ℕ
+token_length (tk.Stretch a e) = e - a
+token_length (tk.Plain b) = 1
+token_length (tk.Scalar v) = length (encode_scalar v)
+
+pub counted-token : (t : List ℕ) (c : Source) (k : Token) (d : Source) → TokenIs t c k d → (n len m : ℕ) → len ≡ token_length k
+    → m ≡ (n + len) % 2 ^ 64 → counted_from m (tokens_left t d) ≡ counted_from n (tokens_left t c)
+counted-token t c (tk.Stretch a e) d w n len m q r = counted-on t c (part a e t) d w.2 n len m (q ∙ sym (length_part a e t w.0 w.1)) r
+counted-token t c (tk.Plain b) d w n len m q r = counted-on t c (b ∷ []) d w n len m q r
+counted-token t c (tk.Scalar v) d w n len m q r = counted-on t c (encode_scalar v) d w.0 n len m q r
+
 pub counted-bad : (t : List ℕ) (c : Source) (n : ℕ) → tokens_left t c ≡ refused 30 → (30, 0) ≡ counted_from n (tokens_left t c)
 counted-bad t c n e = sym (ap (counted_from n) e)
 
@@ -457,7 +470,7 @@ counted-end t c n h e =
     let z : n ≡ (n + 0) % 2 ^ 64 = omega arith in
     ap (λ (x : ℕ). (0, x)) z ∙ sym (ap (λ (bs : List ℕ). counted_from n (tokens unescape_at 0 bs)) e)
 
-pub counted-all : (bs : List ℕ) (r : Unescaped) → (r.number, r.len) ≡ counted_from 0 (tokens unescape_at 0 bs) → UnescapedIs (unescape bs) r
+pub counted-all : (bs : List ℕ) (r : Measured) → (r.number, r.len) ≡ counted_from 0 (tokens unescape_at 0 bs) → UnescapedIs (unescape bs) r
 unfolding unescape
 counted-all bs r = go (tokens unescape_at 0 bs)
   where
@@ -466,9 +479,9 @@ counted-all bs r = go (tokens unescape_at 0 bs)
     go (given ts) e =
         let z : (0 + bytes_of ts) % 2 ^ 64 ≡ bytes_of ts % 2 ^ 64 = omega arith in (ap (λ (x : ℕ × ℕ). x.0) e, ap (λ (x : ℕ × ℕ). x.1) e ∙ z)
 
-pub escape_of : (t : List ℕ) (c d : Source) (b : ℕ) → bytes_left t c ≡ b ∷ bytes_left t d → b ≡ 0x7B → (r : Unicode) → NextDigits t d r → NextEscape t c r
-escape_of t c d b k h (un.Scalar v g) i = escape_some t c d b k h v g i.0 i.1 i.2 i.3
-escape_of t c d b k h un.Bad i = escape-bad t c d b k h i
+pub escape_of : (t : List ℕ) (c d : Source) (b : ℕ) → bytes_left t c ≡ b ∷ bytes_left t d → b ≡ 0x7B → (r : std.Option (ℕ × Source)) → NextDigits t d r → NextEscape t c r
+escape_of t c d b k h (Some p) i = escape_some t c d b k h p.0 p.1 i.0 i.1 i.2 i.3
+escape_of t c d b k h None i = escape-bad t c d b k h i
 
 -- one byte more
 pub plain_more : (t : List ℕ) (a e : ℕ) → Plain t a e → (get_or t e 0 ≡ 0x5C → ⊥) → Plain t a (e + 1)
@@ -485,9 +498,12 @@ module _ (t : List ℕ) (c d : Source) (q : bytes_left t c ≡ bytes_left t d) w
   token_at bs e k =
       record { less = rw q k.less; parts = k.parts; bytes = k.bytes; same = ap (tokens unescape_at 0) q ∙ k.same }
 
-  pub token_same : (r : Token) → NextToken t d r → NextToken t c r
-  token_same (tk.Stretch a e x) k = (k.0, k.1, token_at (part a e t) x k.2)
-  token_same (tk.Plain b x) k = token_at (b ∷ []) x k
-  token_same (tk.Scalar v x) k = (token_at (encode_scalar v) x k.0, k.1)
-  token_same tk.Bad k = ap (tokens unescape_at 0) q ∙ k
-  token_same tk.Done k = q ∙ k
+  pub token_same : (k : Token) (e : Source) → TokenIs t d k e → TokenIs t c k e
+  token_same (tk.Stretch a b) e w = (w.0, w.1, token_at (part a b t) e w.2)
+  token_same (tk.Plain b) e w = token_at (b ∷ []) e w
+  token_same (tk.Scalar v) e w = (token_at (encode_scalar v) e w.0, w.1)
+
+  pub next_same : (r : Result (std.Option (Token × Source)) Refusal) → NextToken t d r → NextToken t c r
+  next_same (Ok (Some p)) k = token_same p.0 p.1 k
+  next_same (Ok None) k = q ∙ k
+  next_same (Err r) k = (k.0, ap (tokens unescape_at 0) q ∙ k.1)

@@ -1,13 +1,9 @@
 -- The source column of the line table as one text: a cursor over its bytes, which lie in pieces.
 -- Assumes nothing.
-use Rattle.std.specs.Prelude.{◌≡◌, ℕ, ◌<◌, ◌≤◌, List, [], ◌∷◌, ◌++◌, length, nat_lt, slice_index_or, if◌then◌else◌}
+use Rattle.std.specs.Prelude.{Option, Some, None, ◌≡◌, ℕ, ◌<◌, ◌≤◌, List, [], ◌∷◌, ◌++◌, length, nat_lt, slice_index_or, if◌then◌else◌}
 use mathlib.Core.List.{flat_map}
 use Rattle.format.specs.TextReader.{splitn}
 use Rattle.text_source.specs.declared.Source.{Source}
-use Rattle.text_source.specs.declared.Piece.{Piece}
-use Rattle.text_source.specs.declared.Piece.TheVariants as pc
-use Rattle.text_source.specs.declared.Byte.{Byte}
-use Rattle.text_source.specs.declared.Byte.TheVariants as by
 use Rattle.trim.specs.Span.{part}
 use Rattle.text_tables.specs.Debug.{line_view}
 
@@ -28,10 +24,10 @@ unfoldable pub at_most : ℕ → ℕ → ℕ
 at_most x most = if nat_lt most x then most else x
 
 -- the same bytes are left from a cursor that is at one of them
-abbrev pub NextPiece : List ℕ → Source → Piece → Type 0
-NextPiece t c (pc.At d) = (bytes_left t c ≡ bytes_left t d) × (d.at < d.end) × (d.end ≤ length t)
-NextPiece t c pc.Done = bytes_left t c ≡ []
+abbrev pub NextPiece : List ℕ → Source → Option Source → Type 0
+NextPiece t c (Some d) = (bytes_left t c ≡ bytes_left t d) × (d.at < d.end) × (d.end ≤ length t)
+NextPiece t c None = bytes_left t c ≡ []
 
-abbrev pub NextByte : List ℕ → Source → Byte → Type 0
-NextByte t c (by.Is b d) = bytes_left t c ≡ b ∷ bytes_left t d
-NextByte t c by.Done = bytes_left t c ≡ []
+abbrev pub NextByte : List ℕ → Source → Option (ℕ × Source) → Type 0
+NextByte t c (Some p) = bytes_left t c ≡ p.0 ∷ bytes_left t p.1
+NextByte t c None = bytes_left t c ≡ []

@@ -7,6 +7,7 @@ use mathlib.Core.Option.{Option, none, some}
 use Prim.Native.Nat.{ℕ, ◌+◌, ◌-◌, ◌≤◌}
 use native.Mathlib.Omega.{arith}
 use lib.ListN.{length, get_or}
+use Rattle.std.specs.Prelude.{Some, Ok}
 use Rattle.format.specs.Basics.{given, ◌>>=◌, need, and_then}
 use Rattle.format.specs.Utf8.{trim}
 use Rattle.format.specs.TextReader.{splitn, parse_decimal, parse_number, same_cells, parse_label_row, parse_label_table}
@@ -18,8 +19,7 @@ use Rattle.text_tables.specs.Reads.{read_from}
 use Rattle.format.specs.Calls.{refusal_of}
 use Rattle.text_tables.specs.Debug.{label_view}
 use Rattle.text_tables.specs.Labels.{label_columns, label_in, set_label, LabelIs, NextLabel}
-use Rattle.text_tables.specs.declared.LabelRow.TheVariants as ix
-use Rattle.text_tables.specs.declared.LabelStep.TheVariants as is
+use Rattle.text_tables.specs.declared.LabelRow.{LabelRow}
 use Rattle.text_lines.proofs.LineLaws.{length_part, part-inside}
 use Rattle.text_tables.proofs.ReadLaws.{at_none, at_header, at_rows_lem, read-on}
 
@@ -58,11 +58,13 @@ module _ (t : List ℕ) (at : ℕ) where
     unfolding parse_label_table
     labels-yes h = at_rows_lem parse_label_row label_in set_label 26 label-row label_columns (label_view t) t empty_object at a e n l h
 
-    pub label_inside : (s f i : ℕ) → LabelIs (part a e t) (ix.Row s f i) → NextLabel t at (is.Row (a + s) (a + f) i n)
-    label_inside s f i q =
-        let h : f ≤ e - a = omega (arith, q.1, length_part a e t l.ordered l.inside) in
+    pub label_inside : (r : LabelRow) → LabelIs (part a e t) (Some r)
+        → NextLabel t at (Ok (Some (record { start = a + r.start; end = a + r.end; index = r.index }, n)))
+    label_inside r q =
+        let h : r.end ≤ e - a = omega (arith, q.1, length_part a e t l.ordered l.inside) in
         let k : e ≤ length t = l.inside in (
           omega (arith, q.0),
           omega (arith, l.ordered),
-          read-on label_in (label_view t) t at a e n l _ (q.2 ∙ ap (λ (p : List ℕ). some (record { name = p; start = i })) (sym (part-inside t a e s f q.0 h))),
+          read-on label_in (label_view t) t at a e n l _
+              (q.2 ∙ ap (λ (p : List ℕ). some (record { name = p; start = r.index })) (sym (part-inside t a e r.start r.end q.0 h))),
         )

@@ -1,13 +1,14 @@
 -- .SYMBOL's table at places.
 -- Assumes nothing.
 use mathlib.Core.Path.{◌≡◌, refl, sym, ap, ◌∙◌}
-use mathlib.Core.Bool.{Bool, true, false, not}
+use mathlib.Core.Bool.{true, false, not}
 use mathlib.Core.List.{List, [], map}
 use mathlib.Core.Option.{Option, none, some}
 use Prim.Native.Nat.{ℕ, ◌+◌, ◌-◌, ◌≤◌}
 use native.Mathlib.Omega.{arith}
 use lib.ListN.{length, get_or}
 use lib.Dec.{eqb}
+use Rattle.std.specs.Prelude.{Some, Ok}
 use Rattle.format.specs.Basics.{given, ◌>>=◌, need, and_then}
 use Rattle.format.specs.Utf8.{trim}
 use Rattle.format.specs.TextReader.{splitn, hex2u16, parse_decimal, parse_number, same_cells, parse_symbol_row, parse_symbol_group}
@@ -16,8 +17,7 @@ use Rattle.format.specs.Records.{empty_object}
 use Rattle.trim.specs.Span.{part}
 use Rattle.text_lines.specs.Groups.{parts_from, group_view, RowAt}
 use Rattle.text_tables.specs.Symbols.{symbol_in, set_symbol, symbols_from, sym_of, symbol_columns, SymIs, NextSymbol}
-use Rattle.text_tables.specs.declared.SymbolRow.TheVariants as sy
-use Rattle.text_tables.specs.declared.SymbolStep.TheVariants as ss
+use Rattle.text_tables.specs.declared.SymbolRow.{SymbolRow}
 use Rattle.format.specs.Calls.{refusal_of}
 use Rattle.text_tables.proofs.ReadLaws.{at_none, at_header, at_rows_lem, read-on}
 use Rattle.text_lines.proofs.LineLaws.{length_part, part-inside}
@@ -70,11 +70,13 @@ module _ (l : List ℕ) where
   sym_row a x s e f g h = rw (← f, ← g, h)
 
 -- a row of the group that reads, its name placed in the text
-pub symbol-inside : (t : List ℕ) (at a e n : ℕ) → RowAt t at a e n → (d : ℕ) (x : Bool) (s f : ℕ) → SymIs (part a e t) (sy.Row d x s f) → NextSymbol t at (ss.Row d x (a + s) (a + f) n)
-symbol-inside t at a e n l d x s f i =
-    let h : f ≤ e - a = omega (arith, i.1, length_part a e t l.ordered l.inside) in
+pub symbol-inside : (t : List ℕ) (at a e n : ℕ) → RowAt t at a e n → (r : SymbolRow) → SymIs (part a e t) (Some r)
+    → NextSymbol t at (Ok (Some (record { address = r.address; external = r.external; start = a + r.start; end = a + r.end }, n)))
+symbol-inside t at a e n l r i =
+    let h : r.end ≤ e - a = omega (arith, i.1, length_part a e t l.ordered l.inside) in
     let k : e ≤ length t = l.inside in (
       omega (arith, i.0),
       omega (arith, l.ordered),
-      read-on symbol_in (group_view t) t at a e n l _ (i.2 ∙ ap (λ (p : List ℕ). some (record { address = d; external = x; name = p })) (sym (part-inside t a e s f i.0 h))),
+      read-on symbol_in (group_view t) t at a e n l _
+          (i.2 ∙ ap (λ (p : List ℕ). some (record { address = r.address; external = r.external; name = p })) (sym (part-inside t a e r.start r.end i.0 h))),
     )

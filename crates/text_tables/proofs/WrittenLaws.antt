@@ -44,6 +44,10 @@ module _ (P : ℕ → Type 0) (l : List ℕ) where
   run-all a e r =
       all-part (e - a) a (omega (arith, r.ordered, r.inside)) (λ j x y. r.each j x (omega (arith, y, r.ordered)))
 
+-- what was passed over
+pub spaces_run : (l : List ℕ) (a e : ℕ) → a ≤ e → e ≤ length l → ((j : ℕ) → a ≤ j → j < e → get_or l j 0 ≡ 0x20) → Run IsSpace l a e
+spaces_run l a e o i f = record { ordered = o; inside = i; each = f }
+
 all-spaces : (xs : List ℕ) → All IsSpace xs → xs ≡ spaces (length xs)
 all-spaces [] h = refl
 all-spaces (x ∷ xs) h = ap (λ (z : ℕ). z ∷ xs) h.0 ∙ ap (λ (z : List ℕ). 0x20 ∷ z) (all-spaces xs h.1)

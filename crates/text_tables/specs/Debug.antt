@@ -1,12 +1,10 @@
 -- .DEBUG from a place on: the first line that begins with =, the label table before it and the line table after it.
 -- Assumes nothing.
-use Rattle.std.specs.Prelude.{◌≡◌, List, [], ◌∷◌, ℕ, ◌≤◌, ◌<◌, length}
+use Rattle.std.specs.Prelude as std
+use Rattle.std.specs.Prelude.{Some, None, ◌≡◌, List, [], ◌∷◌, ℕ, ◌≤◌, ◌<◌, length}
 use Rattle.std.proofs.Math.Option.{Option, none, some}
 use Rattle.format.specs.TextReader.{split_at_bar}
 use Rattle.text_lines.specs.declared.Line.{Line}
-use Rattle.text_lines.specs.declared.Line.TheVariants as ln
-use Rattle.text_lines.specs.declared.Passed.{Passed}
-use Rattle.text_lines.specs.declared.Passed.TheVariants as pa
 use Rattle.text_lines.specs.Views.{View, StepAt}
 use Rattle.text_lines.specs.Groups.{parts_from}
 
@@ -28,9 +26,9 @@ abbrev pub line_view : List ℕ → View Groups
 line_view t at = (but_last (parts_from t at).before, (parts_from t at).groups)
 
 -- a line of a view, or the end of it
-abbrev pub NextIn : {C : Type 0} → View C → List ℕ → ℕ → Line → Type 0
-NextIn v t at (ln.At a e n) = StepAt v t at a e n
-NextIn v t at ln.Done = (v at).0 ≡ []
+abbrev pub NextIn : {C : Type 0} → View C → List ℕ → ℕ → std.Option Line → Type 0
+NextIn v t at (Some l) = StepAt v t at l.start l.end l.next
+NextIn v t at None = (v at).0 ≡ []
 
 -- the place after the first =
 pub record BarAt (t : List ℕ) (at q : ℕ) : Type 0 where
@@ -39,6 +37,6 @@ pub record BarAt (t : List ℕ) (at q : ℕ) : Type 0 where
   pub groups : (parts_from t q).groups ≡ (parts_from t at).groups
   pub after : (split_at_bar (parts_from t at).before).after ≡ some (parts_from t q).before
 
-abbrev pub FirstBar : List ℕ → ℕ → Passed → Type 0
-FirstBar t at (pa.To q) = BarAt t at q
-FirstBar t at pa.Bad = (split_at_bar (parts_from t at).before).after ≡ none
+abbrev pub FirstBar : List ℕ → ℕ → std.Option ℕ → Type 0
+FirstBar t at (Some q) = BarAt t at q
+FirstBar t at None = (split_at_bar (parts_from t at).before).after ≡ none

@@ -1,13 +1,12 @@
 -- A row's cells, one after the other.
 -- Assumes nothing.
-use Rattle.std.specs.Prelude.{◌≡◌, List, [], ℕ, ◌+◌, ◌≤◌, ◌<◌, length, drop, get_or}
+use Rattle.std.specs.Prelude.{Option, Some, None, ◌≡◌, List, [], ℕ, ◌+◌, ◌≤◌, ◌<◌, length, drop, get_or}
 use Rattle.format.specs.Utf8.{trim}
 use Rattle.format.specs.TextReader.{splitn}
 use Rattle.format.proofs.TrimLaws.{Visible}
 use Rattle.trim.specs.Span.{Spans}
 use Rattle.text_tables.specs.declared.Cell.{Cell}
 use Rattle.text_tables.specs.declared.Written.{Written}
-use Rattle.text_tables.specs.declared.Written.TheVariants as written
 
 -- the first cell from a place on, trimmed, and where the row goes on after its divider
 pub record CellAt (l : List ℕ) (at : ℕ) (r : Cell) : Type 0 where
@@ -47,7 +46,7 @@ abbrev pub BarAfter : List ℕ → ℕ → ℕ → Type 0
 BarAfter l from at = (from < at) × (at + 2 ≤ length l) × (get_or l at 0 ≡ 0x7C) × (get_or l (at + 1) 0 ≡ 0x20)
 
 -- the cells of a row of the label table that is as it is written
-abbrev pub WrittenIs : List ℕ → Written → Type 0
-WrittenIs l (written.At n d) =
-    Spans l 0 n (trim (get_or (splitn 1 l) 0 [])) × Spans l d (length l) (trim (get_or (splitn 1 l) 1 []))
-WrittenIs l written.Nothing = Unit {0}
+abbrev pub WrittenIs : List ℕ → Option Written → Type 0
+WrittenIs l (Some w) =
+    Spans l 0 w.name_end (trim (get_or (splitn 1 l) 0 [])) × Spans l w.index (length l) (trim (get_or (splitn 1 l) 1 []))
+WrittenIs l None = Unit {0}

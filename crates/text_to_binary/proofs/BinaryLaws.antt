@@ -11,8 +11,9 @@ use Rattle.format.specs.Words.{object_of}
 use Rattle.format.specs.Binary.{counts_fit}
 use Rattle.format.proofs.WordsOnly.{given-same}
 use Rattle.format.proofs.Numbered.{Numbered, numbered_bind, numbered_ask, text-read}
-use Rattle.units.specs.declared.Filled as units
-use Rattle.units.specs.Filled.{filled_of, handed_back}
+use Rattle.std.specs.Prelude.{Result, Err}
+use Rattle.units.specs.declared.refusal.Refusal.{Refusal}
+use Rattle.units.specs.Refusal.{number_of, filled_of}
 use Rattle.writing.specs.Written.{Put}
 use Rattle.printing.specs.Printed.{words_read, PrintsFilled, Counts}
 use Rattle.printing.proofs.RefusalLaws.{object_numbered}
@@ -25,9 +26,10 @@ unfolding write_binary
 binary_write ws ls rs = numbered_bind 0 (object_of ws) _ (object_numbered ws) λ h. numbered_ask 0 2 (counts_fit h) _ (omega arith) tt
 
 module _ (input buffer : List ℕ) where
-  pub stops : (n : ℕ) → words_read read_text input ≡ refused n → ConvertsText input buffer (filled_of (handed_back n 0) buffer)
+  pub stops :
+      (r : Refusal) → words_read read_text input ≡ refused (number_of r) → ConvertsText input buffer (filled_of (Err r) buffer)
   unfolding fill
-  stops n e = (
+  stops r e = (
     [],
     [],
     (λ ws q. let z : ◌≡◌ {A = ℕ} 0 1 = cc in absurd (omega arith)),
@@ -43,7 +45,7 @@ module _ (input buffer : List ℕ) where
     w ∙ sym (ap (λ (o : Outcome (List ℕ)). fill (o >>= λ ws. write_binary ws ls rs) buffer) e),
   )
 
-  module _ (f : units.Filled) (left : List ℕ) (c : ConvertsText input buffer (filled_of f left)) where
+  module _ (f : Result ℕ Refusal) (left : List ℕ) (c : ConvertsText input buffer (filled_of f left)) where
     -- the definition's questions, with the output's length last
     as_printed :
         text2bin 65536 16384 (length buffer) input c.0 c.1 ≡ message (fitting (length buffer) (text_to_binary input c.0 c.1))
@@ -55,5 +57,5 @@ module _ (input buffer : List ℕ) where
     pub prints : (r : ℕ) (after : List ℕ) → PrintsFilled f left r after → PrintsBinary input buffer r after × Counts r after
     prints r after p =
         let n = numbered_bind 0 (words_read read_text input) _ (words_numbered read_text text-read input) λ ws. binary_write ws c.0 c.1 in
-        let q = printed (text_to_binary input c.0 c.1) buffer f left c.3 n r after p in
+        let q = printed (text_to_binary input c.0 c.1) buffer left n f c.3 r after p in
         ((c.0, c.1, c.2, subst (λ (x : List ℕ). Put x buffer r after) (sym as_printed) q.0), q.1)

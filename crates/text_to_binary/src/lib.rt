@@ -2,28 +2,24 @@
 // with 3, and a refusal is printed as its number and a newline.
 #![tactic(auto)]
 
-ghost use Rattle.units.specs.Filled.{filled_of};
+ghost use Rattle.units.specs.Refusal.{filled_of};
 ghost use Rattle.printing.specs.Printed.{Counts};
 ghost use Rattle.text_to_binary.specs.ToBinary.{ConvertsText, PrintsBinary};
 
 use binary_write::write_binary;
 use printing::{INPUT, object_room, print_filled};
 use text_read::read_text;
-use units::Filled;
+use units::Refusal;
 
 // The binary file of a text file, into the buffer lent.
-fn binary_of_text(input: &[u8], out: &mut [u8]) -> Filled
+fn binary_of_text(input: &[u8], out: &mut [u8]) -> Result<usize, Refusal>
     ensures { ConvertsText input.now out.old (filled_of result out.new) }
 {
     if INPUT < input.len() {
-        return Filled::refused(3);
+        return Err(Refusal::ShortBuffer);
     }
     let mut words = object_room();
-    let r = read_text(input, &mut words);
-    if r.number != 0 {
-        return Filled::refused(r.number);
-    }
-    let n = r.len;
+    let n = read_text(input, &mut words)?;
     write_binary(&words[..n], out)
 }
 

@@ -5,9 +5,9 @@ use Prim.Native.Nat.{ℕ, suc, ◌+◌, ◌-◌, ◌≤◌, ◌<◌}
 use native.Mathlib.Omega.{arith}
 use native.Mathlib.Numerals.{add-one}
 use lib.ListN.{length, take, drop, get_or, length-append, length-drop, length-take, length-map, take-append-drop, drop_of_length-le}
-use lib.Seq.{get_or-take, drop-cons, drop-append-add, take_all, length-take-le}
+use lib.Seq.{drop-cons, drop-append-add, take_all, length-take-le}
 use lib.Dec.{leb}
-use borrow.Author.Tests.{leb-true, leb-false, eq-eqb}
+use borrow.Author.Tests.{leb-true, leb-false}
 use borrow.Author.Rules.{part_to_end}
 use borrow.Rule.Slice.PartMut.{mid_of, post_of, put_mid}
 use Rattle.format.specs.Sorted.{upsert, upsert_all, sorted}
@@ -18,9 +18,10 @@ use Rattle.writing.specs.Written.{filled, written, Put}
 use Rattle.writing.proofs.WriteLaws.{length-into}
 use Rattle.writing.proofs.Parts.{State, Emits, rest, after, begin, emit, emitted}
 use Rattle.gather.proofs.OrderLaws.{held_front}
-use Rattle.text_rows.specs.Rows.{row_key, rows_from, rows_of, row_at}
+use Rattle.text_rows.specs.Rows.{number_of, row_key, rows_from, rows_of, row_at}
 use Rattle.text_rows.specs.Steps.{FoundAt, BeginsAt}
 use Rattle.text_gather.specs.declared.Sorting.{Sorting}
+use Rattle.text_gather.specs.declared.Rest.TheVariants as rest
 use Rattle.text_gather.specs.Order.{left, HandsOut}
 use Rattle.text_words.specs.Written.{words_at, put_each, PutEach}
 
@@ -153,19 +154,13 @@ put_one p room r ys w =
     let z : 0 + filled p room ≡ filled p room = omega arith in
     ap₂ (λ (j : ℕ) (x : List ℕ). (j, x)) (w.0 ∙ sym z) w.1
 
--- A WINDOW: the rows at its places from i on
-pub rows_at : (f : ℕ → List ℕ) (n i : ℕ) (win : List ℕ) → i < n → n ≤ length win
-    → map f (drop i (take n win)) ≡ (f (get_or win i 0) ∷ []) ++ map f (drop (i + 1) (take n win))
-rows_at f n i win h k =
-    let l : i < length (take n win) = omega (arith, length-take-le n win k) in
-    let d : drop i (take n win) ≡ get_or (take n win) i 0 ∷ drop (i + 1) (take n win) = rw (add-one i) (drop-cons (take n win) i 0 l) in
-    ap (map f) d ∙ ap (λ (x : ℕ). f x ∷ map f (drop (i + 1) (take n win))) (got n i win h)
-  where
-    got : (n i : ℕ) (win : List ℕ) → i < n → get_or (take n win) i 0 ≡ get_or win i 0
-    got n i win h = get_or-take n win i 0 h
+-- A WINDOW: the rows at its places from place i on
+pub places_at : (f : ℕ → List ℕ) (ps : List ℕ) (i : ℕ) → i < length ps → map f (drop i ps) ≡ (f (get_or ps i 0) ∷ []) ++ map f (drop (i + 1) ps)
+places_at f ps i h =
+    let d : drop i ps ≡ get_or ps i 0 ∷ drop (i + 1) ps = rw (add-one i) (drop-cons ps i 0 h) in ap (map f) d
 
-pub rows-done : (f : ℕ → List ℕ) (n i : ℕ) (win : List ℕ) → n ≤ i → n ≤ length win → map f (drop i (take n win)) ≡ []
-rows-done f n i win h k = ap (map f) (drop_of_length-le (take n win) {i = i} (omega (arith, length-take-le n win k)))
+pub places-done : (f : ℕ → List ℕ) (ps : List ℕ) (i : ℕ) → length ps ≤ i → map f (drop i ps) ≡ []
+places-done f ps i h = ap (map f) (drop_of_length-le ps {i = i} h)
 
 -- ROWS AS THEY COME: the first of them, and those after it
 pub found-words : (kind : ℕ) (t : List ℕ) (at p next : ℕ) → FoundAt kind t at p next
@@ -186,9 +181,9 @@ module _ (kind : ℕ) (t : List ℕ) (from : ℕ) (b : BeginsAt t from) where
       ap (λ (rs : List Record). map record_words (sorted row_key rs)) (sym (b kind) ∙ f.same ∙ ap (λ (rs : List Record). row_at kind t p ∷ rs) e)
 
 -- where the keys rise, they are the rows in order
-pub straight-rows : (t : List ℕ) (o : Sorting) → o.mode ≡ 0 → rows_from o.kind t o.at ≡ left t o
+pub straight-rows : (t : List ℕ) (o : Sorting) (at : ℕ) → o.rest ≡ rest.Rising at → rows_from (number_of o.kind) t at ≡ left t o
 unfolding left
-straight-rows t o e = rw (eq-eqb o.mode 0 e) refl
+straight-rows t o at e = rw e refl
 
 -- WINDOWS: what was handed out, and what is left
 module _ (kind : ℕ) (t : List ℕ) (rows : List Record) (found now : List ℕ) (n : ℕ) (others : List Record) (h : HandsOut kind t rows found now n others) where

@@ -13,7 +13,9 @@ use Rattle.format.specs.Words.{record_words}
 use Rattle.format.proofs.ListLaws.{by_test}
 use Rattle.text_gather.specs.Order.{HandsOut}
 use Rattle.text_words.specs.Written.{words_at}
-use Rattle.text_words.specs.Room.{room_for, room_after}
+use Rattle.std.specs.Prelude.{SomeIff, Some, None}
+use Rattle.std.specs.Prelude as rust
+use Rattle.text_words.specs.Room.{room_of, room_for, room_after}
 use Rattle.text_words.proofs.PutLaws.{window-fits, window-words, window-last, window-less}
 
 pub room-short : (n room : ℕ) → room < n → none ≡ room_for n room
@@ -23,6 +25,11 @@ room-short n room h = rw (lt-leb n room h) refl
 pub room-left : (n room m : ℕ) → n ≤ room → m ≡ room - n → some m ≡ room_for n room
 unfolding room_for
 room-left n room m h e = rw (le-leb n room h) (ap some e)
+
+-- what `checked_sub` leaves of a room
+pub room_taken : (n room : ℕ) (r : rust.Option ℕ) → SomeIff r (n ≤ room) (room - n) → room_of r ≡ room_for n room
+room_taken n room (Some m) h = room-left n room m h.0 h.1
+room_taken n room None h = room-short n room (omega arith)
 
 -- PARTS one after the other
 room-more : (ps qs : List (List ℕ)) (room : ℕ) → room_after (ps ++ qs) room ≡ and_then (room_after ps room) λ left. room_after qs left
@@ -55,11 +62,11 @@ room-one p room o e = e ∙ go (room_for (length p) room)
     go (some left) = refl
 
 module _ (p : List ℕ) (room n : ℕ) (e : n ≡ length p) where
-  pub one-short : room < n → none ≡ room_after (p ∷ []) room
+  pub one-short : ¬ (n ≤ room) → none ≡ room_after (p ∷ []) room
   one-short h = room-one p room none (room-short (length p) room (omega (arith, e)))
 
-  pub one_left : n ≤ room → some (room - n) ≡ room_after (p ∷ []) room
-  one_left h = room-one p room (some (room - n)) (room-left (length p) room (room - n) (omega (arith, e)) (omega (arith, e)))
+  pub one_left : (m : ℕ) → (n ≤ room) × (m ≡ room - n) → some m ≡ room_after (p ∷ []) room
+  one_left m h = room-one p room (some m) (room-left (length p) room m (omega (arith, e)) (omega (arith, e)))
 
 -- THE LAW for who asks: what is left, and what there is to write, make up the room
 abbrev joined : List (List ℕ) → List ℕ

@@ -3,7 +3,7 @@ use mathlib.Core.Path.{◌≡◌, refl, sym, ap, ◌∙◌, subst}
 use mathlib.Core.Bool.{true, false, not, true≢false}
 use mathlib.Core.List.{List, [], ◌∷◌, map}
 use mathlib.Core.Option.{Option, none, some}
-use Prim.Native.Nat.{ℕ, zero, suc, ◌+◌, ◌-◌, ◌/◌, ◌≤◌, ◌<◌}
+use Prim.Native.Nat.{ℕ, zero, suc, ◌+◌, ◌-◌, ◌/◌, ◌%◌, ◌≤◌, ◌<◌, min}
 use native.Mathlib.Omega.{arith}
 use lib.ListN.{length, set, length-drop, length-map}
 use lib.Dec.{eqb}
@@ -216,3 +216,7 @@ pub block-count : (kind : ℕ) (t : List ℕ) (p : ℕ) (e : Entries) → Entrie
 block-count kind t p e w k =
     let l : length (words_at 0 t p) ≡ suc e.count = ap length (block_words_lem t p (address_at 0 t p) _ refl w.same) ∙ ap suc (entries-length t e.from e.count w.all) in
     omega (arith, l, ap (λ (j : ℕ). length (words_at j t p)) k)
+
+-- words of three bytes each, the last one perhaps of fewer
+pub thirds : (n : ℕ) → n / 3 + min 1 (n % 3) ≡ (n + 2) / 3
+thirds n = omega arith

@@ -1,6 +1,6 @@
 -- The rows that a walk over any words passes are those of a well formed object's line table. Assumes nothing.
 use mathlib.Core.Path.{◌≡◌, refl, sym, ap, ap₂, subst, ◌∙◌}
-use mathlib.Core.Bool.{true, false}
+use mathlib.Core.Bool.{false}
 use mathlib.Core.List.{List, [], ◌∷◌, ◌++◌, flat_map}
 use mathlib.Core.Option.{Option}
 use Prim.Native.Nat.{ℕ, zero, suc, ◌+◌, ◌-◌, ◌%◌, ◌^◌, ◌≤◌, ◌<◌}
@@ -21,7 +21,8 @@ use Rattle.measuring.proofs.FittingLaws.{all-put}
 use Rattle.text_parts_out.specs.Parts.{heads}
 use Rattle.text_lines_out.specs.Merge.{smaller, walk_from}
 use Rattle.text_lines_out.specs.Lines.{At, Next, rows_text}
-use Rattle.text_lines_out.specs.Runs.{address_from, run_rows, source_of, rows_of, Planned}
+use Rattle.std.specs.Prelude.{Some}
+use Rattle.text_lines_out.specs.Runs.{addresses_of, address_from, run_rows, source_of, rows_of, Planned}
 use Rattle.text_lines_out.specs.Walk.{Follows, record_rows, record_done, walk_rows, line_blocks_in}
 use Rattle.text_lines_out.specs.declared.Table.{Table}
 use Rattle.text_lines_out.specs.declared.Plan.{Plan}
@@ -162,8 +163,7 @@ module _ (ws : List ℕ) (t : Table) (few : t.n + 1 < 2 ^ 64) where
         own = record {
           first = t.wraps + (block.first - t.wraps);
           count = kept - skip;
-          known = true;
-          place = at + 1 + 3 + skip;
+          place = Some (at + 1 + 3 + skip);
         };
         done = done + (smaller (line_end block) t.lines - done);
       }
@@ -191,7 +191,7 @@ module _ (ws : List ℕ) (t : Table) (few : t.n + 1 < 2 ^ 64) where
           let r1 = run-read done (address_from false ws 0) plan.gap start
           (gap-fits ws at t.lines t.wraps done k fs lines wraps plan planned s counted) a in
           let x : ℕ = start_past ws t g start in
-          let r2 = run-read plan.own.first (address_from true ws plan.own.place) plan.own.count x
+          let r2 = run-read plan.own.first (addresses_of plan.own.place ws) plan.own.count x
           (own_fits ws at t.lines t.wraps done k fs lines wraps plan planned s counted)
           (gap_passed ws at t.lines t.wraps done k fs lines wraps plan planned s counted x r1.1) in
           let y : ℕ = start_past ws t o x in

@@ -27,7 +27,7 @@ use Rattle.object.proofs.WordLaws.{head-kind}
 use Rattle.object.proofs.AccessLaws.{next, record_is}
 use Rattle.source_info.proofs.RecordLaws.{Left, start, finish, here, on, lines_other, source-here, source-other, source-text}
 use Rattle.source_info.specs.Sources.{Sourced}
-use Rattle.source_info.specs.declared.Place.TheVariants as place
+use Rattle.std.specs.Prelude.{Some, None}
 use Rattle.text_lines_out.specs.Walk.{line_blocks_in}
 use Rattle.text_lines_out.proofs.TableLaws.{blocks_start}
 use Rattle.text_write.specs.Tables.{object_in, block_table, relocation_rows, relocation_part, relocations_text}
@@ -91,12 +91,12 @@ module _ (ws : List ℕ) where
     same_source : (h : ObjectFile) → object_of ws ≡ given h → h.source ≡ (object_in ws).source
     same_source h q = sym (ap (λ o. (given_or o empty_object).source) q)
 
-    pub source-found : at < length ws → Sourced ws (place.At (at + 1))
+    pub source-found : at < length ws → Sourced ws (Some (at + 1))
     source-found h o q =
         let a = here ws source_of at (object_in ws).source h (f.source refl) in
         (same_source o q ∙ sym a.same ∙ source-here ws at a.rest (f.there h), source-text ws source_of at (object_in ws).source a (f.there h))
 
-    pub source_missing : length ws ≤ at → Sourced ws place.Nothing
+    pub source_missing : length ws ≤ at → Sourced ws None
     unfolding empty_object
     source_missing h o q = same_source o q ∙ sym (finish ws source_of at (object_in ws).source h (f.source refl))
 

@@ -1,5 +1,6 @@
 -- What is found of an object's line table before it is measured and written. Assumes nothing.
-use Rattle.std.specs.Prelude.{◌≡◌, true, false, List, [], ◌++◌, ℕ, ◌+◌, ◌*◌, ◌≤◌, ◌<◌, length}
+use Rattle.std.specs.Prelude as prelude
+use Rattle.std.specs.Prelude.{Some, None, ◌≡◌, true, false, List, [], ◌++◌, ℕ, ◌+◌, ◌*◌, ◌≤◌, ◌<◌, length}
 use Rattle.format.specs.Source.{line_count}
 use Rattle.format.specs.TextWriter.{line_table, line_width, add_blocks, plain_rows, bar_line, blocks_only}
 use Rattle.format.specs.Utf8.{is_utf8}
@@ -11,13 +12,14 @@ use Rattle.text_lines_out.specs.Walk.{line_blocks_in, Wraps, source_table}
 use Rattle.text_lines_out.specs.declared.Wrapped.{Wrapped}
 use Rattle.label_tables.specs.Tables.{names_width, indices_width}
 use Rattle.text_write.specs.Tables.{object_in}
-use Rattle.text_write.specs.declared.lines.SourcePlan.{SourcePlan}
+use Rattle.text_write.specs.declared.lines.Source.{Source}
+use Rattle.text_write.specs.declared.lines.Plan.{Plan}
 
 -- the source of a plan, and its words whose lines wrap
-abbrev pub planned_text : List ℕ → SourcePlan → List ℕ
+abbrev pub planned_text : List ℕ → Source → List ℕ
 planned_text ws p = text_bytes ws p.text p.n
 
-abbrev pub planned_wraps : SourcePlan → Wrapped
+abbrev pub planned_wraps : Source → Wrapped
 planned_wraps p = record { place = p.place; count = p.count }
 
 -- from a head on there are the object's line blocks, relocations and source
@@ -37,7 +39,7 @@ abbrev pub Links : List ℕ → ℕ → Type 0
 Links ws at = Left ws at (λ h. h.relocations) (object_in ws).relocations × (at < length ws → kind_at ws at ≡ 5)
 
 -- a plan of an object that has a source
-pub record Tabled (ws : List ℕ) (p : SourcePlan) : Type 0 where
+pub record Tabled (ws : List ℕ) (p : Source) : Type 0 where
   pub short : p.n ≤ 3 * length ws
   pub few : p.lines ≤ 3 * length ws + 1
   pub counted : p.lines ≡ line_count (planned_text ws p)
@@ -47,10 +49,19 @@ pub record Tabled (ws : List ℕ) (p : SourcePlan) : Type 0 where
   pub past : Past ws p.first
   pub whole : source_table ws ≡ line_table (planned_text ws p) (line_blocks_in ws) ++ bar_line
 
+-- the source of an object, if it has one
+abbrev pub SourceOf : List ℕ → prelude.Option Source → Type 0
+SourceOf ws (Some p) = Tabled ws p
+SourceOf ws None = source_table ws ≡ []
+
+-- a plan of an object that has more than blocks
+pub record Planned (ws : List ℕ) (p : Plan) : Type 0 where
+  pub only : false ≡ blocks_only (object_in ws)
+  pub linked : Links ws p.links
+  pub wide : (p.widths.names ≡ names_width ws) × (p.widths.indices ≡ indices_width ws)
+  pub source : SourceOf ws p.source
+
 -- a plan of an object
-pub record PlanOf (ws : List ℕ) (p : SourcePlan) : Type 0 where
-  pub only : p.only ≡ blocks_only (object_in ws)
-  pub linked : p.only ≡ false → Links ws p.links
-  pub wide : p.only ≡ false → (p.names ≡ names_width ws) × (p.indices ≡ indices_width ws)
-  pub nothing : p.bare ≡ true → source_table ws ≡ []
-  pub tabled : p.bare ≡ false → Tabled ws p
+abbrev pub PlanOf : List ℕ → prelude.Option Plan → Type 0
+PlanOf ws (Some p) = Planned ws p
+PlanOf ws None = true ≡ blocks_only (object_in ws)

@@ -1,5 +1,6 @@
 // The line table of the text form: what is found of it in one walk along the line blocks and one along the source, and its parts.
-ghost use Rattle.std.specs.Prelude.{◌≡◌, true, ◌+◌, ◌≤◌, ◌<◌, length};
+ghost use Rattle.std.specs.Prelude.{◌≡◌, false, ◌+◌, ◌≤◌, ◌<◌, length, ltb};
+ghost use Rattle.object.specs.Bodies.{kind_number};
 ghost use Rattle.format.specs.Calls.{checked};
 ghost use Rattle.format.specs.TextWriter.{line_table, line_width, add_blocks, plain_rows, blocks_only};
 ghost use Rattle.writing.specs.Written.{Put};
@@ -7,15 +8,14 @@ ghost use Rattle.measuring.specs.Room.{room_of, less_part};
 ghost use Rattle.text_lines_out.specs.Merge.{wrapped};
 ghost use Rattle.text_lines_out.specs.Walk.{line_blocks_in, Wraps, source_table};
 ghost use Rattle.text_write.specs.Tables.{object_in};
-ghost use Rattle.text_write.specs.Layouts.{planned_text, Past, First, Tabled, PlanOf};
+ghost use Rattle.text_write.specs.Layouts.{planned_text, Past, First, Tabled, SourceOf, Planned};
 
-use label_tables::column_widths;
-use measuring::{Room, take};
-use object::{body_end, kind, text_len};
+use label_tables::{Widths, column_widths};
+use measuring::take;
+use object::{Kind, body_end, text_len};
 use source_info::count_newlines;
 use text_lines_out::{
-    Rows, Run, Table, Wrapped, column_width, measure_line_header, put_line_header, top_at,
-    wrapped_on,
+    Run, Table, Wrapped, column_width, measure_line_header, put_line_header, top_at, wrapped_on,
 };
 use text_runs_out::{measure_line_records, measure_run, put_line_records, put_run};
 
@@ -44,17 +44,11 @@ fn lay_out(ws: &[u32], lines: u64, from: usize) -> Layout
     Layout { width, wrapped }
 }
 
-// What is found once of an object for measuring and writing: whether it has blocks only, and whether it has no source; where it goes on
-// past its labels, where its relocations begin, and the widths of its label table. Else the source of `n` bytes and so many lines in the
-// words from `text` on, the width of the column of line numbers, and the words whose lines wrap.
+// What is found once of an object's source for measuring and writing: the source of `n` bytes and so many lines in the words from `text`
+// on, the width of the column of line numbers, the words whose lines wrap, and where its line blocks may begin.
 #[derive(Clone, Copy)]
-pub struct SourcePlan {
-    pub only: bool,
-    pub bare: bool,
+pub struct Source {
     pub first: usize,
-    pub links: usize,
-    pub names: usize,
-    pub indices: usize,
     pub text: usize,
     pub n: usize,
     pub lines: u64,
@@ -63,23 +57,21 @@ pub struct SourcePlan {
     pub count: usize,
 }
 
-// That without a source.
-fn plan_bare(only: bool, links: usize, names: usize, indices: usize) -> SourcePlan
-    ensures { (result.only ≡ only) × (result.bare ≡ true) × (result.links ≡ links) × (result.names ≡ names) × (result.indices ≡ indices) }
+// What is found once of an object that has more than blocks: where its relocations begin, the widths of its label table, and its source.
+#[derive(Clone, Copy)]
+pub struct Plan {
+    pub links: usize,
+    pub widths: Widths,
+    pub source: Option<Source>,
+}
+
+// Whether a record of this kind comes past the labels.
+fn is_past_labels(k: Kind) -> bool
+    ensures { result ≡ ltb 2 (kind_number k) }
 {
-    SourcePlan {
-        only,
-        bare: true,
-        first: 0,
-        links,
-        names,
-        indices,
-        text: 0,
-        n: 0,
-        lines: 0,
-        width: 0,
-        place: 0,
-        count: 0,
+    match k {
+        Kind::Block | Kind::Memory | Kind::Label => false,
+        _ => true,
     }
 }
 
@@ -90,7 +82,7 @@ fn past_labels(ws: &[u32]) -> usize
 {
     let mut at = 0;
     while at < ws.len() {
-        if 2 < kind(ws[at]) {
+        if is_past_labels(Kind::of(ws[at])) {
             return at;
         }
         at = body_end(ws, at + 1);
@@ -99,13 +91,13 @@ fn past_labels(ws: &[u32]) -> usize
 }
 
 // Where its first record of a kind begins, its source or relocations, from there on; the end where it has none.
-fn find(ws: &[u32], from: usize, k: u32) -> usize
+fn find(ws: &[u32], from: usize, k: Kind) -> usize
     requires { Past ws.now from }
-    ensures { First ws.now k result }
+    ensures { First ws.now (kind_number k) result }
 {
     let mut at = from;
     while at < ws.len() {
-        if kind(ws[at]) == k {
+        if Kind::of(ws[at]) == k {
             return at;
         }
         at = body_end(ws, at + 1);
@@ -113,22 +105,14 @@ fn find(ws: &[u32], from: usize, k: u32) -> usize
     at
 }
 
-// That of a well formed object, of which it is known whether it has blocks only.
-pub(crate) fn plan_source(ws: &[u32], only: bool) -> SourcePlan
-    requires { (checked ws.now ≡ 0) × (only ≡ blocks_only (object_in ws.now)) }
-    ensures { PlanOf ws.now result }
+// The source of a well formed object, whose source and line blocks lie from a place on.
+fn source_in(ws: &[u32], first: usize) -> Option<Source>
+    requires { (checked ws.now ≡ 0) × Past ws.now first }
+    ensures { SourceOf ws.now result }
 {
-    if only {
-        return plan_bare(only, 0, 0, 0);
-    }
-    let first = past_labels(ws);
-    let links = find(ws, first, 5);
-    let widths = column_widths(ws);
-    let names = widths.names;
-    let indices = widths.indices;
-    let source = find(ws, first, 4);
+    let source = find(ws, first, Kind::Source);
     if ws.len() <= source {
-        return plan_bare(only, links, names, indices);
+        return None;
     }
     let at = source + 1;
     let end = body_end(ws, at);
@@ -136,24 +120,35 @@ pub(crate) fn plan_source(ws: &[u32], only: bool) -> SourcePlan
     let lines = count_newlines(ws, at, n) + 1;
     let layout = lay_out(ws, lines, first);
     let wrapped = layout.wrapped;
-    SourcePlan {
-        only,
-        bare: false,
+    Some(Source {
         first,
-        links,
-        names,
-        indices,
         text: at,
         n,
         lines,
         width: layout.width,
         place: wrapped.place,
         count: wrapped.count,
+    })
+}
+
+// The plan of a well formed object that has more than blocks.
+pub(crate) fn plan_source(ws: &[u32]) -> Plan
+    requires { (checked ws.now ≡ 0) × (false ≡ blocks_only (object_in ws.now)) }
+    ensures { Planned ws.now result }
+{
+    let first = past_labels(ws);
+    let links = find(ws, first, Kind::Relocation);
+    let widths = column_widths(ws);
+    let source = source_in(ws, first);
+    Plan {
+        links,
+        widths,
+        source,
     }
 }
 
 // The room that the line table leaves.
-fn measure_line_table(room: usize, ws: &[u32], p: SourcePlan) -> Room
+fn measure_line_table(room: usize, ws: &[u32], p: Source) -> Option<usize>
     requires { (checked ws.now ≡ 0) × Tabled ws.now p }
     ensures { room_of result
         ≡ less_part room (line_table (planned_text ws.now p) (line_blocks_in ws.now)) }
@@ -168,20 +163,15 @@ fn measure_line_table(room: usize, ws: &[u32], p: SourcePlan) -> Room
     let early = Run {
         first: 0,
         count: p.count,
-        known: true,
-        place: p.place,
+        place: Some(p.place),
     };
-    let Room::Left(left) = measure_line_header(room, p.width) else {
-        return Room::Short;
-    };
-    let Rows::Left(rest, next) = measure_run(left, ws, t, early, 0) else {
-        return Room::Short;
-    };
-    measure_line_records(rest, ws, t, next, p.first)
+    let left = measure_line_header(room, p.width)?;
+    let rows = measure_run(left, ws, t, early, 0)?;
+    measure_line_records(rows.left, ws, t, rows.start, p.first)
 }
 
 // The line table, written into a room that suffices.
-pub(crate) fn put_line_table(out: &mut [u8], ws: &[u32], p: SourcePlan) -> usize
+pub(crate) fn put_line_table(out: &mut [u8], ws: &[u32], p: Source) -> usize
     requires { (checked ws.now ≡ 0) × Tabled ws.now p
         × (length (line_table (planned_text ws.now p) (line_blocks_in ws.now)) ≤ length out.old) }
     ensures { Put (line_table (planned_text ws.now p) (line_blocks_in ws.now)) out.old result
@@ -197,8 +187,7 @@ pub(crate) fn put_line_table(out: &mut [u8], ws: &[u32], p: SourcePlan) -> usize
     let early = Run {
         first: 0,
         count: p.count,
-        known: true,
-        place: p.place,
+        place: Some(p.place),
     };
     let mut len = put_line_header(out, p.width);
     let rows = put_run(&mut out[len..], ws, t, early, 0);
@@ -207,15 +196,13 @@ pub(crate) fn put_line_table(out: &mut [u8], ws: &[u32], p: SourcePlan) -> usize
 }
 
 // The room that the line table and the divider line after it leave; all of it without a source.
-pub(crate) fn measure_source(room: usize, ws: &[u32], p: SourcePlan) -> Room
-    requires { (checked ws.now ≡ 0) × PlanOf ws.now p }
+pub(crate) fn measure_source(room: usize, ws: &[u32], source: Option<Source>) -> Option<usize>
+    requires { (checked ws.now ≡ 0) × SourceOf ws.now source }
     ensures { room_of result ≡ less_part room (source_table ws.now) }
 {
-    if p.bare {
-        return Room::Left(room);
-    }
-    let Room::Left(left) = measure_line_table(room, ws, p) else {
-        return Room::Short;
+    let Some(p) = source else {
+        return Some(room);
     };
+    let left = measure_line_table(room, ws, p)?;
     take(left, 21)
 }

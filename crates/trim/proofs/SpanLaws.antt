@@ -157,7 +157,7 @@ module _ (s : List ℕ) (i e : ℕ) (h : i < e) (l : e ≤ length s) where
       white_shown (part i e s) 0 n (omega (arith, range_length)) (q ∙ ap shown_white (sym g)) f
 
   -- a space at its start is passed over
-  pub space_on : get_or s i 0 ≡ 0x20 → trim_start (part (i + 1) e s) ≡ trim_start (part i e s)
+  space_on : get_or s i 0 ≡ 0x20 → trim_start (part (i + 1) e s) ≡ trim_start (part i e s)
   unfolding trim_start shown_white
   space_on q = ap trim_start (part-drop s i e 1) ∙ trim-on (part i e s) 0 1 (shown_first 1 (sym (ap shown_white q)) (omega arith))
 
@@ -179,6 +179,22 @@ module _ (s : List ℕ) (i e : ℕ) (h : i < e) (l : e ≤ length s) where
     where
       last-same : e ≡ (if ltb e (length s) then e else length s)
       last-same = by_test (ltb e (length s)) (λ t. simp t) (λ t. simp t (omega (arith, ltb-false e (length s) t)))
+
+-- and so are all the spaces there
+pub spaces_off : (s : List ℕ) (start e n : ℕ) → start + n ≤ e → e ≤ length s → ((i : ℕ) → start ≤ i → i < start + n → get_or s i 0 ≡ 0x20)
+    → trim_start (part (start + n) e s) ≡ trim_start (part start e s)
+spaces_off s start e zero l k f = let z : start + 0 ≡ start = omega arith in ap (λ (j : ℕ). trim_start (part j e s)) z
+spaces_off s start e (suc n) l k f =
+    let z : start + suc n ≡ start + n + 1 = omega arith in
+    ap (λ (j : ℕ). trim_start (part j e s)) z
+    ∙ space_on s (start + n) e (omega arith) k (f (start + n) (omega arith) (omega arith))
+    ∙ spaces_off s start e n (omega arith) k (λ i p q. f i p (omega arith))
+
+pub spaces_gone : (s : List ℕ) (start e a : ℕ) → start ≤ a → a ≤ e → e ≤ length s → ((i : ℕ) → start ≤ i → i < a → get_or s i 0 ≡ 0x20)
+    → trim_start (part a e s) ≡ trim_start (part start e s)
+spaces_gone s start e a h l k f =
+    let z : start + (a - start) ≡ a = omega arith in
+    ap (λ (j : ℕ). trim_start (part j e s)) (sym z) ∙ spaces_off s start e (a - start) (omega arith) k (λ i p q. f i p (omega arith))
 
 -- past its spaces a range begins with, and ends in, what is no White_Space
 pub range_shown : (s : List ℕ) (start end a : ℕ) → start ≤ a → a < end → end ≤ length s

@@ -17,7 +17,7 @@ use Rattle.format.specs.Utf8.{is_between, is_scalar, follow, shortest_form, char
 use Rattle.format.specs.Utf8.{trim_start, is_blank, trim_end}
 use Rattle.format.proofs.ListLaws.{by_test, both}
 use Rattle.format.proofs.Utf8Laws.{char_middle}
-use Rattle.utf8.proofs.CharLaws.{front, inside}
+use Rattle.utf8.proofs.CharLaws.{front}
 use Rattle.trim.proofs.WhiteLaws.{Alone, above, below, white_not}
 use Rattle.trim.specs.WhiteSpace.{shown_white, white_at, ends_white, white_before}
 

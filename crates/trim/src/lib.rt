@@ -1,12 +1,10 @@
 // White_Space and trimming, in place on the bytes of a text.
 #![tactic(auto)]
 
-ghost use Rattle.std.specs.Prelude.{◌≡◌, ◌≤◌, length, take, drop};
+ghost use Rattle.std.specs.Prelude.{◌≡◌, ℕ, ◌≤◌, ◌<◌, length, take, drop, get_or};
 ghost use Rattle.format.specs.Utf8.{is_between, is_white_space, trim_start, trim_end, trim, is_blank};
 ghost use Rattle.trim.specs.Span.{part, clipped, trim_start_span, trim_end_span, trim_span, Trimmed};
-ghost use Rattle.trim.specs.WhiteSpace.{shown_white, white_at, ends_white, white_before};
-
-use utf8::Char;
+ghost use Rattle.trim.specs.WhiteSpace.{ShownIs, white_at, ends_white, white_before};
 
 // A control character that is White_Space and no ASCII.
 const NEXT_LINE: u32 = 0x85;
@@ -66,31 +64,31 @@ pub fn is_white_space(c: u32) -> bool
     c == 0x3000
 }
 
-// What stands at a byte of ASCII from the space up to `~`, by that byte alone: 1 byte of White_Space, or 0; 4 of other bytes.
-fn shown_white(b: u8) -> usize
-    ensures { result ≡ shown_white b }
+// How many bytes of White_Space stand at a byte of ASCII from the space up to `~`, by that byte alone: 1, or 0; other bytes don't show it.
+fn shown_white(b: u8) -> Option<usize>
+    ensures { ShownIs b result }
 {
     if b == 0x20 {
-        return 1;
+        return Some(1);
     }
     if b < 0x20 {
-        return 4;
+        return None;
     }
     if 0x7E < b {
-        return 4;
+        return None;
     }
-    0
+    Some(0)
 }
 
 // How many bytes the White_Space character at a place has, of whatever bytes; 0 if none begins there.
 fn find_white(s: &[u8], at: usize) -> usize
     ensures { result ≡ white_at s.now at }
 {
-    let Char::Scalar { value, more } = utf8::char_at(s, at) else {
+    let Some(c) = utf8::char_at(s, at) else {
         return 0;
     };
-    if is_white_space(value) {
-        return more + 1;
+    if is_white_space(c.value) {
+        return c.more + 1;
     }
     0
 }
@@ -100,8 +98,7 @@ pub fn white_at(s: &[u8], at: usize) -> usize
     ensures { result ≡ white_at s.now at }
 {
     if at < s.len() {
-        let n = shown_white(s[at]);
-        if n < 4 {
+        if let Some(n) = shown_white(s[at]) {
             return n;
         }
     }
@@ -140,8 +137,7 @@ fn white_before(s: &[u8], end: usize) -> usize
 {
     if 0 < end {
         if end <= s.len() {
-            let n = shown_white(s[end - 1]);
-            if n < 4 {
+            if let Some(n) = shown_white(s[end - 1]) {
                 return n;
             }
         }
@@ -225,19 +221,17 @@ fn trim_any(s: &[u8], start: usize, end: usize) -> Span
     trim_end(s, a, e)
 }
 
-// Past the spaces at the start of a range.
-fn past_spaces(s: &[u8], start: usize, end: usize) -> usize
-    requires { (start ≤ end) × (end ≤ length s.now) }
-    ensures { (start ≤ result) × (result ≤ end) × (trim_start (part result end s.now) ≡ trim_start (part start end s.now)) }
+// Past the spaces from a place on, up to an end.
+pub fn spaces_end(s: &[u8], at: usize, end: usize) -> usize
+    ensures { (at ≤ result) × (at ≤ end → result ≤ end) × ((i : ℕ) → at ≤ i → i < result → get_or s.now i 0 ≡ 0x20) }
 {
-    let mut i = start;
-    while i < end {
-        if s[i] != 0x20 {
+    let last = end.min(s.len());
+    for i in at..last {
+        if s[i] != b' ' {
             return i;
         }
-        i += 1;
     }
-    i
+    last.max(at)
 }
 
 // A range less the White_Space at both ends: where bytes of ASCII show what is left, by them.
@@ -250,10 +244,10 @@ pub fn trim(s: &[u8], start: usize, end: usize) -> Span
     if s.len() < end {
         return trim_any(s, start, end);
     }
-    let a = past_spaces(s, start, end);
+    let a = spaces_end(s, start, end);
     if a < end {
-        if shown_white(s[a]) == 0 {
-            if shown_white(s[end - 1]) == 0 {
+        if let Some(0) = shown_white(s[a]) {
+            if let Some(0) = shown_white(s[end - 1]) {
                 return Span { start: a, end: end };
             }
         }

@@ -1,1 +1,1 @@
-pub mod FilledLaws
+pub mod RefusalLaws

@@ -1,8 +1,12 @@
-// The three units of the tables, and what calls that fill a buffer or tell a length hand back.
+// The three units of the tables, why a call refuses, and what C is handed of a call that fills a buffer or tells a length.
 #![tactic(auto)]
 
 ghost use Rattle.std.specs.Prelude.{◌≡◌, ◌+◌, ◌%◌, ◌^◌};
-ghost use Rattle.units.specs.Filled.{handed_back};
+ghost use Rattle.units.specs.Told.{told};
+
+pub mod refusal;
+
+pub use refusal::Refusal;
 
 // A line number. 64 bits, as both forms and the number words hold it.
 #[derive(Clone, Copy)]
@@ -16,16 +20,11 @@ pub struct ByteIndex(pub u64);
 #[derive(Clone, Copy)]
 pub struct Address(pub u16);
 
-// The number of the question that was answered no, or 0; and the length filled.
+// What C is handed of a call that fills a buffer or tells a length: the number of the question that was answered no, or 0; and the length,
+// 0 where it is refused.
+#[repr(C)]
 #[derive(Clone, Copy)]
 pub struct Filled {
-    pub number: u8,
-    pub len: usize,
-}
-
-// The number of the question that was answered no, or 0; and the length of the answer, of which nothing is written.
-#[derive(Clone, Copy)]
-pub struct Measured {
     pub number: u8,
     pub len: usize,
 }
@@ -35,22 +34,20 @@ impl Line {
     pub fn wrapping_add(self, offset: u64) -> Self
         ensures { result.0 ≡ (self.0 + offset) % 2 ^ 64 }
     {
-        Line(std::num::wrapping_add_u64(self.0, offset))
+        Line(self.0.wrapping_add(offset))
     }
 }
 
-impl Filled {
-    // A refusal: the length is 0, and each buffer is to be left as found.
-    pub fn refused(number: u8) -> Self
-        ensures { result ≡ handed_back number 0 }
-    {
-        Filled { number, len: 0 }
-    }
+impl From<Result<usize, Refusal>> for Filled {
+    ghost from_gives = { λ r f. f ≡ told r };
 
-    // All questions are answered yes, and `len` elements are written.
-    pub fn given(len: usize) -> Self
-        ensures { result ≡ handed_back 0 len }
-    {
-        Filled { number: 0, len }
+    fn from(r: Result<usize, Refusal>) -> Filled {
+        match r {
+            Ok(len) => Filled { number: 0, len },
+            Err(refusal) => Filled {
+                number: refusal.number(),
+                len: 0,
+            },
+        }
     }
 }

@@ -1,21 +1,19 @@
 -- What the code's answers on characters say, in the definitions' terms. Assumes nothing.
 use Rattle.std.proofs.Math.Option.{Option, none, some}
-use Rattle.std.specs.Prelude.{ℕ, if◌then◌else◌}
+use Rattle.std.specs.Prelude as std
+use Rattle.std.specs.Prelude.{ℕ, Some, None, if◌then◌else◌}
 use Rattle.format.specs.Utf8.{is_between}
 use Rattle.utf8.specs.declared.Char.{Char}
-use Rattle.utf8.specs.declared.Char.TheVariants as ch
-use Rattle.utf8.specs.declared.Bits.{Bits}
-use Rattle.utf8.specs.declared.Bits.TheVariants as bt
 
 -- as `char_at` has it: the scalar value, and how many bytes follow the first
-abbrev pub char_of : Char → Option (ℕ × ℕ)
-char_of (ch.Scalar v n) = some (v, n)
-char_of ch.Nothing = none
+abbrev pub char_of : std.Option Char → Option (ℕ × ℕ)
+char_of (Some c) = some (c.value, c.more)
+char_of None = none
 
 -- as `follow` has it
-abbrev pub bits_of : Bits → Option ℕ
-bits_of (bt.Value v) = some v
-bits_of bt.Missing = none
+abbrev pub bits_of : std.Option ℕ → Option ℕ
+bits_of (Some v) = some v
+bits_of None = none
 
 -- 1 for a byte that begins a character, 0 for one 10xxxxxx
 unfoldable pub begins : ℕ → ℕ

@@ -123,13 +123,10 @@ fn is_ascii_block(s: &[u8], at: usize) -> bool
     ensures { result ≡ true → Ascii s.now at (at + 64) }
 {
     let mut most = 0;
-    let mut k = 0;
-    while k < 64 {
-        let b = s[at + k];
-        if most < b {
-            most = b;
+    for i in at..at + 64 {
+        if most < s[i] {
+            most = s[i];
         }
-        k += 1;
     }
     most < 0x80
 }
@@ -140,12 +137,8 @@ fn ascii_blocks(s: &[u8], at: usize) -> usize
     ensures { (at ≤ result) × (result ≤ length s.now) × Ascii s.now at result }
 {
     let mut i = at;
-    while 64 <= s.len() - i {
-        if is_ascii_block(s, i) {
-            i += 64;
-        } else {
-            return i;
-        }
+    while 64 <= s.len() - i && is_ascii_block(s, i) {
+        i += 64;
     }
     i
 }
@@ -155,97 +148,77 @@ fn ascii_end(s: &[u8], at: usize) -> usize
     requires { at ≤ length s.now }
     ensures { (at ≤ result) × (result ≤ length s.now) × Ascii s.now at result }
 {
-    let mut i = ascii_blocks(s, at);
-    while i < s.len() {
+    for i in ascii_blocks(s, at)..s.len() {
         if 0x80 <= s[i] {
             return i;
         }
-        i += 1;
     }
-    i
+    s.len()
 }
 
-// The character at a place: its scalar value, and how many bytes follow its first.
+// A character: its scalar value, and how many bytes follow its first.
 #[derive(Clone, Copy)]
-pub enum Char {
-    Scalar { value: u32, more: usize },
-    Nothing,
+pub struct Char {
+    pub value: u32,
+    pub more: usize,
 }
 
-// The bits of the bytes that follow a first byte.
-#[derive(Clone, Copy)]
-enum Bits {
-    Value(u32),
-    Missing,
-}
-
-// The bits of the first byte and of the n bytes 10xxxxxx from a place on.
-fn follow_bits(s: &[u8], at: usize, n: usize, first: u32) -> Bits
+// The bits of the first byte and of the n bytes 10xxxxxx from a place on, if they are there.
+fn follow_bits(s: &[u8], at: usize, n: usize, first: u32) -> Option<u32>
     requires { (at ≤ length s.now) × (n ≤ 3) × (first < 32) }
     ensures { bits_of result ≡ follow n first (drop at s.now) }
 {
     let mut bits = first;
-    let mut k = 0;
-    while k < n {
+    for k in 0..n {
         let i = at + k;
         if s.len() <= i {
-            return Bits::Missing;
+            return None;
         }
         let b = s[i];
         if b < 0x80 {
-            return Bits::Missing;
+            return None;
         }
         if 0xBF < b {
-            return Bits::Missing;
+            return None;
         }
-        let x = (b - 0x80) as u32;
-        bits = bits * 64 + x;
-        k += 1;
+        bits = bits * 64 + (b - 0x80) as u32;
     }
-    Bits::Value(bits)
+    Some(bits)
 }
 
 // The character of these bits, if it is a scalar value and needs as many bytes.
-fn shortest_form(least: u32, more: usize, bits: Bits) -> Char
+fn shortest_form(least: u32, more: usize, bits: Option<u32>) -> Option<Char>
     ensures { char_of result ≡ shortest_form least more (bits_of bits) }
 {
-    let Bits::Value(value) = bits else {
-        return Char::Nothing;
-    };
+    let value = bits?;
     if value < least {
-        return Char::Nothing;
+        return None;
     }
     if value < 0xD800 {
-        return Char::Scalar {
-            value: value,
-            more: more,
-        };
+        return Some(Char { value, more });
     }
     if value < 0xE000 {
-        return Char::Nothing;
+        return None;
     }
     if 0x10FFFF < value {
-        return Char::Nothing;
+        return None;
     }
-    Char::Scalar {
-        value: value,
-        more: more,
-    }
+    Some(Char { value, more })
 }
 
 // The character at a place; nothing where none begins there, also past the end.
-pub fn char_at(s: &[u8], at: usize) -> Char
+pub fn char_at(s: &[u8], at: usize) -> Option<Char>
     ensures { char_of result ≡ char_at (drop at s.now) }
 {
     if s.len() <= at {
-        return Char::Nothing;
+        return None;
     }
     let b = s[at] as u32;
     if b < 0x80 {
-        return Char::Scalar { value: b, more: 0 };
+        return Some(Char { value: b, more: 0 });
     }
     if b < 0xC0 {
-        return Char::Nothing;
+        return None;
     }
     let next = at + 1;
     if b < 0xE0 {
@@ -257,7 +230,7 @@ pub fn char_at(s: &[u8], at: usize) -> Char
     if b < 0xF8 {
         return shortest_form(0x10000, 3, follow_bits(s, next, 3, b - 0xF0));
     }
-    Char::Nothing
+    None
 }
 
 // Whether bytes are UTF-8: ASCII stretches in one go, what lies between them a character at a time.
@@ -270,10 +243,10 @@ pub fn is_utf8(s: &[u8]) -> bool
             i = ascii_end(s, i + 1);
             continue;
         }
-        let Char::Scalar { value: _, more } = char_at(s, i) else {
+        let Some(c) = char_at(s, i) else {
             return false;
         };
-        i += more + 1;
+        i += c.more + 1;
     }
     true
 }

@@ -18,19 +18,15 @@ use Rattle.format.specs.Words.{memories_of, addresses_of, number_from, text_from
 use Rattle.object.specs.Bodies.{allows}
 use Rattle.well_formed.specs.Run.{fits, after, sound_record, apart_from}
 use Rattle.object.specs.Bodies.{body_at, good_memory, good_addresses, good_text}
-use Rattle.well_formed.specs.Steps.{key_in, past_in, Known, group_at, Advanced}
+use Rattle.well_formed.specs.Steps.{key_in, end_of, past_in, moved, Known, group_at, Advanced}
+use Rattle.std.specs.Option.{is_some}
+use Rattle.std.specs.Prelude.{Some}
 use Rattle.well_formed.specs.declared.Key.{Key}
+use Rattle.well_formed.specs.declared.Key.TheVariants as key
 use Rattle.well_formed.specs.declared.Seen.{Seen}
 use Rattle.well_formed.proofs.StepLaws.{Good, good, given_it, not-read, falls, unsound, near, bad_body, fitting, block-head, block_read}
 use Rattle.well_formed.proofs.StepLaws.{label-head, label-number, label-read, line-head, line-number, line_read, source-head, source-read}
 use Rattle.well_formed.proofs.StepLaws.{relocation-head, relocation-read, memories_length, addresses-length, number-length}
-
-abbrev pub keyed : ℕ → ℕ → ℕ → Key
-keyed p v n = record { part = p; value = v; name = n }
-
--- the same, but for the key
-abbrev pub moved : Seen → Key → Seen
-moved s k = record { key = k; first = s.first; count = s.count; lined = s.lined; sourced = s.sourced }
 
 then : {A B : Type 0} (o : Outcome A) (f : A → B) (a : A) → o ≡ given a → (o >>= λ a. given (f a)) ≡ given (f a)
 then o f a e = ap (λ o. o >>= λ a. given (f a)) e
@@ -79,8 +75,8 @@ module _ (ws : List ℕ) (at : ℕ) (s : Seen) where
         size : length memories.it ≡ length body
         size = memories_length body memories.it memories.gives
 
-        key_is : (v : ℕ) → v ≡ w → key_in ws (keyed 1 v 0) ≡ record_key (made memories.it)
-        unfolding key_in record_key
+        key_is : (v : ℕ) → v ≡ w → key_in ws (key.Block v) ≡ record_key (made memories.it)
+        unfolding record_key
         key_is v e = ap (λ x. 0 ∷ x ∷ []) e
 
         pub block_3 : 65535 < length body → Refused
@@ -88,13 +84,13 @@ module _ (ws : List ℕ) (at : ℕ) (s : Seen) where
         block_3 l = unsound (group_at ws at) (past_in ws s) (made memories.it) reads
             (lt-leb (length memories.it) 65535 (omega (arith, size)))
 
-        pub block_4 : (v : ℕ) → v ≡ w → rising (keyed 1 v 0) ≡ false → Refused
+        pub block_4 : (v : ℕ) → v ≡ w → rising (key.Block v) ≡ false → Refused
         unfolding past_in
         block_4 v e r = falls (group_at ws at) (past_in ws s) (made memories.it) reads
             (ap (λ x. is_less (order (key_in ws s.key) x)) (sym (key_is v e)) ∙ r)
 
-        pub block-next : (v n : ℕ) → v ≡ w → length body ≤ 65535 → rising (keyed 1 v 0) ≡ true → n ≡ at + 1 + length body
-            → Advanced ws at s n (moved s (keyed 1 v 0))
+        pub block-next : (v n : ℕ) → v ≡ w → length body ≤ 65535 → rising (key.Block v) ≡ true → n ≡ at + 1 + length body
+            → Advanced ws at s n (moved s (key.Block v))
         unfolding past_in sound_record apart_from after
         block-next v n e l r p =
             record {
@@ -103,8 +99,8 @@ module _ (ws : List ℕ) (at : ℕ) (s : Seen) where
               fitting = fitting (past_in ws s) (made memories.it)
                   (ap (λ x. is_less (order (key_in ws s.key) x)) (sym (key_is v e)) ∙ r)
                   (le-leb (length memories.it) 65535 (omega (arith, size))) refl;
-              past = ap (λ x. record { key = x; end = s.first + s.count; lined = s.lined; sourced = s.sourced }) (key_is v e);
-              known = λ z. absurd (omega arith);
+              past = ap (λ x. record { key = x; end = end_of s.lines; lined = is_some s.lines; sourced = s.sourced }) (key_is v e);
+              known = tt;
               place = p;
             }
 
@@ -137,7 +133,7 @@ module _ (ws : List ℕ) (at : ℕ) (s : Seen) where
               read = make text.it;
               reading = text-reads;
               fitting = fitting (past_in ws s) (make text.it) (ap (λ x. is_less (order (key_in ws s.key) x)) (sym key_is) ∙ r)
-                  (is-sound text.it ∙ text.passes) (is-apart (s.first + s.count) text.it);
+                  (is-sound text.it ∙ text.passes) (is-apart (end_of s.lines) text.it);
               past = q;
               known = known;
               place = p;
@@ -155,8 +151,8 @@ module _ (ws : List ℕ) (at : ℕ) (s : Seen) where
         abbrev labelled : List ℕ → Record
         labelled t = label (record { name = t; address = w % 2 ^ 29 % 2 ^ 16; external = leb (2 ^ 16) (w % 2 ^ 29); start = v })
 
-        label-key : (t : List ℕ) → text_from (body_at ws more) ≡ given t → key_in ws (keyed 2 0 more) ≡ record_key (labelled t)
-        unfolding key_in record_key
+        label-key : (t : List ℕ) → text_from (body_at ws more) ≡ given t → key_in ws (key.Label more) ≡ record_key (labelled t)
+        unfolding record_key
         label-key t q = ap (λ o. 1 ∷ given_or o []) q
 
         pub label_3 : good_text (body_at ws more) ≡ false → Refused
@@ -164,24 +160,24 @@ module _ (ws : List ℕ) (at : ℕ) (s : Seen) where
         label_3 g = text_1 labelled more (label-read w body k v (body_at ws more) h e) (λ t. refl) (λ d t. refl) g
 
         module _ (g : good_text (body_at ws more) ≡ true) where
-          pub label_4 : rising (keyed 2 0 more) ≡ false → Refused
+          pub label_4 : rising (key.Label more) ≡ false → Refused
           unfolding sound_record apart_from
           label_4 r =
-              text_2 labelled more (label-read w body k v (body_at ws more) h e) (λ t. refl) (λ d t. refl) g (keyed 2 0 more)
+              text_2 labelled more (label-read w body k v (body_at ws more) h e) (λ t. refl) (λ d t. refl) g (key.Label more)
               (label-key _ (text labelled more (label-read w body k v (body_at ws more) h e) (λ t. refl) (λ d t. refl) g).gives) r
 
-          pub label-known : Known ws (keyed 2 0 more)
+          pub label-known : Known ws (key.Label more)
           unfolding good_text
-          label-known z = ap is_given (good (text_from (body_at ws more)) is_utf8 g).gives
+          label-known = ap is_given (good (text_from (body_at ws more)) is_utf8 g).gives
 
-          pub label-next : (n : ℕ) → rising (keyed 2 0 more) ≡ true → n ≡ more + length (body_at ws more)
-              → Advanced ws at s n (moved s (keyed 2 0 more))
+          pub label-next : (n : ℕ) → rising (key.Label more) ≡ true → n ≡ more + length (body_at ws more)
+              → Advanced ws at s n (moved s (key.Label more))
           unfolding sound_record apart_from past_in after
           label-next n r p =
               let q = label-key _ (text labelled more (label-read w body k v (body_at ws more) h e) (λ t. refl) (λ d t. refl) g).gives in
-              text-next labelled more (label-read w body k v (body_at ws more) h e) (λ t. refl) (λ d t. refl) g (keyed 2 0 more) q n
-              (moved s (keyed 2 0 more)) r
-              (ap (λ x. record { key = x; end = s.first + s.count; lined = s.lined; sourced = s.sourced }) q) label-known
+              text-next labelled more (label-read w body k v (body_at ws more) h e) (λ t. refl) (λ d t. refl) g (key.Label more) q n
+              (moved s (key.Label more)) r
+              (ap (λ x. record { key = x; end = end_of s.lines; lined = is_some s.lines; sourced = s.sourced }) q) label-known
               (omega (arith, p, number-length body (body_at ws more) v e))
 
   module _ (k : w / 2 ^ 29 ≡ 4) where
@@ -189,8 +185,8 @@ module _ (ws : List ℕ) (at : ℕ) (s : Seen) where
     source_1 n = not-read (group_at ws at) (past_in ws s) (source-head w body k n)
 
     module _ (h : w ≡ 0x8000_0000) where
-      source-key : (t : List ℕ) → key_in ws (keyed 4 0 0) ≡ record_key (source t)
-      unfolding key_in record_key
+      source-key : (t : List ℕ) → key_in ws key.Source ≡ record_key (source t)
+      unfolding record_key
       source-key t = refl
 
       pub source_2 : good_text body ≡ false → Refused
@@ -198,18 +194,18 @@ module _ (ws : List ℕ) (at : ℕ) (s : Seen) where
       source_2 g = text_1 source (at + 1) (source-read w body k h) (λ t. refl) (λ d t. refl) g
 
       module _ (g : good_text body ≡ true) where
-        pub source_3 : rising (keyed 4 0 0) ≡ false → Refused
+        pub source_3 : rising key.Source ≡ false → Refused
         unfolding sound_record apart_from
-        source_3 r = text_2 source (at + 1) (source-read w body k h) (λ t. refl) (λ d t. refl) g (keyed 4 0 0) (source-key _) r
+        source_3 r = text_2 source (at + 1) (source-read w body k h) (λ t. refl) (λ d t. refl) g key.Source (source-key _) r
 
-        pub source-next : (n : ℕ) → rising (keyed 4 0 0) ≡ true → n ≡ at + 1 + length body
-            → Advanced ws at s n (record { key = keyed 4 0 0; first = s.first; count = s.count; lined = s.lined; sourced = true })
+        pub source-next : (n : ℕ) → rising key.Source ≡ true → n ≡ at + 1 + length body
+            → Advanced ws at s n (record { key = key.Source; lines = s.lines; sourced = true })
         unfolding sound_record apart_from past_in after
         source-next n r p =
-            text-next source (at + 1) (source-read w body k h) (λ t. refl) (λ d t. refl) g (keyed 4 0 0) (source-key _) n
-            (record { key = keyed 4 0 0; first = s.first; count = s.count; lined = s.lined; sourced = true }) r
-            (ap (λ x. record { key = x; end = s.first + s.count; lined = s.lined; sourced = true }) (source-key _))
-            (λ z. absurd (omega arith)) p
+            text-next source (at + 1) (source-read w body k h) (λ t. refl) (λ d t. refl) g key.Source (source-key _) n
+            (record { key = key.Source; lines = s.lines; sourced = true }) r
+            (ap (λ x. record { key = x; end = end_of s.lines; lined = is_some s.lines; sourced = true }) (source-key _))
+            tt p
 
   module _ (k : w / 2 ^ 29 ≡ 5) where
     pub relocation_1 : (w / 2 ^ 16 ≡ 0xA000 → ⊥) → Refused
@@ -219,8 +215,8 @@ module _ (ws : List ℕ) (at : ℕ) (s : Seen) where
       abbrev relocated : List ℕ → Record
       relocated t = relocation (record { address = w % 2 ^ 16; name = t })
 
-      relocation-key : (t : List ℕ) (v : ℕ) → v ≡ w % 2 ^ 16 → key_in ws (keyed 5 v 0) ≡ record_key (relocated t)
-      unfolding key_in record_key
+      relocation-key : (t : List ℕ) (v : ℕ) → v ≡ w % 2 ^ 16 → key_in ws (key.Relocation v) ≡ record_key (relocated t)
+      unfolding record_key
       relocation-key t v e = ap (λ x. 4 ∷ x ∷ []) e
 
       pub relocation_2 : good_text body ≡ false → Refused
@@ -228,18 +224,18 @@ module _ (ws : List ℕ) (at : ℕ) (s : Seen) where
       relocation_2 g = text_1 relocated (at + 1) (relocation-read w body k h) (λ t. refl) (λ d t. refl) g
 
       module _ (g : good_text body ≡ true) (v : ℕ) (e : v ≡ w % 2 ^ 16) where
-        pub relocation_3 : rising (keyed 5 v 0) ≡ false → Refused
+        pub relocation_3 : rising (key.Relocation v) ≡ false → Refused
         unfolding sound_record apart_from
-        relocation_3 r = text_2 relocated (at + 1) (relocation-read w body k h) (λ t. refl) (λ d t. refl) g (keyed 5 v 0)
+        relocation_3 r = text_2 relocated (at + 1) (relocation-read w body k h) (λ t. refl) (λ d t. refl) g (key.Relocation v)
             (relocation-key _ v e) r
 
-        pub relocation-next : (n : ℕ) → rising (keyed 5 v 0) ≡ true → n ≡ at + 1 + length body → Advanced ws at s n (moved s (keyed 5 v 0))
+        pub relocation-next : (n : ℕ) → rising (key.Relocation v) ≡ true → n ≡ at + 1 + length body → Advanced ws at s n (moved s (key.Relocation v))
         unfolding sound_record apart_from past_in after
         relocation-next n r p =
-            text-next relocated (at + 1) (relocation-read w body k h) (λ t. refl) (λ d t. refl) g (keyed 5 v 0) (relocation-key _ v e) n
-            (moved s (keyed 5 v 0)) r
-            (ap (λ x. record { key = x; end = s.first + s.count; lined = s.lined; sourced = s.sourced }) (relocation-key _ v e))
-            (λ z. absurd (omega arith)) p
+            text-next relocated (at + 1) (relocation-read w body k h) (λ t. refl) (λ d t. refl) g (key.Relocation v) (relocation-key _ v e) n
+            (moved s (key.Relocation v)) r
+            (ap (λ x. record { key = x; end = end_of s.lines; lined = is_some s.lines; sourced = s.sourced }) (relocation-key _ v e))
+            tt p
 
   module _ (k : w / 2 ^ 29 ≡ 3) where
     pub line_1 : (w ≡ 0x6000_0000 → ⊥) → Refused
@@ -253,8 +249,8 @@ module _ (ws : List ℕ) (at : ℕ) (s : Seen) where
         abbrev lined : List ℕ → Record
         lined ns = line_block (record { first = v; addresses = ns })
 
-        line-key : (ns : List ℕ) → key_in ws (keyed 3 v 0) ≡ record_key (lined ns)
-        unfolding key_in record_key
+        line-key : (ns : List ℕ) → key_in ws (key.LineBlock v) ≡ record_key (lined ns)
+        unfolding record_key
         line-key ns = refl
 
         pub line_3 : good_addresses (body_at ws more) ≡ false → Refused
@@ -271,18 +267,18 @@ module _ (ws : List ℕ) (at : ℕ) (s : Seen) where
           line_reads = line_read w body k v (body_at ws more) h e
               ∙ then (addresses_of (body_at ws more)) lined addresses.it addresses.gives
 
-          pub line_4 : v < s.first + s.count → Refused
+          pub line_4 : v < end_of s.lines → Refused
           unfolding apart_from past_in
-          line_4 l = near (group_at ws at) (past_in ws s) (lined addresses.it) line_reads (lt-leb (s.first + s.count) v l)
+          line_4 l = near (group_at ws at) (past_in ws s) (lined addresses.it) line_reads (lt-leb (end_of s.lines) v l)
 
-          pub line_5 : rising (keyed 3 v 0) ≡ false → Refused
+          pub line_5 : rising (key.LineBlock v) ≡ false → Refused
           unfolding past_in
           line_5 r = falls (group_at ws at) (past_in ws s) (lined addresses.it) line_reads
               (ap (λ x. is_less (order (key_in ws s.key) x)) (sym (line-key addresses.it)) ∙ r)
 
-          pub line-next : (n c : ℕ) → s.first + s.count ≤ v → rising (keyed 3 v 0) ≡ true → n ≡ more + length (body_at ws more) → c
+          pub line-next : (n c : ℕ) → end_of s.lines ≤ v → rising (key.LineBlock v) ≡ true → n ≡ more + length (body_at ws more) → c
               ≡ n - more
-              → Advanced ws at s n (record { key = keyed 3 v 0; first = v; count = c; lined = true; sourced = s.sourced })
+              → Advanced ws at s n (record { key = key.LineBlock v; lines = Some (record { first = v; count = c }); sourced = s.sourced })
           unfolding past_in apart_from sound_record after
           line-next n c l r p q =
               let size = addresses-length (body_at ws more) addresses.it addresses.gives in
@@ -292,9 +288,9 @@ module _ (ws : List ℕ) (at : ℕ) (s : Seen) where
                 reading = line_reads;
                 fitting = fitting (past_in ws s) (lined addresses.it)
                     (ap (λ x. is_less (order (key_in ws s.key) x)) (sym (line-key addresses.it)) ∙ r) addresses.passes
-                    (le-leb (s.first + s.count) v l);
+                    (le-leb (end_of s.lines) v l);
                 past = ap (λ x. record { key = x; end = v + c; lined = true; sourced = s.sourced }) (line-key addresses.it)
                     ∙ ap (λ x. record { key = record_key (lined addresses.it); end = x; lined = true; sourced = s.sourced }) d;
-                known = λ z. absurd (omega arith);
+                known = tt;
                 place = omega (arith, p, number-length body (body_at ws more) v e);
               }

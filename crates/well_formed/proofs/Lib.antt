@@ -3,3 +3,4 @@ pub mod KeyLaws
 pub mod StepLaws
 pub mod KindLaws
 pub mod WalkLaws
+pub mod NumberLaws

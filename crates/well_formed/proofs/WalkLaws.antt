@@ -13,6 +13,7 @@ use Rattle.object.specs.Bodies.{allows}
 use Rattle.well_formed.specs.Run.{start, fits, after, walk}
 use Rattle.object.specs.Bodies.{body_at, groups_at}
 use Rattle.well_formed.specs.Steps.{past_in, group_at, Advanced}
+use Rattle.std.specs.Option.{is_some}
 use Rattle.well_formed.specs.declared.Seen.{Seen}
 use Rattle.object.proofs.BodyLaws.{head_at, groups-here, groups_out, after_body, after-groups}
 use Rattle.well_formed.proofs.RunLaws.{walk_agrees}
@@ -54,7 +55,7 @@ module _ (ws : List ℕ) (at : ℕ) (s : Seen) (h : at < length ws) (e : body_at
     pub place-on : at < n
     place-on = omega (arith, a.place)
 
-pub walk_end : (ws : List ℕ) (at : ℕ) (s : Seen) → length ws ≤ at → walk (past_in ws s) (groups_at ws at) ≡ (not s.lined || s.sourced)
+pub walk_end : (ws : List ℕ) (at : ℕ) (s : Seen) → length ws ≤ at → walk (past_in ws s) (groups_at ws at) ≡ (not (is_some s.lines) || s.sourced)
 unfolding walk past_in
 walk_end ws at s h = ap (walk (past_in ws s)) (groups_out ws at h)
 

@@ -1,43 +1,62 @@
 // Whether a slice of words is a well formed object (document 01, "The holding"), in one walk along its records.
 #![tactic(auto)]
 
-ghost use Rattle.std.specs.Prelude.{◌≡◌, true, ◌<◌, length, get_or};
+ghost use Rattle.std.specs.Prelude.{◌≡◌, true, ◌<◌, length, get_or, nat_le};
 ghost use Rattle.format.specs.Sorted.{order, is_less};
 ghost use Rattle.format.specs.Words.{is_head};
 ghost use Rattle.format.specs.Calls.{checked};
+ghost use Rattle.units.specs.Refusal.{number_in};
 ghost use Rattle.object.specs.Bodies.{body_at, text_at, Text};
-ghost use Rattle.well_formed.specs.Steps.{key_in, Known, At, Stepped};
+ghost use Rattle.well_formed.specs.Steps.{part_of, key_in, end_of, Known, At, Moved, Stepped};
 
-use object::{Number, goes_on, kind, read_number, wide};
-use word_checks::{Body, addresses_end, is_apart, memory_end, rank, text_end};
+use object::{Kind, goes_on, read_number};
+use units::Refusal;
+use word_checks::{addresses_end, is_apart, memory_end, rank, text_end};
 
-// What a record is sorted by: its part (0 for no record, 1 block, 2 label, 3 line block, 4 source, 5 relocation), and in its part an
-// address or a first line, or where a name starts.
+// What a record is sorted by: its part, and in it an address, a first line, or where its name starts. `Start` comes before every record.
 #[derive(Clone, Copy)]
-struct Key {
-    part: u8,
-    value: u64,
-    name: usize,
+enum Key {
+    Start,
+    Block(u32),
+    Label(usize),
+    LineBlock(u64),
+    Source,
+    Relocation(u32),
 }
 
-// What the records so far leave to check: the last record's key, the last line block's first line and count, and whether there was a
-// line block and a source.
+// A line block's first line, and how many it has.
+#[derive(Clone, Copy)]
+struct Lines {
+    first: u64,
+    count: usize,
+}
+
+// What the records so far leave to check: the last record's key, the last line block, and whether there was a source.
 #[derive(Clone, Copy)]
 struct Seen {
     key: Key,
-    first: u64,
-    count: usize,
-    lined: bool,
+    lines: Option<Lines>,
     sourced: bool,
 }
 
-#[derive(Clone, Copy)]
-enum Step {
-    Next(usize, Seen),
-    Bad,
+impl Key {
+    // How many parts come before its own.
+    fn part(self) -> u8
+        ensures { result ≡ part_of self }
+    {
+        match self {
+            Key::Start => 0,
+            Key::Block(_) => 1,
+            Key::Label(_) => 2,
+            Key::LineBlock(_) => 3,
+            Key::Source => 4,
+            Key::Relocation(_) => 5,
+        }
+    }
 }
 
-// Whether the text at `a` comes before that at `b`.
+// Whether the text at `a` comes before that at `b`. Both are walked at once, each up to its own end: a `for` over one of them would count the
+// other by hand.
 fn text_below(ws: &[u32], a: usize, b: usize) -> bool
     requires { Text (body_at ws.now a) × Text (body_at ws.now b) }
     ensures { result ≡ is_less (order (text_at ws.now a) (text_at ws.now b)) }
@@ -64,258 +83,168 @@ fn rises(ws: &[u32], a: Key, b: Key) -> bool
     requires { Known ws.now a × Known ws.now b }
     ensures { result ≡ is_less (order (key_in ws.now a) (key_in ws.now b)) }
 {
-    let p = a.part;
-    let q = b.part;
-    if p < q {
-        return true;
+    match (a, b) {
+        (Key::Label(x), Key::Label(y)) => text_below(ws, x, y),
+        (Key::Block(x), Key::Block(y)) => x < y,
+        (Key::LineBlock(x), Key::LineBlock(y)) => x < y,
+        (Key::Relocation(x), Key::Relocation(y)) => x < y,
+        _ => a.part() < b.part(),
     }
-    if q < p {
-        return false;
-    }
-    if p == 2 {
-        let x = a.name;
-        let y = b.name;
-        return text_below(ws, x, y);
-    }
-    if p == 0 {
-        return false;
-    }
-    if p == 4 {
-        return false;
-    }
-    a.value < b.value
 }
 
-// A record of each kind: its words, and what the records before it leave to check.
-fn block(ws: &[u32], at: usize, seen: Seen) -> Step
+impl Seen {
+    // The same past a record with a key, if the key may follow.
+    fn past(self, ws: &[u32], key: Key) -> Option<Seen>
+        requires { Known ws.now self.key × Known ws.now key }
+        ensures { Moved ws.now self key result }
+    {
+        if !rises(ws, self.key, key) {
+            return None;
+        }
+        Some(Seen { key, ..self })
+    }
+}
+
+// Whether a line block may begin at the line `next`, by the one before it.
+fn is_free(lines: Option<Lines>, next: u64) -> bool
+    ensures { result ≡ nat_le (end_of lines) next }
+{
+    match lines {
+        Some(last) => is_apart(last.first, last.count, next),
+        None => true,
+    }
+}
+
+// A record of each kind: where it ends, and what the records up to it leave to check.
+fn block(ws: &[u32], at: usize, seen: Seen) -> Option<(usize, Seen)>
     requires { At 0 ws.now at seen }
     ensures { Stepped ws.now at seen result }
 {
     let w = ws[at];
     if w / 0x1_0000 != 0 {
-        return Step::Bad;
+        return None;
     }
-    let Body::Ends(n) = memory_end(ws, at + 1) else {
-        return Step::Bad;
-    };
+    let n = memory_end(ws, at + 1)?;
     if 65536 < n - at {
-        return Step::Bad;
+        return None;
     }
-    let last = seen.key;
-    let key = Key {
-        part: 1,
-        value: wide(w),
-        name: 0,
-    };
-    if !rises(ws, last, key) {
-        return Step::Bad;
-    }
-    Step::Next(
-        n,
-        Seen {
-            key,
-            first: seen.first,
-            count: seen.count,
-            lined: seen.lined,
-            sourced: seen.sourced,
-        },
-    )
+    let past = seen.past(ws, Key::Block(w))?;
+    Some((n, past))
 }
 
-fn label(ws: &[u32], at: usize, seen: Seen) -> Step
+fn label(ws: &[u32], at: usize, seen: Seen) -> Option<(usize, Seen)>
     requires { At 2 ws.now at seen }
     ensures { Stepped ws.now at seen result }
 {
     let w = ws[at];
     if w / 0x2_0000 != 0x2000 {
-        return Step::Bad;
+        return None;
     }
     let body = at + 1;
-    let Number::Is(_) = read_number(ws, body) else {
-        return Step::Bad;
-    };
+    let _ = read_number(ws, body)?;
     let text = body + 3;
-    let Body::Ends(n) = text_end(ws, text) else {
-        return Step::Bad;
-    };
-    let last = seen.key;
-    let key = Key {
-        part: 2,
-        value: 0,
-        name: text,
-    };
-    if !rises(ws, last, key) {
-        return Step::Bad;
-    }
-    Step::Next(
-        n,
-        Seen {
-            key,
-            first: seen.first,
-            count: seen.count,
-            lined: seen.lined,
-            sourced: seen.sourced,
-        },
-    )
+    let n = text_end(ws, text)?;
+    let past = seen.past(ws, Key::Label(text))?;
+    Some((n, past))
 }
 
-fn line_block(ws: &[u32], at: usize, seen: Seen) -> Step
+fn line_block(ws: &[u32], at: usize, seen: Seen) -> Option<(usize, Seen)>
     requires { At 3 ws.now at seen }
     ensures { Stepped ws.now at seen result }
 {
     let w = ws[at];
     if w != 0x6000_0000 {
-        return Step::Bad;
+        return None;
     }
     let body = at + 1;
-    let Number::Is(first) = read_number(ws, body) else {
-        return Step::Bad;
-    };
-    let lines = body + 3;
-    let Body::Ends(n) = addresses_end(ws, lines) else {
-        return Step::Bad;
-    };
-    if !is_apart(seen.first, seen.count, first) {
-        return Step::Bad;
+    let first = read_number(ws, body)?;
+    let addresses = body + 3;
+    let n = addresses_end(ws, addresses)?;
+    if !is_free(seen.lines, first) {
+        return None;
     }
-    let last = seen.key;
-    let key = Key {
-        part: 3,
-        value: first,
-        name: 0,
+    let past = seen.past(ws, Key::LineBlock(first))?;
+    let lines = Lines {
+        first,
+        count: n - addresses,
     };
-    if !rises(ws, last, key) {
-        return Step::Bad;
-    }
-    Step::Next(
+    Some((
         n,
         Seen {
-            key,
-            first,
-            count: n - lines,
-            lined: true,
-            sourced: seen.sourced,
+            lines: Some(lines),
+            ..past
         },
-    )
+    ))
 }
 
-fn source(ws: &[u32], at: usize, seen: Seen) -> Step
+fn source(ws: &[u32], at: usize, seen: Seen) -> Option<(usize, Seen)>
     requires { At 4 ws.now at seen }
     ensures { Stepped ws.now at seen result }
 {
     let w = ws[at];
     if w != 0x8000_0000 {
-        return Step::Bad;
+        return None;
     }
-    let Body::Ends(n) = text_end(ws, at + 1) else {
-        return Step::Bad;
-    };
-    let last = seen.key;
-    let key = Key {
-        part: 4,
-        value: 0,
-        name: 0,
-    };
-    if !rises(ws, last, key) {
-        return Step::Bad;
-    }
-    Step::Next(
+    let n = text_end(ws, at + 1)?;
+    let past = seen.past(ws, Key::Source)?;
+    Some((
         n,
         Seen {
-            key,
-            first: seen.first,
-            count: seen.count,
-            lined: seen.lined,
             sourced: true,
+            ..past
         },
-    )
+    ))
 }
 
-fn relocation(ws: &[u32], at: usize, seen: Seen) -> Step
+fn relocation(ws: &[u32], at: usize, seen: Seen) -> Option<(usize, Seen)>
     requires { At 5 ws.now at seen }
     ensures { Stepped ws.now at seen result }
 {
     let w = ws[at];
     if w / 0x1_0000 != 0xA000 {
-        return Step::Bad;
+        return None;
     }
-    let Body::Ends(n) = text_end(ws, at + 1) else {
-        return Step::Bad;
-    };
-    let last = seen.key;
-    let key = Key {
-        part: 5,
-        value: wide(w % 0x1_0000),
-        name: 0,
-    };
-    if !rises(ws, last, key) {
-        return Step::Bad;
-    }
-    Step::Next(
-        n,
-        Seen {
-            key,
-            first: seen.first,
-            count: seen.count,
-            lined: seen.lined,
-            sourced: seen.sourced,
-        },
-    )
+    let n = text_end(ws, at + 1)?;
+    let past = seen.past(ws, Key::Relocation(w % 0x1_0000))?;
+    Some((n, past))
 }
 
 // The record at a place, which begins one.
-fn advance(ws: &[u32], at: usize, seen: Seen) -> Step
+fn advance(ws: &[u32], at: usize, seen: Seen) -> Option<(usize, Seen)>
     requires { (at < length ws.now) × (is_head (get_or ws.now at 0) ≡ true) × Known ws.now seen.key }
     ensures { Stepped ws.now at seen result }
 {
-    let k = ws[at] / 0x2000_0000;
-    if k == 0 {
-        return block(ws, at, seen);
+    match Kind::of(ws[at]) {
+        Kind::Block => block(ws, at, seen),
+        Kind::Label => label(ws, at, seen),
+        Kind::LineBlock => line_block(ws, at, seen),
+        Kind::Source => source(ws, at, seen),
+        _ => relocation(ws, at, seen),
     }
-    if k == 2 {
-        return label(ws, at, seen);
-    }
-    if k == 3 {
-        return line_block(ws, at, seen);
-    }
-    if k == 4 {
-        return source(ws, at, seen);
-    }
-    relocation(ws, at, seen)
 }
 
-// Whether an object is well formed: 0 if it is, else 1.
-pub fn check(object: &[u32]) -> u8
-    ensures { result ≡ checked object.now }
+// Whether an object is well formed.
+pub fn check(object: &[u32]) -> Result<(), Refusal>
+    ensures { number_in result ≡ checked object.now }
 {
     if goes_on(object, 0) {
-        return 1;
+        return Err(Refusal::NotWellFormed);
     }
-    let none = Key {
-        part: 0,
-        value: 0,
-        name: 0,
-    };
     let mut seen = Seen {
-        key: none,
-        first: 0,
-        count: 0,
-        lined: false,
+        key: Key::Start,
+        lines: None,
         sourced: false,
     };
     let mut at = 0;
     while at < object.len() {
-        let Step::Next(n, s) = advance(object, at, seen) else {
-            return 1;
+        let Some((n, s)) = advance(object, at, seen) else {
+            return Err(Refusal::NotWellFormed);
         };
         seen = s;
         at = n;
     }
-    if !seen.lined {
-        return 0;
+    if seen.lines.is_some() && !seen.sourced {
+        return Err(Refusal::NotWellFormed);
     }
-    if seen.sourced {
-        return 0;
-    }
-    1
+    Ok(())
 }

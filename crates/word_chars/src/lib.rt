@@ -35,19 +35,19 @@ fn byte_after(ws: &[u32], at: usize, p: usize, k: usize, end: usize) -> u8
     object::text_byte(ws, at, p + k)
 }
 
-// The character that begins at byte `p` of the first `end` bytes of a text.
-pub fn char_in(ws: &[u32], at: usize, p: usize, end: usize) -> Char
+// The character that begins at byte `p` of the first `end` bytes of a text, if one does.
+pub fn char_in(ws: &[u32], at: usize, p: usize, end: usize) -> Option<Char>
     ensures { char_of result ≡ char_at (drop p (text_bytes ws.now at end)) }
 {
     if end <= p {
-        return Char::Nothing;
+        return None;
     }
     let a = object::text_byte(ws, at, p);
     if a < ASCII_END {
-        return Char::Scalar {
-            value: a as u32,
+        return Some(Char {
+            value: u32::from(a),
             more: 0,
-        };
+        });
     }
     let b = byte_after(ws, at, p, 1, end);
     let c = byte_after(ws, at, p, 2, end);
@@ -76,17 +76,12 @@ fn is_clear(w: u32) -> bool
 fn clear_head(ws: &[u32], at: usize, n: usize, i: usize) -> usize
     ensures { Clear ws.now at n i result }
 {
-    let mut k = i;
-    while k % 3 != 0 {
-        if n <= k {
+    for k in i..n {
+        if k % 3 == 0 || object::text_byte(ws, at, k) == 10 {
             return k;
         }
-        if object::text_byte(ws, at, k) == 10 {
-            return k;
-        }
-        k += 1;
     }
-    k
+    i.max(n)
 }
 
 // Whole words without a newline from byte `i` on.
@@ -97,14 +92,12 @@ fn clear_words(ws: &[u32], at: usize, n: usize, i: usize) -> usize
         return i;
     }
     let words = object::whole_words(ws, at, n);
-    let mut k = i / 3;
-    while k < words {
+    for k in i / 3..words {
         if !is_clear(ws[at + k]) {
             return 3 * k;
         }
-        k += 1;
     }
-    3 * k
+    i.max(3 * words)
 }
 
 // A place up to which there is no newline, from byte `i` of a text of `n` bytes on: at most two bytes before the next one.

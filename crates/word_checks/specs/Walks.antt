@@ -1,13 +1,11 @@
 -- Where the words of a record end. Assumes nothing.
-use Rattle.std.specs.Prelude.{◌≡◌, ℕ, ◌+◌, ◌/◌, ◌%◌, ◌<◌, Bool, true, false, List, length}
+use Rattle.std.specs.Prelude.{◌≡◌, ℕ, ◌+◌, ◌/◌, ◌%◌, ◌<◌, Bool, true, false, List, length, Option, Some, None}
 use Rattle.object.specs.Bodies.{body_at}
-use Rattle.word_checks.specs.declared.Body.{Body}
-use Rattle.word_checks.specs.declared.Body.TheVariants as body
 
 -- where the words of a record end that are as they should be
-abbrev pub Walked : (List ℕ → Bool) → List ℕ → ℕ → Body → Type 0
-Walked good ws at (body.Ends n) = (good (body_at ws at) ≡ true) × (n ≡ at + length (body_at ws at))
-Walked good ws at body.Bad = good (body_at ws at) ≡ false
+abbrev pub Walked : (List ℕ → Bool) → List ℕ → ℕ → Option ℕ → Type 0
+Walked good ws at (Some n) = (good (body_at ws at) ≡ true) × (n ≡ at + length (body_at ws at))
+Walked good ws at None = good (body_at ws at) ≡ false
 
 -- a word that carries three bytes of text, all ASCII
 abbrev pub AsciiWord : ℕ → Type 0

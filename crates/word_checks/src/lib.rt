@@ -9,15 +9,8 @@ ghost use Rattle.utf8.specs.Utf8.{run};
 ghost use Rattle.object.specs.Bodies.{body_at, counted, good_memory, good_text, good_addresses, rank_of};
 ghost use Rattle.word_checks.specs.Walks.{Walked, AsciiWord};
 
-use object::goes_on;
+use object::body_end;
 use utf8::Utf8;
-
-// Where the words of a record end, if they are as they should be.
-#[derive(Clone, Copy)]
-pub enum Body {
-    Ends(usize),
-    Bad,
-}
 
 fn is_memory(w: u32) -> bool
     ensures { result ≡ is_given (memory_of w) }
@@ -28,39 +21,37 @@ fn is_memory(w: u32) -> bool
     w / 0x1_0000 == 0x2001
 }
 
-// The memory words of a block.
-pub fn memory_end(ws: &[u32], at: usize) -> Body
+// Where the memory words of a block end, if they are as they should be.
+pub fn memory_end(ws: &[u32], at: usize) -> Option<usize>
     ensures { Walked good_memory ws.now at result }
 {
-    let mut i = at;
-    while goes_on(ws, i) {
+    let end = body_end(ws, at);
+    for i in at..end {
         if !is_memory(ws[i]) {
-            return Body::Bad;
+            return None;
         }
-        i += 1;
     }
-    Body::Ends(i)
+    Some(end)
 }
 
-// The addresses of a line block.
-pub fn addresses_end(ws: &[u32], at: usize) -> Body
+// Where the addresses of a line block end, if they are as they should be.
+pub fn addresses_end(ws: &[u32], at: usize) -> Option<usize>
     ensures { Walked good_addresses ws.now at result }
 {
     let mut last = 0;
-    let mut i = at;
-    while goes_on(ws, i) {
+    let end = body_end(ws, at);
+    for i in at..end {
         let w = ws[i];
         if w / 0x1_0000 != 0x2001 {
-            return Body::Bad;
+            return None;
         }
         let a = w % 0x1_0000;
         if a < last {
-            return Body::Bad;
+            return None;
         }
         last = a;
-        i += 1;
     }
-    Body::Ends(i)
+    Some(end)
 }
 
 // Whether a line block may begin at the line `next` after one of `count` lines from `first` on: that one ends at or before it, as whole
@@ -68,11 +59,10 @@ pub fn addresses_end(ws: &[u32], at: usize) -> Body
 pub fn is_apart(first: u64, count: usize, next: u64) -> bool
     ensures { result ≡ nat_le (first + count) next }
 {
-    let end = std::num::wrapping_add_u64(first, count as u64);
-    if end < first {
-        return false;
+    match first.checked_add(count as u64) {
+        Some(end) => end <= next,
+        None => false,
     }
-    end <= next
 }
 
 // How many bytes a text word carries; 0 for a word that is none.
@@ -135,40 +125,35 @@ fn ascii_end(ws: &[u32], at: usize) -> usize
     ensures { (result + length (body_at ws.now result) ≡ at + length (body_at ws.now at))
         × (good_text (body_at ws.now result) ≡ good_text (body_at ws.now at)) }
 {
-    let mut i = at;
-    while i < ws.len() {
+    for i in at..ws.len() {
         if !is_ascii_word(ws[i]) {
             return i;
         }
-        i += 1;
     }
-    i
+    at.max(ws.len())
 }
 
-// The words of a text.
-pub fn text_end(ws: &[u32], at: usize) -> Body
+// Where the words of a text end, if they are as they should be.
+pub fn text_end(ws: &[u32], at: usize) -> Option<usize>
     ensures { Walked good_text ws.now at result }
 {
     let mut u = Utf8::new();
     let mut full = true;
-    let mut i = ascii_end(ws, at);
-    while goes_on(ws, i) {
+    let start = ascii_end(ws, at);
+    let end = body_end(ws, start);
+    for i in start..end {
         if !full {
-            return Body::Bad;
+            return None;
         }
         let w = ws[i];
         let n = text_count(w);
         if n == 0 {
-            return Body::Bad;
+            return None;
         }
         u = text_step(u, w, n);
         full = n == 3;
-        i += 1;
     }
-    if u.is_whole() {
-        return Body::Ends(i);
-    }
-    Body::Bad
+    u.is_whole().then_some(end)
 }
 
 // A text word as a number that is larger for the later of two words: its bytes, the first highest, and their count.

@@ -6,56 +6,50 @@ ghost use Rattle.std.specs.Prelude.{◌≡◌, [], ◌∷◌, ◌<◌, get_or};
 ghost use Rattle.format.specs.Words.{number_words, text_words};
 ghost use Rattle.writing.specs.Written.{Put};
 
+// A part of elements of any type.
+pub fn put_all<T: Copy>(out: &mut [T], part: &[T]) -> usize
+    ensures { Put part.now out.old result out.new }
+{
+    if out.len() < part.len() {
+        return 0;
+    }
+    out[..part.len()].copy_from_slice(part);
+    part.len()
+}
+
 // One byte.
 pub fn put_u8(out: &mut [u8], v: u8) -> usize
     ensures { Put (v ∷ []) out.old result out.new }
 {
-    if out.len() < 1 {
-        return 0;
-    }
-    out[0] = v;
-    1
+    put_all(out, &[v])
 }
 
 // The bytes of `s`.
 pub fn put_bytes(out: &mut [u8], s: &[u8]) -> usize
     ensures { Put s.now out.old result out.new }
 {
-    if out.len() < s.len() {
-        return 0;
-    }
-    let mut i = 0;
-    while i < s.len() {
-        out[i] = s[i];
-        i += 1;
-    }
-    i
+    put_all(out, s)
 }
 
 // One word.
 pub fn put_word(out: &mut [u32], w: u32) -> usize
     ensures { Put (w ∷ []) out.old result out.new }
 {
-    if out.len() < 1 {
-        return 0;
-    }
-    out[0] = w;
-    1
+    put_all(out, &[w])
 }
 
 // The three words of a 64-bit number, kind 6: 24, 24 and 16 bits.
 pub fn put_number_words(out: &mut [u32], v: u64) -> usize
     ensures { Put (number_words v) out.old result out.new }
 {
-    if out.len() < 3 {
-        return 0;
-    }
     let v1 = v / 0x100_0000;
     let v2 = v1 / 0x100_0000;
-    out[0] = 0xC000_0000 + (v % 0x100_0000) as u32;
-    out[1] = 0xC000_0000 + (v1 % 0x100_0000) as u32;
-    out[2] = 0xC000_0000 + (v2 % 0x100_0000) as u32;
-    3
+    let words = [
+        0xC000_0000 + (v % 0x100_0000) as u32,
+        0xC000_0000 + (v1 % 0x100_0000) as u32,
+        0xC000_0000 + (v2 % 0x100_0000) as u32,
+    ];
+    put_all(out, &words)
 }
 
 fn wide(b: u8) -> u32

@@ -33,15 +33,15 @@ next s held chunk n place p q f e =
 
 emits : (c : After-put_chunk-c) →
     Emits (text_words (chunks_of c.args.s.now)) c.args.out.now
-    (text_words (over (take c.loop-p.n c.loop-p.held ++ c.bytes_at-chunk.result.now) ++ others c.args.s.now c.in-At.next))
+    (text_words (over (take c.loop-p.n c.loop-p.held ++ c.bytes_at-chunk.result.now) ++ others c.args.s.now c.in-Some.next))
     (after (record { at = c.loop-p.at; out = c.loop-p.out }) c.put_chunk-c.result.at c.put_chunk-c.new.out)
 emits c =
     let s = c.args.s.now in
     let l = c.loop-p in
     emit l.invariant.2 _ _
-    (next s l.held c.bytes_at-chunk.result.now l.n l.place c.in-At.p c.in-At.next
-    (found-next 3 s l.place c.next_place.result c.next_place.ensures.0 c.in-At.p c.in-At.next c.in-At.is)
-    (c.bytes_at-chunk.ensures ∙ ap (λ (j : ℕ). bytes_at (c.in-At.p + 9) j s) c.u64_at.ensures))
+    (next s l.held c.bytes_at-chunk.result.now l.n l.place c.in-Some.p c.in-Some.next
+    (found-next 3 s l.place c.next_place.result c.next_place.ensures.0 (c.in-Some.p, c.in-Some.next) c.in-Some.is)
+    (c.bytes_at-chunk.ensures ∙ ap (λ (j : ℕ). bytes_at (c.in-Some.p + 9) j s) c.u64_at.ensures))
     c.put_chunk-c.ensures.put
 
 -- the bytes held over at the end
@@ -67,7 +67,7 @@ loop-p-preserved c = (
   c.put_chunk-c.ensures.few,
   c.put_chunk-c.auto.held ∙ c.loop-p.invariant.1,
   subst (λ (z : List ℕ). Emits (text_words (chunks_of c.args.s.now)) c.args.out.now
-      (text_words (z ++ others c.args.s.now c.in-At.next))
+      (text_words (z ++ others c.args.s.now c.in-Some.next))
       (after (record { at = c.loop-p.at; out = c.loop-p.out }) c.put_chunk-c.result.at c.put_chunk-c.new.out))
       (sym c.put_chunk-c.ensures.over) (emits (goal.at.loop-p-preserved c).After-put_chunk-c),
 )
@@ -76,8 +76,8 @@ pub loop-p-smaller : goal.loop-p-smaller
 loop-p-smaller c =
     omega (
       arith,
-      found_moves c.loop-p.place (length c.args.s.now) c.in-At.p c.in-At.next c.next_place.result
-          c.next_place.ensures.1 c.in-At.is,
+      found_moves c.loop-p.place (length c.args.s.now) (c.in-Some.p, c.in-Some.next) c.next_place.result
+          c.next_place.ensures.1 c.in-Some.is,
     )
 
 pub put_chunk-c-requires : goal.put_chunk-c-requires
@@ -87,13 +87,13 @@ put_chunk-c-requires c =
       l.invariant.1,
       l.invariant.0,
       room_for_lem l.invariant.2 _ _
-          (next s l.held c.bytes_at-chunk.result.now l.n l.place c.in-At.p c.in-At.next
-          (found-next 3 s l.place c.next_place.result c.next_place.ensures.0 c.in-At.p c.in-At.next c.in-At.is)
-          (c.bytes_at-chunk.ensures ∙ ap (λ (j : ℕ). bytes_at (c.in-At.p + 9) j s) c.u64_at.ensures)),
+          (next s l.held c.bytes_at-chunk.result.now l.n l.place c.in-Some.p c.in-Some.next
+          (found-next 3 s l.place c.next_place.result c.next_place.ensures.0 (c.in-Some.p, c.in-Some.next) c.in-Some.is)
+          (c.bytes_at-chunk.ensures ∙ ap (λ (j : ℕ). bytes_at (c.in-Some.p + 9) j s) c.u64_at.ensures)),
     )
 
-pub offset_bounds-out-at : goal.offset_bounds-out-at
-offset_bounds-out-at c = let e = c.loop-p.invariant.2 in omega (arith, within e, same e)
+pub offset_bounds-out-at-2 : goal.offset_bounds-out-at-2
+offset_bounds-out-at-2 c = let e = c.loop-p.invariant.2 in omega (arith, within e, same e)
 
 pub slice_bounds-put_text_words-count : goal.slice_bounds-put_text_words-count
 slice_bounds-put_text_words-count c = within c.loop-p.invariant.2
@@ -104,20 +104,20 @@ slice_bounds-put_text_words-start c = within c.loop-p.invariant.2
 pub put_text_words-at-requires : goal.put_text_words-at-requires
 put_text_words-at-requires c = let l = c.loop-p in omega (arith, l.invariant.0, l.invariant.1)
 
-pub overflow_add-at : goal.overflow_add-at
-overflow_add-at c = let e = emits_last (goal.at.overflow_add-at c).After-put_text_words-at in omega (arith, within e, same e)
+pub overflow_add-at-2 : goal.overflow_add-at-2
+overflow_add-at-2 c = let e = emits_last (goal.at.overflow_add-at-2 c).After-put_text_words-at in omega (arith, within e, same e)
 
-pub shape_of-out-in_default : goal.shape_of-out-in_default
-shape_of-out-in_default c = same (emits_last (goal.at.shape_of-out-in_default c).After-put_text_words-at)
+pub shape_of-out : goal.shape_of-out
+shape_of-out c = same (emits_last (goal.at.shape_of-out c).After-put_text_words-at)
 
-pub shape_of-held-in_default : goal.shape_of-held-in_default
-shape_of-held-in_default c = c.loop-p.invariant.1 ∙ sym c.requires.0
+pub shape_of-held : goal.shape_of-held
+shape_of-held c = c.loop-p.invariant.1 ∙ sym c.requires.0
 
-pub returns-in_default : goal.returns-in_default
-returns-in_default c = emitted (emits_last (goal.at.returns-in_default c).After-put_text_words-at) refl
+pub returns : goal.returns
+returns c = emitted (emits_last (goal.at.returns c).After-put_text_words-at) refl
 
-pub offset_bounds-out-at-in-loop-p : goal.offset_bounds-out-at-in-loop-p
-offset_bounds-out-at-in-loop-p c = let e = c.loop-p.invariant.2 in omega (arith, within e, same e)
+pub offset_bounds-out-at : goal.offset_bounds-out-at
+offset_bounds-out-at c = let e = c.loop-p.invariant.2 in omega (arith, within e, same e)
 
 pub slice_bounds-put_chunk-count : goal.slice_bounds-put_chunk-count
 slice_bounds-put_chunk-count c = within c.loop-p.invariant.2
@@ -125,5 +125,5 @@ slice_bounds-put_chunk-count c = within c.loop-p.invariant.2
 pub slice_bounds-put_chunk-start : goal.slice_bounds-put_chunk-start
 slice_bounds-put_chunk-start c = within c.loop-p.invariant.2
 
-pub overflow_add-at-in-loop-p : goal.overflow_add-at-in-loop-p
-overflow_add-at-in-loop-p c = let e = emits (goal.at.overflow_add-at-in-loop-p c).After-put_chunk-c in omega (arith, within e, same e)
+pub overflow_add-at : goal.overflow_add-at
+overflow_add-at c = let e = emits (goal.at.overflow_add-at c).After-put_chunk-c in omega (arith, within e, same e)

@@ -42,8 +42,8 @@ loop-at-preserved c =
     goes_on _ _ _ _ _ (measures (goal.at.loop-at-preserved c).After-record_end-end) _ _ _ (here (goal.at.loop-at-preserved c).After-record_end-end) (sym c.count_fits.ensures ∙ c.if-not-count_fits.false)
     c.record_len-n.ensures c.take-space-in-loop-at.ensures
 
-pub returns-then-space : goal.returns-then-space
-returns-then-space c = is_short_lem _ _ _ _ _ c.loop-at.invariant c.loop-at-test.false c.if-space.true
+pub returns-in-None : goal.returns-in-None
+returns-in-None c = is_short_lem _ _ _ _ _ c.loop-at.invariant c.loop-at-test.false c.in-None.is
 
-pub returns : goal.returns
-returns c = is_enough _ _ _ _ _ c.loop-at.invariant c.loop-at-test.false c.if-space.false
+pub returns-in-Some : goal.returns-in-Some
+returns-in-Some c = is_enough _ _ _ _ _ c.loop-at.invariant c.loop-at-test.false c.in-Some.is

@@ -1,8 +1,9 @@
-use mathlib.Core.Path.{sym, ◌∙◌}
+use Rattle.object.specs.declared.Kind.TheVariants as kind
+use Rattle.object.proofs.KindLaws.{number_is}
 use Rattle.object.proofs.AccessLaws.{source_is}
 use Rattle.binary_measure.proofs.record_end.Goals as goal
 
 -- a source is a text
-pub returns-then-kind-eq4 : goal.returns-then-kind-eq4
-returns-then-kind-eq4 c = λ b.
-    c.text_end.ensures (source_is _ _ _ b.1 (sym c.kind.ensures ∙ c.if-kind-eq4.true)).1
+pub returns-then-eq : goal.returns-then-eq
+returns-then-eq c = λ b.
+    c.text_end.ensures (source_is _ _ _ b.1 (number_is c.of.result kind.Source _ c.of.ensures c.if-eq.ensures)).1

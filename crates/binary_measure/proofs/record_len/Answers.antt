@@ -8,72 +8,71 @@ use Rattle.format.specs.Records.{line_block}
 use Rattle.format.specs.Binary.{record_bytes}
 use Rattle.object.specs.Texts.{text_len}
 use Rattle.object.specs.Access.{kind_at, record_at, line_block_at}
+use Rattle.object.specs.Bodies.{kind_number}
+use Rattle.object.specs.declared.Kind.{Kind}
+use Rattle.object.specs.declared.Kind.TheVariants as kind
+use Rattle.object.proofs.KindLaws.{other_kind}
 use Rattle.object.proofs.ByteLaws.{text-within}
-use Rattle.binary_measure.specs.Measured.{Ends, TextEnds, Stands}
+use Rattle.binary_measure.specs.Measured.{Ends, TextEnds}
 use Rattle.binary_measure.proofs.KindLaws.{block_here, label-here, line-here, source-here, relocation-here, kind_3}
 use Rattle.binary_measure.proofs.KindLaws.{text-size, block_size, label-size, line-size, source-size, relocation-size}
 use Rattle.binary_measure.proofs.record_len.Goals as goal
+use Rattle.binary_measure.proofs.record_len.Goals.{In_default}
 
 -- a text is not longer than its words can hold
 short : (ws : List ℕ) (at end n : ℕ) → TextEnds ws at end → n ≡ text_len ws at end → n ≤ 3 * length ws
 short ws at end n e q = omega (arith, q, text-size ws at end at e, text-within ws at e.0)
 
-module _ (ws : List ℕ) (at k : ℕ) (e : k ≡ kind_at ws at) where
-  is_kind : {m : ℕ} → k ≡ m → kind_at ws at ≡ m
-  is_kind q = sym e ∙ q
-
-  no_kind : {m : ℕ} → (k ≡ m → ⊥) → kind_at ws at ≡ m → ⊥
-  no_kind n q = n (e ∙ q)
-
-pub returns-then-k-eq0 : goal.returns-then-k-eq0
-returns-then-k-eq0 c =
+pub returns-in-Block : goal.returns-in-Block
+returns-in-Block c =
     block_size c.args.ws.now c.args.at c.args.end c.requires.ends
-    ∙ sym (ap (λ r. length (record_bytes r)) (block_here c.args.ws.now c.args.at c.args.end c.requires (is_kind c.args.ws.now c.args.at _ c.kind-k.ensures c.if-k-eq0.true)))
+    ∙ sym (ap (λ r. length (record_bytes r)) (block_here c.args.ws.now c.args.at c.args.end c.requires (sym c.in-Block.ensures)))
 
-pub overflow_add-result-then-k-eq4 : goal.overflow_add-result-then-k-eq4
-overflow_add-result-then-k-eq4 c =
-    let here = source-here c.args.ws.now c.args.at c.args.end c.requires (is_kind c.args.ws.now c.args.at _ c.kind-k.ensures c.if-k-eq4.true) in
+pub overflow_add-result-in-Label : goal.overflow_add-result-in-Label
+overflow_add-result-in-Label c =
+    let here = label-here c.args.ws.now c.args.at c.args.end c.requires (sym c.in-Label.ensures) in
     record { fits = omega (arith, short _ _ _ _ here.1 c.text_len.ensures) }
 
-pub returns-then-k-eq4 : goal.returns-then-k-eq4
-returns-then-k-eq4 c =
-    let here = source-here c.args.ws.now c.args.at c.args.end c.requires (is_kind c.args.ws.now c.args.at _ c.kind-k.ensures c.if-k-eq4.true) in
-    source-size c.args.ws.now c.args.at c.args.end c.text_len.result here.1 c.text_len.ensures ∙ sym (ap (λ r. length (record_bytes r)) here.0)
+pub returns-in-Label : goal.returns-in-Label
+returns-in-Label c =
+    let here = label-here c.args.ws.now c.args.at c.args.end c.requires (sym c.in-Label.ensures) in
+    label-size c.args.ws.now c.args.at c.args.end c.text_len.result here.1 c.text_len.ensures ∙ sym (ap (λ r. length (record_bytes r)) here.0)
 
-pub overflow_add-result-then-k-eq5 : goal.overflow_add-result-then-k-eq5
-overflow_add-result-then-k-eq5 c =
-    let here = relocation-here c.args.ws.now c.args.at c.args.end c.requires (is_kind c.args.ws.now c.args.at _ c.kind-k.ensures c.if-k-eq5.true) in
-    record { fits = omega (arith, short _ _ _ _ here.1 c.text_len-then-k-eq5.ensures) }
+pub overflow_add-result-in-Source : goal.overflow_add-result-in-Source
+overflow_add-result-in-Source c =
+    let here = source-here c.args.ws.now c.args.at c.args.end c.requires (sym c.in-Source.ensures) in
+    record { fits = omega (arith, short _ _ _ _ here.1 c.text_len-in-Source.ensures) }
 
-pub returns-then-k-eq5 : goal.returns-then-k-eq5
-returns-then-k-eq5 c =
-    let here = relocation-here c.args.ws.now c.args.at c.args.end c.requires (is_kind c.args.ws.now c.args.at _ c.kind-k.ensures c.if-k-eq5.true) in
-    relocation-size c.args.ws.now c.args.at c.args.end c.text_len-then-k-eq5.result here.1 c.text_len-then-k-eq5.ensures
-    ∙ sym (ap (λ r. length (record_bytes r)) here.0)
+pub returns-in-Source : goal.returns-in-Source
+returns-in-Source c =
+    let here = source-here c.args.ws.now c.args.at c.args.end c.requires (sym c.in-Source.ensures) in
+    source-size c.args.ws.now c.args.at c.args.end c.text_len-in-Source.result here.1 c.text_len-in-Source.ensures ∙ sym (ap (λ r. length (record_bytes r)) here.0)
 
-pub overflow_add-result-then-k-eq2 : goal.overflow_add-result-then-k-eq2
-overflow_add-result-then-k-eq2 c =
-    let here = label-here c.args.ws.now c.args.at c.args.end c.requires (is_kind c.args.ws.now c.args.at _ c.kind-k.ensures c.if-k-eq2.true) in
-    record { fits = omega (arith, short _ _ _ _ here.1 c.text_len-then-k-eq2.ensures) }
+pub overflow_add-result-in-Relocation : goal.overflow_add-result-in-Relocation
+overflow_add-result-in-Relocation c =
+    let here = relocation-here c.args.ws.now c.args.at c.args.end c.requires (sym c.in-Relocation.ensures) in
+    record { fits = omega (arith, short _ _ _ _ here.1 c.text_len-in-Relocation.ensures) }
 
-pub returns-then-k-eq2 : goal.returns-then-k-eq2
-returns-then-k-eq2 c =
-    let here = label-here c.args.ws.now c.args.at c.args.end c.requires (is_kind c.args.ws.now c.args.at _ c.kind-k.ensures c.if-k-eq2.true) in
-    label-size c.args.ws.now c.args.at c.args.end c.text_len-then-k-eq2.result here.1 c.text_len-then-k-eq2.ensures ∙ sym (ap (λ r. length (record_bytes r)) here.0)
+pub returns-in-Relocation : goal.returns-in-Relocation
+returns-in-Relocation c =
+    let here = relocation-here c.args.ws.now c.args.at c.args.end c.requires (sym c.in-Relocation.ensures) in
+    relocation-size c.args.ws.now c.args.at c.args.end c.text_len-in-Relocation.result here.1 c.text_len-in-Relocation.ensures ∙ sym (ap (λ r. length (record_bytes r)) here.0)
 
 -- a line block
-module _ (ws : List ℕ) (at end k : ℕ) (s : Stands ws at end) (e : k ≡ kind_at ws at) (a : k ≡ 0 → ⊥) (b : k ≡ 4 → ⊥) (d : k ≡ 5 → ⊥) (f : k ≡ 2 → ⊥) where
-  here : (record_at ws at ≡ line_block (line_block_at ws at)) × Ends ws (at + 1 + 3) end
-  here = line-here ws at end s (kind_3 ws at end s (no_kind ws at k e a) (no_kind ws at k e b) (no_kind ws at k e d) (no_kind ws at k e f))
+here : (c : In_default) → (record_at c.args.ws.now c.args.at ≡ line_block (line_block_at c.args.ws.now c.args.at))
+    × Ends c.args.ws.now (c.args.at + 1 + 3) c.args.end
+here c =
+    let o = c.in_default in
+    let other : (k : Kind) → (c.of.result ≡ k → ⊥) → kind_at c.args.ws.now c.args.at ≡ kind_number k → ⊥ =
+    λ k n. other_kind c.of.result k _ c.of.ensures n in
+    line-here c.args.ws.now c.args.at c.args.end c.requires
+    (kind_3 c.args.ws.now c.args.at c.args.end c.requires (other kind.Block o.not-Block) (other kind.Source o.not-Source)
+    (other kind.Relocation o.not-Relocation) (other kind.Label o.not-Label))
 
-pub overflow_sub-result-2 : goal.overflow_sub-result-2
-overflow_sub-result-2 c =
-    omega (
-      arith,
-      (here c.args.ws.now c.args.at c.args.end c.kind-k.result c.requires c.kind-k.ensures c.if-k-eq0.false c.if-k-eq4.false c.if-k-eq5.false c.if-k-eq2.false).1.0,
-    )
+pub overflow_sub-result-in_default : goal.overflow_sub-result-in_default
+overflow_sub-result-in_default c = omega (arith, (here c).1.0)
 
-pub returns : goal.returns
-returns c =
-    let l = here c.args.ws.now c.args.at c.args.end c.kind-k.result c.requires c.kind-k.ensures c.if-k-eq0.false c.if-k-eq4.false c.if-k-eq5.false c.if-k-eq2.false in
+pub returns-in_default : goal.returns-in_default
+returns-in_default c =
+    let l = here c in
     line-size c.args.ws.now c.args.at c.args.end l.1 ∙ sym (ap (λ r. length (record_bytes r)) l.0)

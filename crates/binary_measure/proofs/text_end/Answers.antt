@@ -1,6 +1,11 @@
+use borrow.Author.Tests.{leb-true, leb-false}
+use lib.Dec.{leb}
+use Rattle.format.proofs.ListLaws.{by_test}
 use native.Mathlib.Omega.{arith}
-use mathlib.Core.Path.{ap}
+use mathlib.Core.Path.{◌≡◌, ap}
+use Prim.Native.Nat.{◌≤◌}
 use lib.ListN.{length}
+use Rattle.object.specs.Bodies.{body_at}
 use Rattle.object.proofs.BodyLaws.{body_out}
 use Rattle.binary_measure.proofs.TextLaws.{text_goes, text_stops}
 use Rattle.binary_measure.proofs.text_end.Goals as goal
@@ -18,4 +23,9 @@ loop-i-preserved c = λ t.
 
 pub returns : goal.returns
 returns c = λ t.
-    let e = ap length (body_out c.args.ws.now c.loop-i.i c.loop-i-test.false) in omega (arith, (c.loop-i.invariant t).1, e)
+    let ws = c.args.ws.now in
+    let e = ap length (body_out ws c.loop-i.i c.loop-i-test.false) in
+    let past : length ws ≤ c.args.at → length (body_at ws c.args.at) ≡ 0 = λ h. ap length (body_out ws c.args.at h) in
+    let inv = (c.loop-i.invariant t).1 in
+    by_test (leb c.args.at (length ws)) (λ h. omega (arith, inv, e, c.loop-i.auto.i-end (leb-true _ _ h)))
+    (λ h. let l = leb-false _ _ h in omega (arith, past (omega (arith, l))))

@@ -1,19 +1,25 @@
 -- The number, or the length. Assumes nothing.
-use mathlib.Core.Path.{sym, ap, ◌∙◌}
+use mathlib.Core.Path.{refl, sym, ap, ◌∙◌}
+use native.Mathlib.Omega.{arith}
+use Rattle.std.proofs.lemmas.Result.{err_from_is_err_and}
 use Rattle.format.specs.Calls.{measured}
+use Rattle.units.specs.Refusal.{number_of}
+use Rattle.units.proofs.RefusalLaws.{number_of-above}
 use Rattle.binary_sizes.specs.ObjectWords.{object_words}
 use Rattle.binary_read.proofs.AfterLaws.{answer_refused, answer_given}
 use Rattle.binary_read.proofs.records_length.Goals as goal
 
-pub returns-then-number-ne0 : goal.returns-then-number-ne0
+pub returns-in_err-check_records : goal.returns-in_err-check_records
 unfolding measured
-returns-then-number-ne0 c =
-    let s = c.args.s.now in
-    ap measured (sym (c.refusal-number.ensures ∙ answer_refused c.refusal-number.result (object_words s) c.if-number-ne0.true))
+returns-in_err-check_records c =
+    let r = c.in_err-check_records.field-0.0 in
+    let above = number_of-above r in
+    let p = err_from_is_err_and c.from_residual.result c.from_residual.ensures.1 in
+    rw (p.1, p.2)
+    (ap measured (sym (c.in_err-check_records.ensures ∙ answer_refused (number_of r) (object_words c.args.s.now) (λ e. omega arith))))
 
 pub returns : goal.returns
 unfolding measured
 returns c =
-    let s = c.args.s.now in
-    let e = c.refusal-number.ensures ∙ answer_given c.refusal-number.result (object_words s) c.if-number-ne0.false in
-    rw c.words_length-n.ensures (ap measured (sym e))
+    let e = c.in_ok-check_records.ensures ∙ answer_given 0 (object_words c.args.s.now) refl in
+    rw c.words_length.ensures (ap measured (sym e))

@@ -1,30 +1,24 @@
 use mathlib.Core.Path.{refl}
-use borrow.Author.Tests.{eq-eqb, ne_eqb}
 use Rattle.binary_scan.specs.Scan.{body_bytes}
 use Rattle.binary_scan.proofs.ScanLaws.{number-drop}
 use Rattle.binary_scan.proofs.body_bytes.Goals as goal
 
--- src/lib.rt:37:9
-pub returns-then-k-eq0 : goal.returns-then-k-eq0
+pub returns-in-Block : goal.returns-in-Block
 unfolding body_bytes
-returns-then-k-eq0 c = rw (eq-eqb c.args.k 0 c.if-k-eq0.true, number-drop c.args.s.now c.args.at 2 2, c.u16_at.ensures) refl
+returns-in-Block c = rw (c.in-Block.is, number-drop c.args.s.now c.args.at 2 2, c.from.ensures, c.u16_at.ensures) refl
 
--- src/lib.rt:40:9
-pub returns-then-k-eq1 : goal.returns-then-k-eq1
+pub returns-in-Label : goal.returns-in-Label
 unfolding body_bytes
-returns-then-k-eq1 c = rw (ne_eqb c.args.k 0 c.if-k-eq0.false, eq-eqb c.args.k 1 c.if-k-eq1.true, number-drop c.args.s.now c.args.at 11 8, c.u64_at.ensures) refl
+returns-in-Label c = rw (c.in-Label.is, number-drop c.args.s.now c.args.at 11 8, c.u64_at.ensures) refl
 
--- src/lib.rt:43:9
-pub returns-then-k-eq2 : goal.returns-then-k-eq2
+pub returns-in-LineBlock : goal.returns-in-LineBlock
 unfolding body_bytes
-returns-then-k-eq2 c = rw (ne_eqb c.args.k 0 c.if-k-eq0.false, ne_eqb c.args.k 1 c.if-k-eq1.false, eq-eqb c.args.k 2 c.if-k-eq2.true, number-drop c.args.s.now c.args.at 8 2, c.u16_at-then-k-eq2.ensures) refl
+returns-in-LineBlock c = rw (c.in-LineBlock.is, number-drop c.args.s.now c.args.at 8 2, c.from-in-LineBlock.ensures, c.u16_at-in-LineBlock.ensures) refl
 
--- src/lib.rt:46:9
-pub returns-then-k-eq3 : goal.returns-then-k-eq3
+pub returns-in-Source : goal.returns-in-Source
 unfolding body_bytes
-returns-then-k-eq3 c = rw (ne_eqb c.args.k 0 c.if-k-eq0.false, ne_eqb c.args.k 1 c.if-k-eq1.false, ne_eqb c.args.k 2 c.if-k-eq2.false, eq-eqb c.args.k 3 c.if-k-eq3.true, number-drop c.args.s.now c.args.at 0 8, c.u64_at-then-k-eq3.ensures) refl
+returns-in-Source c = rw (c.in-Source.is, number-drop c.args.s.now c.args.at 0 8, c.u64_at-in-Source.ensures) refl
 
--- src/lib.rt:33:1
-pub returns : goal.returns
+pub returns-in-Relocation : goal.returns-in-Relocation
 unfolding body_bytes
-returns c = rw (ne_eqb c.args.k 0 c.if-k-eq0.false, ne_eqb c.args.k 1 c.if-k-eq1.false, ne_eqb c.args.k 2 c.if-k-eq2.false, ne_eqb c.args.k 3 c.if-k-eq3.false, number-drop c.args.s.now c.args.at 2 8, c.u64_at-2.ensures) refl
+returns-in-Relocation c = rw (c.in-Relocation.is, number-drop c.args.s.now c.args.at 2 8, c.u64_at-in-Relocation.ensures) refl

@@ -1,24 +1,27 @@
-use mathlib.Core.Path.{refl}
-use borrow.Author.Tests.{eq-eqb, ne_eqb}
+use mathlib.Core.Path.{◌≡◌, refl}
+use mathlib.Core.Logic.{◌⊎◌, inl, inr}
+use Rattle.gather.specs.Kinds.{byte_of}
+use Rattle.gather.specs.declared.kind.Kind.{Kind}
+use Rattle.gather.specs.declared.kind.Kind.TheVariants as kind
 use Rattle.binary_scan.specs.Scan.{fixed_bytes}
 use Rattle.binary_scan.proofs.fixed_bytes.Goals as goal
 
--- src/lib.rt:21:9
-pub returns-then-k-eq0 : goal.returns-then-k-eq0
+pub returns-in-Block : goal.returns-in-Block
 unfolding fixed_bytes
-returns-then-k-eq0 c = rw (eq-eqb c.args.k 0 c.if-k-eq0.true) refl
+returns-in-Block c = rw c.in-Block.is refl
 
--- src/lib.rt:24:9
-pub returns-then-k-eq1 : goal.returns-then-k-eq1
+pub returns-in-Label : goal.returns-in-Label
 unfolding fixed_bytes
-returns-then-k-eq1 c = rw (ne_eqb c.args.k 0 c.if-k-eq0.false, eq-eqb c.args.k 1 c.if-k-eq1.true) refl
+returns-in-Label c = rw c.in-Label.is refl
 
--- src/lib.rt:27:9
-pub returns-then-k-eq3 : goal.returns-then-k-eq3
+pub returns-in-Source : goal.returns-in-Source
 unfolding fixed_bytes
-returns-then-k-eq3 c = rw (ne_eqb c.args.k 0 c.if-k-eq0.false, ne_eqb c.args.k 1 c.if-k-eq1.false, eq-eqb c.args.k 3 c.if-k-eq3.true) refl
+returns-in-Source c = rw c.in-Source.is refl
 
--- src/lib.rt:17:1
-pub returns : goal.returns
+others : (k : Kind) → (k ≡ kind.LineBlock) ⊎ (k ≡ kind.Relocation) → 10 ≡ fixed_bytes (byte_of k)
 unfolding fixed_bytes
-returns c = rw (ne_eqb c.args.k 0 c.if-k-eq0.false, ne_eqb c.args.k 1 c.if-k-eq1.false, ne_eqb c.args.k 3 c.if-k-eq3.false) refl
+others k (inl e) = rw e refl
+others k (inr e) = rw e refl
+
+pub returns-in-LineBlock : goal.returns-in-LineBlock
+returns-in-LineBlock c = others c.args.kind c.in-LineBlock.is

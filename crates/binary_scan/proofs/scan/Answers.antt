@@ -1,72 +1,54 @@
-use mathlib.Core.Path.{◌≡◌, refl, sym, ap, ◌∙◌}
-use Prim.Native.Nat.{◌+◌, ◌≤◌, ◌<◌}
+use mathlib.Core.Path.{sym, ◌∙◌}
 use native.Mathlib.Omega.{arith}
-use lib.ListN.{length, get_or}
-use Rattle.cursor.specs.Taken.{taken_bytes, some_bytes}
-use Rattle.binary_scan.specs.Scan.{take_record}
+use Rattle.std.proofs.lemmas.Result.{err_from_is_err_and}
+use Rattle.units.specs.Refusal.{number_of}
+use Rattle.units.proofs.RefusalLaws.{number_of-above}
+use Rattle.gather.specs.Kinds.{byte_of}
+use Rattle.gather.proofs.KindLaws.{kind_small}
 use Rattle.binary_scan.proofs.ScanLaws.{scan_unknown, scan_short, scan_inside, scan_bad, scan_good, scan_end}
 use Rattle.binary_scan.proofs.scan.Goals as goal
-use Rattle.binary_scan.proofs.scan.Goals.{In-Between}
 
-took : (c : In-Between) → let l = c.loop-at in let s = c.args.s.now in take_record (get_or s l.at 0) s (l.at + 1) ≡ some_bytes c.in-Between.a c.in-Between.e c.in-Between.next.at
-took c = sym c.take_record.ensures ∙ ap taken_bytes c.in-Between.is
-
-inside : (c : In-Between) → let l = c.loop-at in let s = c.args.s.now in (c.in-Between.a ≤ c.in-Between.e) × (c.in-Between.e ≤ length s) × (c.in-Between.next.at ≤ length s) × (l.at < c.in-Between.next.at)
-inside c =
-    let l = c.loop-at in
-    let s = c.args.s.now in
-    scan_inside s l.at c.loop-at-test.true (get_or s l.at 0) refl c.if-k-gt-LAST_KIND.false c.in-Between.a c.in-Between.e c.in-Between.next.at (took c)
-
--- src/lib.rt:104:13
-pub returns-then-k-gt-LAST_KIND : goal.returns-then-k-gt-LAST_KIND
-returns-then-k-gt-LAST_KIND c =
-    let l = c.loop-at in
-    let s = c.args.s.now in
-    sym (scan_unknown s l.at c.loop-at-test.true c.if-k-gt-LAST_KIND.true) ∙ l.invariant
-
--- src/lib.rt:108:13
 pub returns-in_default : goal.returns-in_default
 returns-in_default c =
     let l = c.loop-at in
-    let s = c.args.s.now in
-    sym (scan_short s l.at c.loop-at-test.true (get_or s l.at 0) refl c.if-k-gt-LAST_KIND.false
-    (sym c.take_record.ensures ∙ ap taken_bytes c.in_default.is)) ∙ l.invariant
+    sym (scan_unknown c.args.s.now l.at c.loop-at-test.true c.in_default.ensures) ∙ l.invariant
 
--- src/lib.rt:110:34
-pub slice_bounds-body_number-count : goal.slice_bounds-body_number-count
-slice_bounds-body_number-count c = (inside c).0
-
--- src/lib.rt:110:34
-pub slice_bounds-body_number-start : goal.slice_bounds-body_number-start
-slice_bounds-body_number-start c = (inside c).0
-
--- src/lib.rt:110:34
-pub slice_bounds-body_number-end : goal.slice_bounds-body_number-end
-slice_bounds-body_number-end c = (inside c).1
-
--- src/lib.rt:112:13
-pub returns-then-number-ne0 : goal.returns-then-number-ne0
-returns-then-number-ne0 c =
+pub returns-in_default-take_record : goal.returns-in_default-take_record
+returns-in_default-take_record c =
     let l = c.loop-at in
-    let s = c.args.s.now in
-    scan_bad s l.at c.loop-at-test.true (get_or s l.at 0) refl c.if-k-gt-LAST_KIND.false c.in-Between.a c.in-Between.e c.in-Between.next.at (took (goal.at.returns-then-number-ne0 c).In-Between)
-    c.body_number-number.result c.body_number-number.ensures c.if-number-ne0.true ∙ l.invariant
+    let k = c.in-Some in
+    sym (scan_short c.args.s.now l.at c.loop-at-test.true (byte_of k.kind) (sym k.ensures) (kind_small k.kind) (sym c.in_default-take_record.ensures.places))
+    ∙ l.invariant
 
--- src/lib.rt:101:5
+pub returns-in_err-check_body : goal.returns-in_err-check_body
+returns-in_err-check_body c =
+    let l = c.loop-at in
+    let k = c.in-Some in
+    let t = c.in-Some-take_record in
+    let r = c.in_err-check_body in
+    let p = err_from_is_err_and c.from_residual.result c.from_residual.ensures.1 in
+    let n = number_of-above r.field-0.0 in
+    rw (p.1, p.2)
+    (scan_bad c.args.s.now l.at c.loop-at-test.true (byte_of k.kind) (sym k.ensures) (kind_small k.kind) _ _ t.next.at (sym t.ensures.places) t.body.now t.ensures.body
+    (number_of r.field-0.0) r.ensures (λ z. omega arith) ∙ l.invariant)
+
 pub loop-at-smaller : goal.loop-at-smaller
-loop-at-smaller c = let h = inside (goal.at.loop-at-smaller c).In-Between in omega arith
+loop-at-smaller c =
+    let l = c.loop-at in
+    let k = c.in-Some in
+    let t = c.in-Some-take_record in
+    let h = scan_inside c.args.s.now l.at c.loop-at-test.true (byte_of k.kind) (sym k.ensures) (kind_small k.kind) _ _ t.next.at (sym t.ensures.places) t.body.now t.ensures.body in
+    omega arith
 
--- src/lib.rt:101:5
 pub loop-at-preserved : goal.loop-at-preserved
 loop-at-preserved c =
     let l = c.loop-at in
-    let s = c.args.s.now in
-    scan_good s l.at c.loop-at-test.true (get_or s l.at 0) refl c.if-k-gt-LAST_KIND.false c.in-Between.a c.in-Between.e c.in-Between.next.at (took (goal.at.loop-at-preserved c).In-Between)
-    (sym c.body_number-number.ensures ∙ c.if-number-ne0.false) ∙ l.invariant
+    let k = c.in-Some in
+    let t = c.in-Some-take_record in
+    scan_good c.args.s.now l.at c.loop-at-test.true (byte_of k.kind) (sym k.ensures) (kind_small k.kind) _ _ t.next.at (sym t.ensures.places) t.body.now t.ensures.body
+    (sym c.in_ok-check_body.ensures) ∙ l.invariant
 
--- src/lib.rt:97:1
 pub returns : goal.returns
 returns c =
     let l = c.loop-at in
-    let s = c.args.s.now in
-    sym (scan_end s l.at (omega arith)) ∙ l.invariant
+    sym (scan_end c.args.s.now l.at (omega arith)) ∙ l.invariant

@@ -1,22 +1,32 @@
-use mathlib.Core.Path.{sym, ap, ◌∙◌}
-use Rattle.cursor.specs.Taken.{taken_bytes}
+use mathlib.Core.Path.{◌≡◌, sym, ap, ◌∙◌}
+use Prim.Native.Nat.{ℕ, ◌+◌}
 use Rattle.cursor.proofs.TakenLaws.{bytes_taken, bytes-not-there}
+use Rattle.gather.specs.Kinds.{byte_of}
+use Rattle.binary_scan.specs.Scan.{fixed_bytes}
 use Rattle.binary_scan.proofs.ScanLaws.{take_short, take_whole}
 use Rattle.binary_scan.proofs.take_record.Goals as goal
 
--- src/lib.rt:57:9
-pub returns-in_default : goal.returns-in_default
-returns-in_default c =
+pub returns-in_err-body-clause-places : goal.returns-in_err-body-clause-places
+returns-in_err-body-clause-places c =
     let a = c.args in
     let f = c.fixed_bytes in
-    take_short a.k a.s.now a.c.at f.result f.ensures
-    (bytes-not-there f.result a.s.now a.c.at (sym (ap taken_bytes c.in_default.is) ∙ c.take_bytes.ensures))
+    rw c.from_residual.ensures
+    (take_short (byte_of a.kind) a.s.now a.c.at f.result f.ensures (bytes-not-there f.result a.s.now a.c.at c.in_err-body.ensures.places))
 
--- src/lib.rt:52:1
-pub returns : goal.returns
-returns c =
+pub returns-clause-places : goal.returns-clause-places
+returns-clause-places c =
     let a = c.args in
     let f = c.fixed_bytes in
-    let h = bytes_taken f.result a.s.now a.c.at c.in-Between.field-0 c.in-Between.field-1 c.in-Between.body.at (sym (ap taken_bytes c.in-Between.is) ∙ c.take_bytes.ensures) in
-    c.take_bytes-2.ensures
-    ∙ take_whole a.k a.s.now a.c.at f.result f.ensures c.body_bytes.result c.in-Between.body.at h.0 c.body_bytes.ensures h.3
+    let body = c.in_ok-body.body in
+    let h = bytes_taken f.result a.s.now a.c.at _ _ body.at c.in_ok-body.ensures.places in
+    c.take_bytes-2.ensures.places
+    ∙ take_whole (byte_of a.kind) a.s.now a.c.at f.result f.ensures c.body_bytes.result body.at h.0 c.body_bytes.ensures h.3
+
+pub returns-clause-body : goal.returns-clause-body
+returns-clause-body c =
+    let a = c.args in
+    let f = c.fixed_bytes in
+    let body = c.in_ok-body.body in
+    let h = bytes_taken f.result a.s.now a.c.at _ _ body.at c.in_ok-body.ensures.places in
+    let e : body.at ≡ a.c.at + fixed_bytes (byte_of a.kind) = h.3 ∙ ap (λ (n : ℕ). a.c.at + n) f.ensures in
+    rw (sym e, sym c.body_bytes.ensures) c.take_bytes-2.ensures.bytes

@@ -7,6 +7,6 @@ pub returns-then-has_records : goal.returns-then-has_records
 unfolding keeps_relocations
 returns-then-has_records c = rw (sym c.has_records.ensures, c.if-has_records.true) refl
 
-pub returns : goal.returns
+pub returns-else-has_records : goal.returns-else-has_records
 unfolding keeps_relocations
-returns c = rw (sym c.has_records.ensures, c.if-has_records.false) c.has_source.ensures
+returns-else-has_records c = rw (sym c.has_records.ensures, c.if-has_records.false) c.has_source.ensures

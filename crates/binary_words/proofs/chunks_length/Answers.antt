@@ -15,26 +15,24 @@ abbrev s : (c : After-bytes_at) → List ℕ
 s c = c.args.s.now
 
 abbrev p : (c : After-bytes_at) → ℕ
-p c = c.in-At.p
+p c = c.in-Some.p
 
 abbrev next : (c : After-bytes_at) → ℕ
-next c = c.in-At.next
+next c = c.in-Some.next
 
 adds : (c : After-bytes_at) → chunks_length (s c) (places_from 3 (s c) c.loop-p.at) ≡ length c.bytes_at.result.now + chunks_length (s c) (places_from 3 (s c) (next c))
 adds c =
-    let e = found-next 3 (s c) c.loop-p.at c.next_place.result c.next_place.ensures.0 (p c) (next c) c.in-At.is in
+    let e = found-next 3 (s c) c.loop-p.at c.next_place.result c.next_place.ensures.0 (p c, next c) c.in-Some.is in
     let n : length c.bytes_at.result.now ≡ length (chunk_at (s c) (p c)) =
     ap length (c.bytes_at.ensures ∙ ap (λ (j : ℕ). bytes_at ((p c) + 9) j (s c)) c.u64_at.ensures) in
     ap (chunks_length (s c)) e ∙ chunks_cons (s c) (p c) (places_from 3 (s c) (next c)) ∙ ap (λ (j : ℕ). j + chunks_length (s c) (places_from 3 (s c) (next c))) (sym n)
 
--- src/lib.rt:201:5
 pub loop-p-init : goal.loop-p-init
 unfolding places_of
 loop-p-init c = omega arith
 
--- src/lib.rt:203:13
-pub returns-in_default : goal.returns-in_default
-returns-in_default c =
+pub returns : goal.returns
+returns c =
     let l = c.loop-p in
     let s = c.args.s.now in
     let t = ap (chunks_length s) (found_none 3 s l.at c.next_place.result c.next_place.ensures.0 c.in_default.is) ∙ chunks_none s in

@@ -1,7 +1,6 @@
 use Rattle.binary_words.proofs.ApartLaws.{ends_by}
 use Rattle.binary_words.proofs.ends_before.Goals as goal
 
--- src/lib.rt:97:1
 pub returns : goal.returns
 returns c =
     let a = c.args in

@@ -1,24 +1,20 @@
-use mathlib.Core.Path.{sym, ap, ◌∙◌}
+use mathlib.Core.Path.{◌≡◌, refl, ap, ◌∙◌}
 use mathlib.Core.List.{List}
 use Prim.Native.Nat.{ℕ}
 use mathlib.Core.Bool.{not}
+use Rattle.std.specs.Prelude.{Option, Some, None}
+use Rattle.std.specs.Option.{is_some}
 use Rattle.format.specs.Basics.{is_empty}
 use Rattle.gather.specs.Places.{places_of}
 use Rattle.gather.specs.Order.{found_from}
 use Rattle.binary_words.proofs.has_records.Goals as goal
 
--- src/lib.rt:175:1
-pub returns-in-At : goal.returns-in-At
-unfolding places_of is_empty
-returns-in-At c =
-    let a = c.args in
-    let e = sym c.next_place-f.ensures.0 ∙ ap (found_from a.kind a.s.now) c.in-At.is in
-    sym (ap (λ (z : List ℕ). not (is_empty z)) e)
+-- one is found where there are any
+found : (kind : ℕ) (s : List ℕ) (r : Option (ℕ × ℕ)) → is_some r ≡ not (is_empty (found_from kind s r))
+unfolding is_empty
+found kind s (Some f) = refl
+found kind s None = refl
 
--- src/lib.rt:175:1
-pub returns-in-Nothing : goal.returns-in-Nothing
-unfolding places_of is_empty
-returns-in-Nothing c =
-    let a = c.args in
-    let e = sym c.next_place-f.ensures.0 ∙ ap (found_from a.kind a.s.now) c.in-Nothing.is in
-    sym (ap (λ (z : List ℕ). not (is_empty z)) e)
+pub returns : goal.returns
+unfolding places_of
+returns c = c.is_some.ensures ∙ found _ c.args.s.now c.next_place.result ∙ ap (λ (z : List ℕ). not (is_empty z)) c.next_place.ensures.0

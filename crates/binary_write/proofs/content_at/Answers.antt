@@ -1,12 +1,13 @@
--- By the kind. Assumes nothing.
-use borrow.Author.Tests.{eq-eqb, ne_eqb}
+use borrow.Author.Tests.{ne_eqb}
+use Rattle.object.specs.Bodies.{kind_number}
+use Rattle.object.specs.declared.Kind.TheVariants as kind
+use Rattle.object.proofs.KindLaws.{same_kind}
 use Rattle.binary_write.proofs.content_at.Goals as goal
 
-pub returns-then-k-eq2 : goal.returns-then-k-eq2
-returns-then-k-eq2 c = rw (eq-eqb c.args.k 2 c.if-k-eq2.true)
-
-pub returns-then-k-eq3 : goal.returns-then-k-eq3
-returns-then-k-eq3 c = rw (ne_eqb c.args.k 2 c.if-k-eq2.false, eq-eqb c.args.k 3 c.if-k-eq3.true)
-
-pub returns : goal.returns
-returns c = rw (ne_eqb c.args.k 2 c.if-k-eq2.false, ne_eqb c.args.k 3 c.if-k-eq3.false)
+pub returns-in_default : goal.returns-in_default
+returns-in_default c =
+    let k = c.args.kind in
+    rw (
+      ne_eqb (kind_number k) 2 (λ z. c.in_default.not-Label (same_kind k kind.Label z)),
+      ne_eqb (kind_number k) 3 (λ z. c.in_default.not-LineBlock (same_kind k kind.LineBlock z)),
+    )

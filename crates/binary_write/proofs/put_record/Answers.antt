@@ -8,6 +8,7 @@ use lib.ListN.{length}
 use borrow.Rule.Slice.PartMut.{mid_of}
 use Rattle.format.specs.Binary.{record_bytes}
 use Rattle.object.specs.Access.{record_at}
+use Rattle.object.specs.Bodies.{kind_number}
 use Rattle.writing.proofs.Parts.{State, Emits, after, begin, emit, emitted, within, small, same}
 use Rattle.binary_write.specs.Files.{start_bytes, content_of}
 use Rattle.binary_write.proofs.RoomLaws.{lent_part}
@@ -45,10 +46,10 @@ abbrev whole : (c : After-content_at) → List ℕ
 whole c = record_bytes (record_at (ws c) c.args.at)
 
 abbrev content : (c : After-content_at) → List ℕ
-content c = content_of c.kind-k.result (mid_of (from c) ((end c) - (from c)) (ws c))
+content c = content_of (kind_number c.of-kind.result) (mid_of (from c) ((end c) - (from c)) (ws c))
 
-here : (c : After-content_at) → Parted (ws c) c.args.at (end c) c.kind-k.result (from c)
-here c = parted (ws c) c.args.at (end c) c.requires.0 _ _ c.kind-k.ensures c.content_at-from.ensures
+here : (c : After-content_at) → Parted (ws c) c.args.at (end c) (kind_number c.of-kind.result) (from c)
+here c = parted (ws c) c.args.at (end c) c.requires.0 _ _ c.of-kind.ensures c.content_at-from.ensures
 
 first : (c : After-content_at) → (from c) ≤ (end c)
 first c = omega (arith, (here c).ends.0)

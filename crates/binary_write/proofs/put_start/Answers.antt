@@ -1,48 +1,38 @@
 -- By the kind. Assumes nothing.
-use mathlib.Core.Path.{◌≡◌, sym, ◌∙◌}
-use mathlib.Core.List.{List}
-use Prim.Native.Nat.{ℕ}
+use Rattle.std.proofs.Common.{◌≡◌, sym}
 use Rattle.object.specs.Access.{kind_at}
+use Rattle.object.specs.Bodies.{kind_number}
+use Rattle.object.specs.declared.Kind.{Kind}
+use Rattle.object.specs.declared.Kind.TheVariants as kind
+use Rattle.object.proofs.KindLaws.{other_kind}
 use Rattle.binary_measure.proofs.KindLaws.{kind_5}
 use Rattle.binary_write.proofs.RoomLaws.{put_as}
 use Rattle.binary_write.proofs.StartLaws.{block_start, label-start, line-start, source-start, relocation-start}
 use Rattle.binary_write.proofs.put_start.Goals as goal
-use Rattle.binary_write.proofs.put_start.Goals.{After-kind-k}
 
-abbrev ws : (c : After-kind-k) → List ℕ
-ws c = c.args.ws.now
+pub returns-in-Block : goal.returns-in-Block
+returns-in-Block c =
+    put_as _ (block_start c.args.ws.now c.args.at c.args.end c.requires (sym c.in-Block.ensures) _ c.count.ensures) _ _ c.put_block_start.ensures
 
-abbrev at : (c : After-kind-k) → ℕ
-at c = c.args.at
+pub returns-in-Label : goal.returns-in-Label
+returns-in-Label c =
+    put_as _ (label-start c.args.ws.now c.args.at c.args.end c.requires (sym c.in-Label.ensures) _ _ c.external.ensures c.number_at.ensures) _ _
+    c.put_label_start.ensures
 
-is_kind : (c : After-kind-k) → {k : ℕ} → c.kind-k.result ≡ k → kind_at (ws c) (at c) ≡ k
-is_kind c e = sym c.kind-k.ensures ∙ e
+pub returns-in-LineBlock : goal.returns-in-LineBlock
+returns-in-LineBlock c =
+    put_as _ (line-start c.args.ws.now c.args.at c.args.end c.requires (sym c.in-LineBlock.ensures) _ _ c.number_at-in-LineBlock.ensures
+    c.count-in-LineBlock.ensures) _ _ c.put_lines_start.ensures
 
-no_kind : (c : After-kind-k) → {k : ℕ} → (c.kind-k.result ≡ k → ⊥) → kind_at (ws c) (at c) ≡ k → ⊥
-no_kind c n e = n (c.kind-k.ensures ∙ e)
+pub returns-in-Source : goal.returns-in-Source
+returns-in-Source c =
+    put_as _ (source-start c.args.ws.now c.args.at c.args.end c.requires (sym c.in-Source.ensures)) _ _ c.put_u8.ensures
 
-pub returns-then-k-eq0 : goal.returns-then-k-eq0
-returns-then-k-eq0 c =
-    put_as _ (block_start (ws (goal.at.returns-then-k-eq0 c).After-kind-k) (at (goal.at.returns-then-k-eq0 c).After-kind-k) c.args.end c.requires (is_kind (goal.at.returns-then-k-eq0 c).After-kind-k c.if-k-eq0.true) _ c.count.ensures) _ _
-    c.put_block_start.ensures
-
-pub returns-then-k-eq2 : goal.returns-then-k-eq2
-returns-then-k-eq2 c =
-    put_as _ (label-start (ws (goal.at.returns-then-k-eq2 c).After-kind-k) (at (goal.at.returns-then-k-eq2 c).After-kind-k) c.args.end c.requires (is_kind (goal.at.returns-then-k-eq2 c).After-kind-k c.if-k-eq2.true) _ _ c.external.ensures
-    c.number_at.ensures) _ _ c.put_label_start.ensures
-
-pub returns-then-k-eq3 : goal.returns-then-k-eq3
-returns-then-k-eq3 c =
-    put_as _ (line-start (ws (goal.at.returns-then-k-eq3 c).After-kind-k) (at (goal.at.returns-then-k-eq3 c).After-kind-k) c.args.end c.requires (is_kind (goal.at.returns-then-k-eq3 c).After-kind-k c.if-k-eq3.true) _ _ c.number_at-then-k-eq3.ensures
-    c.count-then-k-eq3.ensures) _ _ c.put_lines_start.ensures
-
-pub returns-then-k-eq4 : goal.returns-then-k-eq4
-returns-then-k-eq4 c =
-    put_as _ (source-start (ws (goal.at.returns-then-k-eq4 c).After-kind-k) (at (goal.at.returns-then-k-eq4 c).After-kind-k) c.args.end c.requires (is_kind (goal.at.returns-then-k-eq4 c).After-kind-k c.if-k-eq4.true)) _ _ c.put_u8.ensures
-
-pub returns : goal.returns
-returns c =
-    put_as _ (relocation-start (ws (goal.at.returns c).After-kind-k) (at (goal.at.returns c).After-kind-k) c.args.end c.requires
-    (kind_5 (ws (goal.at.returns c).After-kind-k) (at (goal.at.returns c).After-kind-k) c.args.end c.requires (no_kind (goal.at.returns c).After-kind-k c.if-k-eq0.false)
-    (no_kind (goal.at.returns c).After-kind-k c.if-k-eq2.false) (no_kind (goal.at.returns c).After-kind-k c.if-k-eq3.false) (no_kind (goal.at.returns c).After-kind-k c.if-k-eq4.false))) _ _
-    c.put_address.ensures
+pub returns-in_default : goal.returns-in_default
+returns-in_default c =
+    let o = c.in_default in
+    let other : (k : Kind) → (c.of.result ≡ k → ⊥) → kind_at c.args.ws.now c.args.at ≡ kind_number k → ⊥ =
+    λ k n. other_kind c.of.result k _ c.of.ensures n in
+    put_as _ (relocation-start c.args.ws.now c.args.at c.args.end c.requires
+    (kind_5 c.args.ws.now c.args.at c.args.end c.requires (other kind.Block o.not-Block) (other kind.Label o.not-Label)
+    (other kind.LineBlock o.not-LineBlock) (other kind.Source o.not-Source))) _ _ c.put_address.ensures

@@ -1,78 +1,65 @@
-use mathlib.Core.Path.{◌≡◌, refl, sym}
-use mathlib.Core.List.{List, [], ◌++◌, append-nil}
-use Prim.Native.Nat.{ℕ}
-use lib.ListN.{length}
+use Rattle.std.proofs.Common.{◌≡◌, ℕ, List, [], ◌++◌, length, refl, sym, arith}
+use Rattle.std.proofs.lemmas.Result.{err_from_is_err_and}
+use mathlib.Core.List.{append-nil}
 use Rattle.format.specs.Calls.{checked}
-use Rattle.writing.proofs.Parts.{State, Emits, after, begin, emit, emitted, within, small}
-use Rattle.binary_measure.specs.Measured.{bytes_in, room_number}
+use Rattle.units.specs.Refusal.{number_of}
+use Rattle.well_formed.proofs.NumberLaws.{number_some}
+use Rattle.writing.specs.Written.{Put}
+use Rattle.writing.proofs.Parts.{Emits, after, begun, emit, emitted, within, small}
+use Rattle.binary_measure.specs.Measured.{bytes_in, write_number}
 use Rattle.binary_write.proofs.RoomLaws.{lent}
 use Rattle.binary_write.proofs.FileLaws.{refused-number, is_formed, is_measured, enough, written_file}
-use Rattle.binary_write.proofs.write_file.Lts as lts
-use Rattle.binary_write.proofs.write_file.Reads as reads
-use Rattle.binary_write.proofs.write_file.Tie as tie
 use Rattle.binary_write.proofs.write_file.Goals as goal
+use Rattle.binary_write.proofs.write_file.Goals.{After-put_bytes-at, After-put_records}
 
-abbrev After-put_records : Type 0
-After-put_records = lts.After-put_records tie.the-claims reads.Pre reads.Post
+-- with the front written
+module _ (front ws room : List ℕ) (e : 0 ≡ write_number ws (length front) (length room)) where
+  formed : checked ws ≡ 0
+  formed = is_formed front ws room 0 e refl
 
-abbrev After-put_bytes : Type 0
-After-put_bytes = lts.After-put_bytes tie.the-claims reads.Pre reads.Post
+  opened : {n : ℕ} {out : List ℕ} → Put front room n out
+      → Emits (front ++ bytes_in ws) room (bytes_in ws) (record { at = n; out = out })
+  opened p = begun front _ refl (enough front ws room formed 0 (is_measured front ws room 0 e refl) refl) p
 
-abbrev Else1 : Type 0
-Else1 = lts.Else1 tie.the-claims reads.Pre reads.Post
+pub returns-in_err-check_write : goal.returns-in_err-check_write
+returns-in_err-check_write c =
+    let r = c.in_err-check_write.field-0.0 in
+    let p = err_from_is_err_and c.from_residual.result c.from_residual.ensures.1 in
+    rw (p.1, p.2)
+    (refused-number c.args.front.now c.args.object.now c.args.out.now (number_of r) c.in_err-check_write.ensures
+    (λ z. let h = number_some r in omega arith))
 
-abbrev After-write_number : Type 0
-After-write_number = lts.After-write_number tie.the-claims reads.Pre reads.Post
+-- and the records
+opens : (c : After-put_bytes-at) → Emits (c.args.front.now ++ bytes_in c.args.object.now) c.args.out.now (bytes_in c.args.object.now)
+    (record { at = c.put_bytes-at.result; out = c.put_bytes-at.new.out })
+opens c = opened c.args.front.now c.args.object.now c.args.out.now c.in_ok-check_write.ensures c.put_bytes-at.ensures
 
-abbrev object : (c : After-write_number) → List ℕ
-object c = c.args.object.now
-
-abbrev front : (c : After-write_number) → List ℕ
-front c = c.args.front.now
-
-abbrev room : (c : After-write_number) → List ℕ
-room c = c.args.out.now
-
-formed : (c : Else1) → checked (object c.before) ≡ 0
-formed c =
-    is_formed (front c.before) (object c.before) (room c.before) c.write_number-m.result c.write_number-m.ensures c.if-m-ne0.false
-
-measured : (c : Else1) → c.write_number-m.result ≡ room_number (object c.before) (length (front c.before)) (length (room c.before))
-measured c =
-    is_measured (front c.before) (object c.before) (room c.before) c.write_number-m.result c.write_number-m.ensures c.if-m-ne0.false
-
-abbrev whole : (c : After-put_bytes) → List ℕ
-whole c = front c.before.before.before ++ bytes_in (object c.before.before.before)
-
-abbrev state1 : (c : After-put_bytes) → State ℕ
-state1 c = after (record { at = 0; out = room c.before.before.before }) c.put_bytes-at.result c.put_bytes-at.new.out
-
-emits1 : (c : After-put_bytes) → Emits (whole c) (room c.before.before.before) (bytes_in (object c.before.before.before)) (state1 c)
-emits1 c =
-    emit (begin (whole c) (room c.before.before.before) (enough (front c.before.before.before) (object c.before.before.before) (room c.before.before.before) (formed c.before.before) c.write_number-m.result (measured c.before.before) c.if-m-ne0.false))
-    _ _ refl c.put_bytes-at.ensures
-
-emits2 : (c : After-put_records) → Emits (whole c.before.before.before.before) (room c.before.before.before.before.before.before.before) [] (after (state1 c.before.before.before.before) c.put_records-at.result c.put_records-at.new.out)
-emits2 c = emit (emits1 c.before.before.before.before) _ [] (sym (append-nil _)) c.put_records-at.ensures
-
-pub returns-then-m-ne0 : goal.returns-then-m-ne0
-returns-then-m-ne0 c =
-    refused-number (front c.before.before.before) (object c.before.before.before) (room c.before.before.before) c.write_number-m.result c.write_number-m.ensures c.if-m-ne0.true
-    c.refused.result c.refused.ensures
-
-pub put_records-at-requires : goal.put_records-at-requires
-put_records-at-requires c =
-    (formed c.before.before.before.before.before.before, lent (emits1 c.before.before.before.before))
+closes : (c : After-put_records) → Emits (c.args.front.now ++ bytes_in c.args.object.now) c.args.out.now []
+    (after (record { at = c.put_bytes-at.result; out = c.put_bytes-at.new.out }) c.put_records.result c.put_records.new.out)
+closes c =
+    emit (opened c.args.front.now c.args.object.now c.args.out.now c.in_ok-check_write.ensures c.put_bytes-at.ensures) _ []
+    (sym (append-nil _)) c.put_records.ensures
 
 pub slice_bounds-put_records-count : goal.slice_bounds-put_records-count
-slice_bounds-put_records-count c = within (emits1 c.before.before.before)
+slice_bounds-put_records-count c = within (opens (goal.at.slice_bounds-put_records-count c).After-put_bytes-at)
 
 pub slice_bounds-put_records-start : goal.slice_bounds-put_records-start
-slice_bounds-put_records-start c = within (emits1 c.before.before.before)
+slice_bounds-put_records-start c = within (opens (goal.at.slice_bounds-put_records-start c).After-put_bytes-at)
 
-pub overflow_add-at-2 : goal.overflow_add-at-2
-overflow_add-at-2 c = small (emits2 c.before.before.before) c.well_formed.1.1.0.0
+pub put_records-requires : goal.put_records-requires
+put_records-requires c = (
+  formed c.args.front.now c.args.object.now c.args.out.now c.in_ok-check_write.ensures,
+  lent (opens (goal.at.put_records-requires c).After-put_bytes-at),
+)
+
+pub overflow_add-result : goal.overflow_add-result
+overflow_add-result c = small (closes (goal.at.overflow_add-result c).After-put_records) c.well_formed.1.1.0.0
 
 pub returns : goal.returns
 returns c =
-    written_file (front c.before.before.before.before.before.before.before.before.before.before.before) (object c.before.before.before.before.before.before.before.before.before.before.before) (room c.before.before.before.before.before.before.before.before.before.before.before) (formed c.before.before.before.before.before.before.before.before.before.before) c.write_number-m.result (measured c.before.before.before.before.before.before.before.before.before.before) c.if-m-ne0.false c.given.result _ _ c.given.ensures (emitted (emits2 c.before.before.before.before) refl)
+    let e = c.in_ok-check_write.ensures in
+    let f = c.args.front.now in
+    let ws = c.args.object.now in
+    let room = c.args.out.now in
+    written_file f ws room (formed f ws room e) 0 (is_measured f ws room 0 e refl) refl _ _
+    (emitted (closes (goal.at.returns c).After-put_records) refl)

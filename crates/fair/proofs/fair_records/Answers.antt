@@ -53,8 +53,8 @@ loop-at-smaller c =
 pub loop-at-preserved : goal.loop-at-preserved
 loop-at-preserved c =
     λ h e.
-    going_on (ws (goal.at.loop-at-preserved c).In-loop-at) (last (goal.at.loop-at-preserved c).In-loop-at) (at (goal.at.loop-at-preserved c).In-loop-at) (least (goal.at.loop-at-preserved c).In-loop-at) (fair_parts (last (goal.at.loop-at-preserved c).In-loop-at) 0 h) c.loop-at-test.true (c.loop-at.invariant h e) c.in-Next.next
-    c.body_end-at.result (sym c.fair_record.ensures ∙ ap step_of c.in-Next.is) c.body_end-at.ensures
+    going_on (ws (goal.at.loop-at-preserved c).In-loop-at) (last (goal.at.loop-at-preserved c).In-loop-at) (at (goal.at.loop-at-preserved c).In-loop-at) (least (goal.at.loop-at-preserved c).In-loop-at) (fair_parts (last (goal.at.loop-at-preserved c).In-loop-at) 0 h) c.loop-at-test.true (c.loop-at.invariant h e) c.in-Some.next
+    c.body_end-at.result (sym c.fair_record.ensures ∙ ap step_of c.in-Some.is) c.body_end-at.ensures
 
 pub returns : goal.returns
 returns c = λ h e. going_end _ _ _ _ _ c.loop-at-test.false (c.loop-at.invariant h e)

@@ -1,5 +1,8 @@
 use native.Mathlib.Omega.{arith}
-use mathlib.Core.Path.{sym, ◌∙◌}
+use borrow.Author.Tests.{not-true, not-false}
+use mathlib.Core.Path.{sym}
+use Rattle.object.specs.declared.Kind.TheVariants as kind
+use Rattle.object.proofs.KindLaws.{number_is, number_not}
 use mathlib.Core.List.{List}
 use mathlib.Core.Option.{none}
 use Prim.Native.Nat.{ℕ}
@@ -18,11 +21,11 @@ at c = c.loop-at.at
 pub loop-at-init : goal.loop-at-init
 loop-at-init c = λ h e s. only-start _ h e s
 
-pub returns-then-kind-ne0 : goal.returns-then-kind-ne0
-returns-then-kind-ne0 c =
+pub returns-then-ne : goal.returns-then-ne
+returns-then-ne c =
     λ h e s.
-    only-other (ws (goal.at.returns-then-kind-ne0 c).In-loop-at) (at (goal.at.returns-then-kind-ne0 c).In-loop-at) (is_fair_by none h) (here (ws (goal.at.returns-then-kind-ne0 c).In-loop-at) blocks_only (at (goal.at.returns-then-kind-ne0 c).In-loop-at) (is_fair_by none h) c.loop-at-test.true (c.loop-at.invariant h e s))
-    (λ z. c.if-kind-ne0.true (c.kind.ensures ∙ z))
+    only-other (ws (goal.at.returns-then-ne c).In-loop-at) (at (goal.at.returns-then-ne c).In-loop-at) (is_fair_by none h) (here (ws (goal.at.returns-then-ne c).In-loop-at) blocks_only (at (goal.at.returns-then-ne c).In-loop-at) (is_fair_by none h) c.loop-at-test.true (c.loop-at.invariant h e s))
+    (number_not c.of.result kind.Block _ c.of.ensures (sym (not-true _ (sym c.if-ne.ensures))))
 
 pub loop-at-smaller : goal.loop-at-smaller
 loop-at-smaller c = omega (arith, c.body_end-at.ensures, c.loop-at-test.true)
@@ -31,7 +34,7 @@ pub loop-at-preserved : goal.loop-at-preserved
 loop-at-preserved c =
     λ h e s.
     only-block (ws (goal.at.loop-at-preserved c).In-loop-at) (at (goal.at.loop-at-preserved c).In-loop-at) (is_fair_by none h) (here (ws (goal.at.loop-at-preserved c).In-loop-at) blocks_only (at (goal.at.loop-at-preserved c).In-loop-at) (is_fair_by none h) c.loop-at-test.true (c.loop-at.invariant h e s))
-    (sym c.kind.ensures ∙ c.if-kind-ne0.false) c.body_end-at.result c.body_end-at.ensures
+    (number_is c.of.result kind.Block _ c.of.ensures (sym (not-false _ (sym c.if-ne.ensures)))) c.body_end-at.result c.body_end-at.ensures
 
 pub returns : goal.returns
 returns c = λ h e s. only_end _ _ _ c.loop-at-test.false (c.loop-at.invariant h e s)

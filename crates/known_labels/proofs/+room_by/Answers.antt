@@ -6,10 +6,8 @@ use Rattle.known_labels.proofs.+room_by.Invariants.{turns}
 use Rattle.known_labels.proofs.+room_by.Goals as goal
 
 -- few are enough
-pub returns-then-cached : goal.returns-then-cached
-returns-then-cached t c =
-    let g = c.gather_few-cached in
-    held-room _ g.new.items g.result g.ensures c.if-cached.true _ _ c.cached_room.ensures
+pub returns-in-Some : goal.returns-in-Some
+returns-in-Some t c = held-room _ c.gather.new.items _ c.in-Some.ensures _ _ c.cached_room.ensures
 
 -- no more turns after the next
 pub room_by-requires : goal.room_by-requires

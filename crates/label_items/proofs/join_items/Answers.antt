@@ -2,14 +2,14 @@ use mathlib.Core.Path.{refl}
 use Rattle.label_items.specs.Joins.{joined_item}
 use Rattle.label_items.proofs.join_items.Goals as goal
 
-pub returns-then-x-2 : goal.returns-then-x-2
+pub returns-in-Symbol : goal.returns-in-Symbol
 unfolding joined_item
-returns-then-x-2 c = rw (c.if-x.true, c.if-x-2.true) refl
+returns-in-Symbol c = rw c.in-Symbol.is refl
 
-pub returns-then-x : goal.returns-then-x
+pub returns-in-Start : goal.returns-in-Start
 unfolding joined_item
-returns-then-x c = rw (c.if-x.true, c.if-x-2.false) refl
+returns-in-Start c = rw c.in-Start.is refl
 
-pub returns : goal.returns
+pub returns-in-Both : goal.returns-in-Both
 unfolding joined_item
-returns c = rw c.if-x.false refl
+returns-in-Both c = rw c.in-Both.is refl

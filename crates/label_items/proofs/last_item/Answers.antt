@@ -6,4 +6,4 @@ returns-then-items-i c = let a = c.args in item_past a.items.now a.i c.if-items-
 
 pub returns : goal.returns
 returns c =
-    item_last c.args.items.now c.args.i _ _ _ c.requires c.place_at-start.ensures c.place_at-end.ensures c.place_at-head.ensures
+    item_last c.args.items.now c.args.i _ _ _ c.requires c.place_at.ensures c.place_at-2.ensures c.place_at-3.ensures

@@ -13,7 +13,7 @@ use Rattle.label_tables.specs.Tables.{names_width, indices_width}
 use Rattle.label_tables.proofs.RowLaws.{name-size}
 use Rattle.label_tables.proofs.RoomLaws.{widest-on, widest-end}
 use Rattle.label_tables.proofs.column_widths.Goals as goal
-use Rattle.label_tables.proofs.column_widths.Goals.{After-larger-indices}
+use Rattle.label_tables.proofs.column_widths.Goals.{After-max-in-Some}
 
 abbrev name : List ℕ → ℕ → ℕ
 name ws p = length (name_at ws p)
@@ -21,49 +21,49 @@ name ws p = length (name_at ws p)
 abbrev index : List ℕ → ℕ → ℕ
 index ws p = length (decimal (label_at ws p).start)
 
-abbrev ws : (c : After-larger-indices) → List ℕ
+abbrev ws : (c : After-max-in-Some) → List ℕ
 ws c = c.args.ws.now
 
-abbrev p : (c : After-larger-indices) → ℕ
-p c = c.in-At.p
+abbrev p : (c : After-max-in-Some) → ℕ
+p c = c.in-Some.p
 
-abbrev next : (c : After-larger-indices) → ℕ
-next c = c.in-At.next
+abbrev next : (c : After-max-in-Some) → ℕ
+next c = c.in-Some.next
 
-found : (c : After-larger-indices) → places_from (ws c) c.loop-p.at ≡ (p c) ∷ places_from (ws c) (next c)
-found c = found-next (ws c) c.loop-p.at c.next_label.result c.next_label.ensures.0 (p c) (next c) c.in-At.is
+found : (c : After-max-in-Some) → places_from (ws c) c.loop-p.at ≡ (p c) ∷ places_from (ws c) (next c)
+found c = found-next (ws c) c.loop-p.at c.next_label.result c.next_label.ensures.0 (p c) (next c) c.in-Some.is
 
 pub loop-p-init : goal.loop-p-init
 unfolding names_width indices_width label_places
 loop-p-init c = (refl, refl)
 
-pub returns-in_default : goal.returns-in_default
-returns-in_default c =
+pub returns : goal.returns
+returns c =
     let ws = c.args.ws.now in
     let l = c.loop-p in
     let e = found_none ws l.at _ c.next_label.ensures.0 c.in_default.is in (
-      sym (widest-end (name ws) l.names (places_from ws l.at) e) ∙ l.invariant.0,
-      sym (widest-end (index ws) l.indices (places_from ws l.at) e) ∙ l.invariant.1,
+      sym (widest-end (name ws) l.widths.names (places_from ws l.at) e) ∙ l.invariant.0,
+      sym (widest-end (index ws) l.widths.indices (places_from ws l.at) e) ∙ l.invariant.1,
     )
 
 pub loop-p-smaller : goal.loop-p-smaller
 loop-p-smaller c =
     omega (
       arith,
-      found_moves c.loop-p.at (length (ws c)) (p c) (next c) c.next_label.result c.next_label.ensures.1
-          c.in-At.is,
+      found_moves c.loop-p.at (length (ws c)) (p c, next c) c.next_label.result c.next_label.ensures.1
+          c.in-Some.is,
     )
 
 pub loop-p-preserved : goal.loop-p-preserved
 loop-p-preserved c =
     let l = c.loop-p in
     let n = c.name_of-name in
-    let e = c.larger-names.ensures
-    ∙ ap (λ k. max k l.names) (name-size (ws c) (p c) n.result.at n.result.len n.ensures.0) in
-    let f = c.larger-indices.ensures
-    ∙ ap (λ k. max k l.indices) (c.count_digits.ensures ∙ ap (λ v. length (decimal v)) c.start_at.ensures) in (
+    let e = c.max.ensures
+    ∙ ap (λ k. max k l.widths.names) (name-size (ws c) (p c) n.result.at n.result.len n.ensures.0) in
+    let f = c.max-in-Some.ensures
+    ∙ ap (λ k. max k l.widths.indices) (c.count_digits.ensures ∙ ap (λ v. length (decimal v)) c.start_at.ensures) in (
       ap (λ k. widest (name (ws c)) k (places_from (ws c) (next c))) e
-          ∙ widest-on (name (ws c)) l.names (p c) (places_from (ws c) l.at) (places_from (ws c) (next c)) (found c) ∙ l.invariant.0,
+          ∙ widest-on (name (ws c)) l.widths.names (p c) (places_from (ws c) l.at) (places_from (ws c) (next c)) (found c) ∙ l.invariant.0,
       ap (λ k. widest (index (ws c)) k (places_from (ws c) (next c))) f
-          ∙ widest-on (index (ws c)) l.indices (p c) (places_from (ws c) l.at) (places_from (ws c) (next c)) (found c) ∙ l.invariant.1,
+          ∙ widest-on (index (ws c)) l.widths.indices (p c) (places_from (ws c) l.at) (places_from (ws c) (next c)) (found c) ∙ l.invariant.1,
     )

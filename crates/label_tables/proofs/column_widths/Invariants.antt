@@ -9,7 +9,7 @@ use Rattle.label_tables.specs.Tables.{names_width, indices_width}
 use Rattle.label_tables.proofs.column_widths.Given as goal
 
 abbrev pub invariant-loop-p : goal.invariant-loop-p
-invariant-loop-p l = (widest (λ p. length (name_at l.ws p)) l.names (places_from l.ws l.at) ≡ names_width l.ws) × (widest (λ p. length (decimal (label_at l.ws p).start)) l.indices (places_from l.ws l.at) ≡ indices_width l.ws)
+invariant-loop-p l = (widest (λ p. length (name_at l.ws p)) l.widths.names (places_from l.ws l.at) ≡ names_width l.ws) × (widest (λ p. length (decimal (label_at l.ws p).start)) l.widths.indices (places_from l.ws l.at) ≡ indices_width l.ws)
 
 abbrev pub decreases-loop-p : goal.decreases-loop-p
 decreases-loop-p l = length l.ws - l.at

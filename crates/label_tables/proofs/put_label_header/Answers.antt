@@ -37,7 +37,7 @@ abbrev b : (t : After-is_room) → ℕ
 b t = t.past_header-b.result
 
 abbrev line : (t : After-is_room) → List ℕ
-line t = text_line (label_header t.args.names t.args.indices)
+line t = text_line (label_header t.args.widths.names t.args.widths.indices)
 
 abbrev left3 : (t : After-is_room) → List ℕ
 left3 t = spaces (b t) ++ (0x0A ∷ [])
@@ -51,11 +51,11 @@ left1 t = spaces (a t) ++ (left2 t)
 parts : (t : After-is_room) → (line t) ≡ label_bytes ++ (left1 t)
 parts t =
     sym (ap₂ header_parts t.past_header-a.ensures t.past_header-b.ensures
-    ∙ label-header t.args.names t.args.indices)
+    ∙ label-header t.args.widths.names t.args.widths.indices)
 
 long : (t : After-is_room) → length (line t) ≡ 14 + (a t) + (b t)
 long t =
-    label-header-size t.args.names t.args.indices (a t) (b t) t.past_header-a.ensures
+    label-header-size t.args.widths.names t.args.widths.indices (a t) (b t) t.past_header-a.ensures
     t.past_header-b.ensures
 
 abbrev room : (t : After-is_room) → List ℕ

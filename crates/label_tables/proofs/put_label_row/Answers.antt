@@ -45,7 +45,7 @@ abbrev name : (t : After-is_room) → List ℕ
 name t = text_bytes (ws t) t.name_of-name.result.at t.name_of-name.result.len
 
 abbrev left3 : (t : After-is_room) → List ℕ
-left3 t = to_right t.args.indices (decimal (first t)) ++ (0x0A ∷ [])
+left3 t = to_right t.args.widths.indices (decimal (first t)) ++ (0x0A ∷ [])
 
 abbrev left2 : (t : After-is_room) → List ℕ
 left2 t = div ++ (left3 t)
@@ -54,11 +54,11 @@ abbrev left1 : (t : After-is_room) → List ℕ
 left1 t = spaces (fill t) ++ (left2 t)
 
 abbrev line : (t : After-is_room) → List ℕ
-line t = label_line t.args.names t.args.indices (ws t) t.args.p
+line t = label_line t.args.widths.names t.args.widths.indices (ws t) t.args.p
 
 parts : (t : After-is_room) → (line t) ≡ (name t) ++ (left1 t)
 parts t =
-    sym (label-parts (ws t) t.args.p t.args.names t.args.indices (fill t) (first t) (name t) t.name_of-name.ensures.0
+    sym (label-parts (ws t) t.args.p t.args.widths.names t.args.widths.indices (fill t) (first t) (name t) t.name_of-name.ensures.0
     t.fill_of-fill.ensures t.start_at-start.ensures)
 
 -- how long it is
@@ -68,7 +68,7 @@ sum t = t.name_of-name.result.len + 4 + (fill t) + t.right_len-right.result
 long : (t : After-is_room) → length (line t) ≡ (sum t)
 long t =
     label-size (ws t) t.args.p t.name_of-name.result.at t.name_of-name.result.len t.name_of-name.ensures.0
-    t.args.names t.args.indices (fill t) (first t) t.right_len-right.result t.fill_of-fill.ensures
+    t.args.widths.names t.args.widths.indices (fill t) (first t) t.right_len-right.result t.fill_of-fill.ensures
     t.start_at-start.ensures t.right_len-right.ensures
 
 abbrev room : (t : After-is_room) → List ℕ
@@ -101,7 +101,7 @@ abbrev state4 : (c : After-put_right) → State ℕ
 state4 c = after (state3 c.before.before.before.before) c.put_right-k.result c.put_right-k.new.out
 
 emits4 : (c : After-put_right) → Emits (line c.before.before.before.before.before.before.before.before.before.before.before.before.before.before.before.before.before) (room c.before.before.before.before.before.before.before.before.before.before.before.before.before.before.before.before.before) (0x0A ∷ []) (state4 c)
-emits4 c = emit (emits3 c.before.before.before.before) (to_right c.args.indices (decimal (first c.before.before.before.before.before.before.before.before.before.before.before.before.before.before.before.before.before))) (0x0A ∷ []) refl c.put_right-k.ensures
+emits4 c = emit (emits3 c.before.before.before.before) (to_right c.args.widths.indices (decimal (first c.before.before.before.before.before.before.before.before.before.before.before.before.before.before.before.before.before))) (0x0A ∷ []) refl c.put_right-k.ensures
 
 emits5 : (c : After-put_right) → Emits (line c.before.before.before.before.before.before.before.before.before.before.before.before.before.before.before.before.before) (room c.before.before.before.before.before.before.before.before.before.before.before.before.before.before.before.before.before) [] (record { at = (state4 c).at + 1; out = set (state4 c).out (state4 c).at 0x0A })
 emits5 c = emit_one (emits4 c) 0x0A [] refl

@@ -52,23 +52,23 @@ unfolding label_places
 returns-in_default c =
     let e = found_none c.args.ws.now 0 c.next_label.result c.next_label.ensures.0 c.in_default.is in
     subst (λ l. Put l c.args.out.now 0 c.args.out.now)
-    (sym (fits-none (header c.args.ws.now c.args.out.now c.args.names c.args.indices) (line c.args.ws.now c.args.out.now c.args.names c.args.indices) (label_places c.args.ws.now) (by_start c.args.ws.now) (length c.args.out.now) e))
+    (sym (fits-none (header c.args.ws.now c.args.out.now c.args.widths.names c.args.widths.indices) (line c.args.ws.now c.args.out.now c.args.widths.names c.args.widths.indices) (label_places c.args.ws.now) (by_start c.args.ws.now) (length c.args.out.now) e))
     (put-nothing c.args.out.now)
 
 pub slice_bounds-put_all-count : goal.slice_bounds-put_all-count
-slice_bounds-put_all-count c = within (emits1 c.args.ws.now c.args.out.now c.args.names c.args.indices c.put_label_header-at.result c.put_label_header-at.new.out c.put_label_header-at.ensures)
+slice_bounds-put_all-count c = within (emits1 c.args.ws.now c.args.out.now c.args.widths.names c.args.widths.indices c.put_label_header-at.result c.put_label_header-at.new.out c.put_label_header-at.ensures)
 
 pub slice_bounds-put_all-start : goal.slice_bounds-put_all-start
-slice_bounds-put_all-start c = within (emits1 c.args.ws.now c.args.out.now c.args.names c.args.indices c.put_label_header-at.result c.put_label_header-at.new.out c.put_label_header-at.ensures)
+slice_bounds-put_all-start c = within (emits1 c.args.ws.now c.args.out.now c.args.widths.names c.args.widths.indices c.put_label_header-at.result c.put_label_header-at.new.out c.put_label_header-at.ensures)
 
 pub overflow_add-result : goal.overflow_add-result
 overflow_add-result c =
-    small (emits2 c.args.ws.now c.args.out.now c.args.names c.args.indices c.put_label_header-at.result c.put_all.result c.put_label_header-at.new.out c.put_all.new.out (emits1 c.args.ws.now c.args.out.now c.args.names c.args.indices c.put_label_header-at.result c.put_label_header-at.new.out c.put_label_header-at.ensures) c.put_all.ensures)
+    small (emits2 c.args.ws.now c.args.out.now c.args.widths.names c.args.widths.indices c.put_label_header-at.result c.put_all.result c.put_label_header-at.new.out c.put_all.new.out (emits1 c.args.ws.now c.args.out.now c.args.widths.names c.args.widths.indices c.put_label_header-at.result c.put_label_header-at.new.out c.put_label_header-at.ensures) c.put_all.ensures)
     (omega arith)
 
 pub returns : goal.returns
 unfolding label_places
 returns c =
-    let e = found-next c.args.ws.now 0 c.next_label.result c.next_label.ensures.0 c.in-At.field-0 c.in-At.field-1 c.in-At.is in
-    has_rows c.args.ws.now c.args.out.now c.args.names c.args.indices _ _ _ _ e
-    (emitted (emits2 c.args.ws.now c.args.out.now c.args.names c.args.indices c.put_label_header-at.result c.put_all.result c.put_label_header-at.new.out c.put_all.new.out (emits1 c.args.ws.now c.args.out.now c.args.names c.args.indices c.put_label_header-at.result c.put_label_header-at.new.out c.put_label_header-at.ensures) c.put_all.ensures) refl)
+    let e = found-next c.args.ws.now 0 c.next_label.result c.next_label.ensures.0 c.in-Some.field-0.0 c.in-Some.field-0.1 c.in-Some.is in
+    has_rows c.args.ws.now c.args.out.now c.args.widths.names c.args.widths.indices _ _ _ _ e
+    (emitted (emits2 c.args.ws.now c.args.out.now c.args.widths.names c.args.widths.indices c.put_label_header-at.result c.put_all.result c.put_label_header-at.new.out c.put_all.new.out (emits1 c.args.ws.now c.args.out.now c.args.widths.names c.args.widths.indices c.put_label_header-at.result c.put_label_header-at.new.out c.put_label_header-at.ensures) c.put_all.ensures) refl)

@@ -69,6 +69,6 @@ overflow_add-result c =
 pub returns : goal.returns
 unfolding label_places
 returns c =
-    let e = found-next c.args.ws.now 0 c.next_label.result c.next_label.ensures.0 c.in-At.field-0 c.in-At.field-1 c.in-At.is in
+    let e = found-next c.args.ws.now 0 c.next_label.result c.next_label.ensures.0 c.in-Some.field-0.0 c.in-Some.field-0.1 c.in-Some.is in
     has_rows c.args.ws.now c.args.out.now _ _ _ _ e
     (emitted (emits2 c.args.ws.now c.args.out.now c.put_bytes-at.result c.put_all.result c.put_bytes-at.new.out c.put_all.new.out (emits1 c.args.ws.now c.args.out.now c.put_bytes-at.result c.put_bytes-at.new.out c.put_bytes-at.ensures) c.put_all.ensures) refl)

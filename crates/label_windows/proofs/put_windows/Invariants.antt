@@ -4,7 +4,8 @@ use lib.ListN.{length}
 use Rattle.writing.proofs.Parts.{Emits}
 use Rattle.measuring.specs.Fitting.{fitting}
 use Rattle.label_order.specs.Order.{left}
-use Rattle.label_windows.specs.Fits.{line_of, places_of}
+use Rattle.label_tables.specs.Tables.{line_of}
+use Rattle.label_windows.specs.Fits.{places_of}
 use Rattle.label_windows.proofs.put_windows.Given as goal
 
 abbrev pub invariant-loop-win : goal.invariant-loop-win

@@ -1,5 +1,5 @@
 use mathlib.Core.Path.{◌≡◌}
-use Prim.Native.Nat.{◌-◌, ◌≤◌}
+use Prim.Native.Nat.{◌≤◌}
 use lib.ListN.{drop}
 use Rattle.format.specs.Source.{raw_line_span}
 use Rattle.object.specs.Texts.{text_bytes}
@@ -8,6 +8,3 @@ use Rattle.line_spans.proofs.raw_line.Given as goal
 
 abbrev pub invariant-loop-i : goal.invariant-loop-i
 invariant-loop-i l = (l.i ≤ l.n) × (l.start ≤ l.i) × (span_from l.start l.i l.left (drop l.i (text_bytes l.ws l.at l.n)) ≡ raw_line_span (text_bytes l.ws l.at l.n) l.line)
-
-abbrev pub decreases-loop-i : goal.decreases-loop-i
-decreases-loop-i l = l.n - l.i

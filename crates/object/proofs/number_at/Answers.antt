@@ -1,14 +1,12 @@
-use mathlib.Core.Path.{sym, ap, subst}
+use Rattle.std.proofs.Common.{◌≡◌, ℕ, List, sym, ap, ◌∙◌, Option, Some, None}
+use Rattle.std.specs.Option.{unwrap_or}
 use Rattle.object.specs.Bodies.{number_at, value_in, Numbered}
 use Rattle.object.proofs.number_at.Goals as goal
 
-pub returns-in-Is : goal.returns-in-Is
+value : (ws : List ℕ) (at : ℕ) (r : Option ℕ) → Numbered ws at r → unwrap_or r 0 ≡ number_at ws at
 unfolding number_at
-returns-in-Is c =
-    sym (ap value_in (subst (Numbered c.args.ws.now c.args.at) c.in-Is.is
-    c.read_number.ensures).0)
+value ws at (Some v) h = sym (ap value_in h.0)
+value ws at None h = sym (ap value_in h)
 
-pub returns-in-Bad : goal.returns-in-Bad
-unfolding number_at
-returns-in-Bad c =
-    sym (ap value_in (subst (Numbered c.args.ws.now c.args.at) c.in-Bad.is c.read_number.ensures))
+pub returns : goal.returns
+returns c = c.unwrap_or.ensures ∙ value _ _ c.read_number.result c.read_number.ensures

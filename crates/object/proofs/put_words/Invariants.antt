@@ -1,10 +1,7 @@
-use Prim.Native.Nat.{◌*◌, ◌-◌}
+use Prim.Native.Nat.{◌*◌}
 use Rattle.writing.proofs.Parts.{Emits}
 use Rattle.object.specs.Texts.{span_bytes}
 use Rattle.object.proofs.put_words.Given as goal
 
 abbrev pub invariant-loop-k : goal.invariant-loop-k
 invariant-loop-k l = Emits (span_bytes l.ws l.at (3 * l.first) (3 * l.last)) l.initial.out (span_bytes l.ws l.at (3 * l.k) (3 * l.last)) (record { at = l.n; out = l.out })
-
-abbrev pub decreases-loop-k : goal.decreases-loop-k
-decreases-loop-k l = l.last - l.k

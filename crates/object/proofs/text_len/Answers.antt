@@ -1,6 +1,5 @@
 use native.Mathlib.Omega.{arith}
-use mathlib.Core.Path.{sym, ap, ◌∙◌}
-use Prim.Native.Nat.{◌+◌, ◌-◌, ◌*◌, ◌/◌, ◌%◌, ◌^◌}
+use mathlib.Core.Path.{sym}
 use Rattle.object.proofs.ByteLaws.{len-none, len_out, len_some}
 use Rattle.object.proofs.text_len.Goals as goal
 
@@ -12,5 +11,4 @@ returns-then-ws-end c = len_out _ _ _ (omega arith) (omega arith)
 
 pub returns : goal.returns
 returns c =
-    let a = c.args in
-    sym (len_some _ _ _ (omega arith) (omega arith) ∙ ap (λ w. (a.end - 1 - a.at) * 3 + w / 2 ^ 24 % 4) (sym c.wide-last.ensures.0))
+    sym (len_some _ _ _ (omega arith) (omega arith))

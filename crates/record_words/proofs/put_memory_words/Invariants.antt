@@ -1,12 +1,8 @@
-use mathlib.Core.Path.{◌≡◌}
-use Prim.Native.Nat.{◌-◌, ◌*◌, ◌/◌, ◌≤◌}
-use lib.ListN.{length, drop}
+use Prim.Native.Nat.{◌*◌}
+use lib.ListN.{drop}
 use Rattle.writing.proofs.Parts.{Emits}
 use Rattle.record_words.proofs.RecordLaws.{memory_words}
 use Rattle.record_words.proofs.put_memory_words.Given as goal
 
 abbrev pub invariant-loop-at : goal.invariant-loop-at
-invariant-loop-at l = (l.i ≡ 3 * l.at) × (l.at ≤ length l.s / 3) × Emits (memory_words l.s) l.initial.out (memory_words (drop l.i l.s)) (record { at = l.at; out = l.out })
-
-abbrev pub decreases-loop-at : goal.decreases-loop-at
-decreases-loop-at l = length l.s / 3 - l.at
+invariant-loop-at l = Emits (memory_words l.s) l.initial.out (memory_words (drop (3 * l.at) l.s)) (record { at = l.at; out = l.out })

@@ -1,49 +1,23 @@
 use native.Mathlib.Omega.{arith}
-use mathlib.Core.Path.{refl, sym}
-use lib.ListN.{length-append}
-use Rattle.round_trips.proofs.RunLaws.{ran_one, stood, filled, front_length, part_length, front_fits}
+use mathlib.Core.Path.{◌≡◌, refl}
+use Prim.Native.Nat.{min}
+use Rattle.std.specs.Prelude.{Ok, Err}
+use Rattle.round_trips.proofs.RunLaws.{ran_one, front_put, part_length}
 use Rattle.round_trips.proofs.next.Goals as goal
 
-pub slice_bounds-trip-end-3 : goal.slice_bounds-trip-end-3
-slice_bounds-trip-end-3 c =
-    sym (part_length _ 1024 _ c.used_bytes-bytes.result c.used_bytes-bytes.ensures c.least-b.ensures.1 refl)
+pub returns-in_default-clause-ran : goal.returns-in_default-clause-ran
+returns-in_default-clause-ran c =
+    let b : c.min-b.result ≡ min c.args.trip_row.bytes 1024 = omega arith in
+    let w : c.min-w.result ≡ min c.args.trip_row.words 64 = omega arith in
+    ran_one c.args.trip_row _ _ _ (Err c.in_default.field-0) _ _ c.in_default.ensures.step
+    (part_length c.min-b.result 1024 _ c.used_bytes-bytes.result c.used_bytes-bytes.ensures (omega arith) b)
+    (part_length c.min-w.result 64 _ c.used_words-words.result c.used_words-words.ensures (omega arith) w) refl
 
-pub slice_bounds-trip-end-4 : goal.slice_bounds-trip-end-4
-slice_bounds-trip-end-4 c =
-    sym (part_length _ 64 _ c.used_words-words.result c.used_words-words.ensures c.least-w.ensures.1 refl)
-
-pub returns-then-r-ne-NOT_REFUSED : goal.returns-then-r-ne-NOT_REFUSED
-returns-then-r-ne-NOT_REFUSED c =
-    record {
-      ran = ran_one c.args.form c.args.room c.args.space _ _ _ c.trip-r.result c.trip-r.new.words _
-          c.trip-r.ensures.step
-          (part_length _ 1024 _ c.used_bytes-bytes.result c.used_bytes-bytes.ensures c.least-b.ensures.1 c.least-b.ensures.0)
-          (part_length _ 64 _ c.used_words-words.result c.used_words-words.ensures c.least-w.ensures.1 c.least-w.ensures.0)
-          (stood _ _ c.trip-r.result c.if-r-ne-NOT_REFUSED.true);
-      prefix_len_2 = c.requires.prefix_len;
-    }
-
-pub slice_bounds-words-end-2 : goal.slice_bounds-words-end-2
-slice_bounds-words-end-2 c =
-    simp length-append (omega (arith, c.trip-r.ensures.prefix_len.0))
-
-pub slice_bounds-copy-end : goal.slice_bounds-copy-end
-slice_bounds-copy-end c =
-    sym (front_length c.trip-r.result.len c.trip-r.new.words _ c.trip-r.ensures.prefix_len.0)
-
-pub copy-requires : goal.copy-requires
-copy-requires c =
-    let p = part_length _ 64 _ c.used_words-words.result c.used_words-words.ensures c.least-w.ensures.1 refl in
-    front_fits c.trip-r.result.len c.trip-r.new.words _ c.args.stands.now c.trip-r.ensures.prefix_len.0
-    (omega (arith, p, c.trip-r.auto.words, c.least-w.ensures.1)) c.requires.in_bounds
-
-pub returns : goal.returns
-returns c =
-    record {
-      ran = ran_one c.args.form c.args.room c.args.space _ _ _ c.trip-r.result c.trip-r.new.words _
-          c.trip-r.ensures.step
-          (part_length _ 1024 _ c.used_bytes-bytes.result c.used_bytes-bytes.ensures c.least-b.ensures.1 c.least-b.ensures.0)
-          (part_length _ 64 _ c.used_words-words.result c.used_words-words.ensures c.least-w.ensures.1 c.least-w.ensures.0)
-          (filled _ c.trip-r.new.words _ _ c.trip-r.result c.if-r-ne-NOT_REFUSED.false c.trip-r.ensures.prefix_len.0 c.copy.ensures.to_after);
-      prefix_len_2 = c.copy.ensures.prefix_len;
-    }
+pub returns-clause-ran : goal.returns-clause-ran
+returns-clause-ran c =
+    let b : c.min-b.result ≡ min c.args.trip_row.bytes 1024 = omega arith in
+    let w : c.min-w.result ≡ min c.args.trip_row.words 64 = omega arith in
+    ran_one c.args.trip_row _ _ _ (Ok c.in-Ok.len) _ _ c.in-Ok.ensures.step
+    (part_length c.min-b.result 1024 _ c.used_bytes-bytes.result c.used_bytes-bytes.ensures (omega arith) b)
+    (part_length c.min-w.result 64 _ c.used_words-words.result c.used_words-words.ensures (omega arith) w)
+    (front_put c.in-Ok.len c.trip-r.new.words _ c.put_front.new.to c.in-Ok.ensures.prefix_len.0 c.put_front.ensures.0)

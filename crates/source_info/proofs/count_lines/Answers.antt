@@ -1,21 +1,15 @@
-use native.Mathlib.Omega.{arith}
-use mathlib.Core.Path.{subst}
-use Rattle.source_info.specs.Sources.{SourceIs}
-use Rattle.source_info.specs.declared.Source.TheVariants as source
+use Rattle.std.proofs.Common.{arith}
+use Rattle.std.proofs.lemmas.Result.{err_from_is_err_and}
 use Rattle.source_info.proofs.SourceLaws.{count-refused, count-given}
 use Rattle.source_info.proofs.count_lines.Goals as goal
-use Rattle.source_info.proofs.count_lines.Goals.{In-Words}
 
-there : (c : In-Words) → SourceIs c.args.object.now (source.Words c.in-Words.at c.in-Words.n)
-there c = subst (SourceIs c.args.object.now) c.in-Words.is c.source_of.ensures
+pub returns-in_err-source : goal.returns-in_err-source
+returns-in_err-source c =
+    let p = err_from_is_err_and c.from_residual.result c.from_residual.ensures.1 in
+    rw (p.1, p.2) (count-refused _ _ c.in_err-source.ensures.0)
 
-pub returns-in-Words : goal.returns-in-Words
-returns-in-Words c = count-given _ _ (there (goal.at.returns-in-Words c).In-Words).0 _ c.count_newlines.ensures.0
-
-pub returns-in-Refused : goal.returns-in-Refused
-returns-in-Refused c =
-    let ws = c.args.object.now in
-    count-refused ws c.in-Refused.number (subst (SourceIs ws) c.in-Refused.is c.source_of.ensures).0
+pub returns : goal.returns
+returns c = count-given _ _ c.in_ok-source.ensures.0 _ c.count_newlines.ensures.0
 
 pub overflow_add-result : goal.overflow_add-result
-overflow_add-result c = omega (arith, c.count_newlines.ensures.1, (there (goal.at.overflow_add-result c).In-Words).1)
+overflow_add-result c = omega (arith, c.count_newlines.ensures.1, c.in_ok-source.ensures.1)

@@ -15,8 +15,8 @@ loop-i-init c =
     let e = c.newlines_in_words-count.ensures in
     (omega (arith, whole-within a.ws.now a.at a.n, c.whole_words-words.ensures), e.0, e.1)
 
-pub overflow_mul-i : goal.overflow_mul-i
-overflow_mul-i c =
+pub overflow_step-i : goal.overflow_step-i
+overflow_step-i c =
     let a = c.args in
     omega (arith, whole-within a.ws.now a.at a.n, c.whole_words-words.ensures)
 

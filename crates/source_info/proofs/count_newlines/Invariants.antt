@@ -1,5 +1,5 @@
 use mathlib.Core.Path.{◌≡◌}
-use Prim.Native.Nat.{◌+◌, ◌-◌, ◌≤◌}
+use Prim.Native.Nat.{◌+◌, ◌≤◌}
 use lib.ListN.{drop}
 use Rattle.format.specs.Source.{newlines}
 use Rattle.object.specs.Texts.{text_bytes}
@@ -7,6 +7,3 @@ use Rattle.source_info.proofs.count_newlines.Given as goal
 
 abbrev pub invariant-loop-i : goal.invariant-loop-i
 invariant-loop-i l = (l.i ≤ l.n) × (l.count ≤ l.i) × (l.count + newlines (drop l.i (text_bytes l.ws l.at l.n)) ≡ newlines (text_bytes l.ws l.at l.n))
-
-abbrev pub decreases-loop-i : goal.decreases-loop-i
-decreases-loop-i l = l.n - l.i

@@ -1,12 +1,9 @@
 use mathlib.Core.Path.{◌≡◌}
-use Prim.Native.Nat.{◌+◌, ◌-◌, ◌*◌, ◌≤◌}
+use Prim.Native.Nat.{◌+◌, ◌*◌, ◌≤◌}
 use lib.ListN.{drop}
 use Rattle.format.specs.Source.{newlines}
 use Rattle.object.specs.Texts.{text_bytes}
 use Rattle.source_info.proofs.newlines_in_words.Given as goal
 
 abbrev pub invariant-loop-k : goal.invariant-loop-k
-invariant-loop-k l = (l.k ≤ l.words) × (l.count ≤ 3 * l.k) × (l.count + newlines (drop (3 * l.k) (text_bytes l.ws l.at l.n)) ≡ newlines (text_bytes l.ws l.at l.n))
-
-abbrev pub decreases-loop-k : goal.decreases-loop-k
-decreases-loop-k l = l.words - l.k
+invariant-loop-k l = (l.count ≤ 3 * l.k) × (l.count + newlines (drop (3 * l.k) (text_bytes l.ws l.at l.n)) ≡ newlines (text_bytes l.ws l.at l.n))

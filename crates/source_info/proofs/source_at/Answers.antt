@@ -5,6 +5,8 @@ use mathlib.Core.Option.{Option}
 use Prim.Native.Nat.{ℕ}
 use Rattle.format.specs.ObjectFile.{ObjectFile}
 use Rattle.format.specs.Records.{empty_object}
+use Rattle.object.specs.declared.Kind.TheVariants as kind
+use Rattle.object.proofs.KindLaws.{number_is, number_not}
 use Rattle.source_info.proofs.RecordLaws.{start, finish, here, on, source-here, source-other, source-text}
 use Rattle.source_info.proofs.source_at.Goals as goal
 
@@ -14,11 +16,11 @@ question h = h.source
 pub loop-at-init : goal.loop-at-init
 loop-at-init c = λ h e. start _ question h e
 
-pub returns-then-kind-eq4 : goal.returns-then-kind-eq4
-returns-then-kind-eq4 c =
+pub returns-then-eq : goal.returns-then-eq
+returns-then-eq c =
     let ws = c.args.ws.now in
     let at = c.loop-at.at in
-    let k = sym c.kind.ensures ∙ c.if-kind-eq4.true in
+    let k = number_is c.of.result kind.Source _ c.of.ensures c.if-eq.ensures in
     λ h q.
     let a = here ws question at h.source c.loop-at-test.true (c.loop-at.invariant h q) in
     (sym a.same ∙ source-here ws at a.rest k, source-text ws question at h.source a k)
@@ -33,7 +35,7 @@ loop-at-preserved c =
     λ h q.
     let a = here ws question at h.source c.loop-at-test.true (c.loop-at.invariant h q) in
     on ws question question at c.body_end-at.result h.source a c.body_end-at.ensures
-    (source-other ws at a.rest (λ z. c.if-kind-eq4.false (c.kind.ensures ∙ z)))
+    (source-other ws at a.rest (number_not c.of.result kind.Source _ c.of.ensures c.if-eq.ensures))
 
 pub returns : goal.returns
 unfolding empty_object

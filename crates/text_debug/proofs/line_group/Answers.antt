@@ -1,27 +1,23 @@
 -- Question by question. Assumes nothing.
-use Rattle.std.proofs.Common.{sym, subst}
-use Rattle.text_lines.specs.declared.Passed.{Passed}
-use Rattle.text_debug.specs.DebugGroup.{FirstRow, DebugChecked}
-use Rattle.text_debug.specs.declared.DebugGroup.{DebugGroup}
+use Rattle.std.proofs.Common.{refl, ap, ◌∙◌, arith}
+use Rattle.std.specs.Prelude.{Ok, Err}
+use Rattle.std.proofs.lemmas.Result.{err_from_is_err_and}
+use Rattle.units.proofs.RefusalLaws.{number_of-above}
+use Rattle.text_debug.specs.LineTable.{table_view}
 use Rattle.text_debug.proofs.DebugGroupLaws.{checked-lines, checked_unlined, checked-lined}
 use Rattle.text_debug.proofs.line_group.Goals as goal
-use Rattle.text_debug.proofs.line_group.Goals.{Start}
 
-abbrev Is : Start → DebugGroup → Type 0
-Is s = DebugChecked s.args.t.now s.args.at s.args.sourced
-
-abbrev Rows : Start → Passed → Type 0
-Rows s = FirstRow s.args.t.now s.args.bar
-
-pub returns-then-m-ne0 : goal.returns-then-m-ne0
-returns-then-m-ne0 c =
-    subst (Is (goal.at.returns-then-m-ne0 c).Start) (sym c.without_rows.ensures) (checked-lines _ _ _ _ c.requires _ _ c.parse_line_table-m.ensures c.if-m-ne0.true)
+pub returns-in_err-lines : goal.returns-in_err-lines
+returns-in_err-lines c =
+    let w = err_from_is_err_and c.from_residual.result c.from_residual.ensures.1 in
+    let r = c.in_err-lines.field-0.0 in
+    rw (w.1 ∙ ap Err w.2)
+    (checked-lines _ _ _ _ c.requires c.args.sourced (table_view (Err r)) c.in_err-lines.ensures (λ z. omega (arith, z, number_of-above r)))
 
 pub returns-in_default : goal.returns-in_default
 returns-in_default c =
-    subst (Is (goal.at.returns-in_default c).Start) (sym c.without_rows-in_default.ensures)
-    (checked_unlined _ _ _ _ c.requires _ _ c.parse_line_table-m.ensures c.if-m-ne0.false (subst (Rows (goal.at.returns-in_default c).Start) c.in_default.is c.first_line_row.ensures))
+    checked_unlined _ _ _ _ c.requires c.args.sourced (table_view (Ok c.in_ok-lines.lines)) c.in_ok-lines.ensures refl c.in_default.ensures
 
 pub returns : goal.returns
 returns c =
-    checked-lined _ _ _ _ c.requires _ _ c.parse_line_table-m.ensures c.if-m-ne0.false _ (subst (Rows (goal.at.returns c).Start) c.in-To.is c.first_line_row.ensures)
+    checked-lined _ _ _ _ c.requires c.args.sourced (table_view (Ok c.in_ok-lines.lines)) c.in_ok-lines.ensures refl _ c.in-Some.ensures

@@ -1,12 +1,10 @@
-use Rattle.std.proofs.Common.{◌+◌, Bool, ap, arith}
 use Rattle.text_debug.specs.LineRuns.{run_on}
 use Rattle.text_debug.proofs.run_on.Goals as goal
 
-pub returns : goal.returns
+pub returns-then-s : goal.returns-then-s
 unfolding run_on
-returns c =
-    let k = c.args in
-    ap (λ (b : Bool). record { count = k.s.count + 1; last = k.address; fell = b; words = k.s.words; rise = k.s.rise }) c.falls-fell.ensures
+returns-then-s c = simp (c.if-s.true)
 
-pub overflow_add-result : goal.overflow_add-result
-overflow_add-result c = omega (arith, c.requires)
+pub returns-else-s : goal.returns-else-s
+unfolding run_on
+returns-else-s c = simp (c.if-s.false)

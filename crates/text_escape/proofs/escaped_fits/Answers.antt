@@ -1,12 +1,11 @@
 use native.Mathlib.Omega.{arith}
-use mathlib.Core.Path.{sym, ap, ◌∙◌}
+use mathlib.Core.Path.{sym, ◌∙◌}
 use Prim.Native.Nat.{ℕ, ◌*◌, ◌-◌, ◌≤◌}
 use lib.ListN.{length}
-use borrow.Author.Tests.{le-leb, lt-leb}
+use borrow.Author.Tests.{le-leb}
 use Rattle.object.specs.Texts.{text_bytes}
 use Rattle.word_chars.proofs.CharLaws.{size_is}
-use Rattle.measuring.specs.Room.{room_of}
-use Rattle.measuring.proofs.RoomLaws.{fits, short}
+use Rattle.measuring.proofs.RoomLaws.{said}
 use Rattle.text_escape.specs.Escaped.{escaped_in}
 use Rattle.text_escape.proofs.EscapeLaws.{escaped_short}
 use Rattle.text_escape.proofs.escaped_fits.Goals as goal
@@ -27,12 +26,6 @@ pub returns-then-end-start-2 : goal.returns-then-end-start-2
 returns-then-end-start-2 c =
     sym (le-leb (size (goal.at.returns-then-end-start-2 c).Start) c.args.room (omega (arith, few (goal.at.returns-then-end-start-2 c).Start, c.if-end-start-2.true, c.if-end-start.false)))
 
-pub returns-in-Left : goal.returns-in-Left
-returns-in-Left c =
-    sym (le-leb (size (goal.at.returns-in-Left c).Start) c.args.room
-    (fits c.args.room (size (goal.at.returns-in-Left c).Start) (sym (ap room_of c.in-Left.is) ∙ c.measure_escaped.ensures)).0)
-
-pub returns-in-Short : goal.returns-in-Short
-returns-in-Short c =
-    sym (lt-leb (size (goal.at.returns-in-Short c).Start) c.args.room
-    (short c.args.room (size (goal.at.returns-in-Short c).Start) (sym (ap room_of c.in-Short.is) ∙ c.measure_escaped.ensures)))
+pub returns : goal.returns
+returns c =
+    c.is_some.ensures ∙ said c.args.room (size (goal.at.returns c).Start) c.measure_escaped.result c.measure_escaped.ensures

@@ -1,29 +1,29 @@
 use native.Mathlib.Omega.{arith}
-use mathlib.Core.Path.{◌≡◌, ap, ◌∙◌}
-use mathlib.Core.Option.{some}
-use Prim.Native.Nat.{ℕ, ◌+◌, ◌-◌}
+use Prim.Native.Nat.{ℕ, ◌+◌}
 use lib.ListN.{length}
 use Rattle.format.specs.TextWriter.{decimal, to_right}
-use Rattle.measuring.proofs.RoomLaws.{less_none, less_some}
+use Rattle.measuring.proofs.RoomLaws.{fits-then, short-then}
 use Rattle.text_escape.proofs.measure_plain_row.Goals as goal
+use Rattle.text_escape.proofs.measure_plain_row.Goals.{Start}
 
-abbrev size : ℕ → ℕ → ℕ → ℕ
-size width number len = 13 + length (to_right width (decimal number)) + len
+-- the head and the cell
+abbrev left : Start → ℕ
+left s = length (to_right s.args.width (decimal s.args.number)) + s.args.len
 
-pub returns-then-room-lt13 : goal.returns-then-room-lt13
-returns-then-room-lt13 c = less_none c.args.room (size c.args.width c.args.number c.args.len) (omega (arith, c.if-room-lt13.true))
+pub returns-in_err-left : goal.returns-in_err-left
+returns-in_err-left c =
+    let s = (goal.at.returns-in_err-left c).Start in
+    rw c.from_residual.ensures (short-then c.args.room 13 (left s) (omega arith) c.in_err-left.ensures)
 
-pub returns-then-left-head : goal.returns-then-left-head
-returns-then-left-head c =
-    less_none c.args.room (size c.args.width c.args.number c.args.len) (omega (arith, c.if-left-head.true, c.if-room-lt13.false, c.column-head.ensures))
-
-pub returns-then-left-head-2 : goal.returns-then-left-head-2
-returns-then-left-head-2 c =
-    less_none c.args.room (size c.args.width c.args.number c.args.len) (omega (arith, c.if-left-head-2.true, c.if-left-head.false, c.if-room-lt13.false, c.column-head.ensures))
+pub returns-in_err-rest : goal.returns-in_err-rest
+returns-in_err-rest c =
+    let s = (goal.at.returns-in_err-rest c).Start in
+    rw c.from_residual-in_err-rest.ensures
+    (fits-then c.args.room 13 (left s) (omega arith) c.in_ok-left.ensures
+    (short-then c.in_ok-left.left c.column.result c.args.len (omega (arith, c.column.ensures)) c.in_err-rest.ensures))
 
 pub returns : goal.returns
 returns c =
-    let k = c.column-head.ensures in
-    let e : c.args.room - 13 - c.column-head.result - c.args.len ≡ c.args.room - size c.args.width c.args.number c.args.len = omega (arith, k) in
-    ap some e
-    ∙ less_some c.args.room (size c.args.width c.args.number c.args.len) (omega (arith, c.if-left-head-2.false, c.if-left-head.false, c.if-room-lt13.false, k))
+    let s = (goal.at.returns c).Start in
+    fits-then c.args.room 13 (left s) (omega arith) c.in_ok-left.ensures
+    (fits-then c.in_ok-left.left c.column.result c.args.len (omega (arith, c.column.ensures)) c.in_ok-rest.ensures c.take-3.ensures)

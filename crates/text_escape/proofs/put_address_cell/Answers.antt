@@ -8,7 +8,7 @@ use Rattle.format.specs.Basics.{ascii}
 use Rattle.format.specs.TextWriter.{memory_text, table_div}
 use Rattle.writing.proofs.Parts.{State, Emits, after, emit, emitted, within, small}
 use Rattle.measuring.proofs.FittingLaws.{first-put}
-use Rattle.text_numerals.specs.Memory.{known_word}
+use Rattle.text_numerals.specs.Memory.{word_of}
 use Rattle.text_escape.specs.Rows.{address_cell}
 use Rattle.text_escape.proofs.put_address_cell.Lts as lts
 use Rattle.text_escape.proofs.put_address_cell.Reads as reads
@@ -31,10 +31,10 @@ abbrev room : (s : Start) → List ℕ
 room s = s.args.out.now
 
 abbrev memory : (s : Start) → List ℕ
-memory s = memory_text (known_word s.args.known s.args.address)
+memory s = memory_text (word_of s.args.address)
 
 abbrev whole : (s : Start) → List ℕ
-whole s = address_cell (known_word s.args.known s.args.address)
+whole s = address_cell (word_of s.args.address)
 
 abbrev state1 : (c : After-put_bytes) → State ℕ
 state1 c = record { at = c.put_bytes-k.result; out = c.put_bytes-k.new.out }

@@ -15,7 +15,7 @@ use Rattle.text_escape.specs.Escaped.{escaped_in}
 use Rattle.text_escape.proofs.EscapeLaws.{escaped_end, escaped_some, escaped_nothing, escaped_stretch, some_bound}
 use Rattle.writing.proofs.Parts.{Emits, after, emit, emitted, within, small}
 use Rattle.text_escape.proofs.put_chars.Goals as goal
-use Rattle.text_escape.proofs.put_chars.Goals.{After-put_span-n, In-Scalar, After-put_escaped_char-n}
+use Rattle.text_escape.proofs.put_chars.Goals.{After-put_span-n, In-Some, After-put_escaped_char-n}
 
 -- bytes that stand for themselves are written
 emits1 : (c : After-put_span-n)
@@ -29,18 +29,18 @@ emits1 c =
     c.put_span-n.ensures
 
 -- a character
-char : (c : In-Scalar) → some (c.in-Scalar.value, c.in-Scalar.more) ≡ char_at (drop c.plain_end-j.result (text_bytes c.args.ws.now c.args.at c.args.end))
-char c = sym (ap char_of c.in-Scalar.is) ∙ c.char_in.ensures
+char : (c : In-Some) → some (c.in-Some.field-0.value, c.in-Some.field-0.more) ≡ char_at (drop c.plain_end-j.result (text_bytes c.args.ws.now c.args.at c.args.end))
+char c = sym (ap char_of c.in-Some.is) ∙ c.char_in.ensures
 
-next : (c : In-Scalar) → escaped_in c.args.ws.now c.args.at c.plain_end-j.result c.args.end
-    ≡ escape_char c.in-Scalar.value ++ escaped_in c.args.ws.now c.args.at (c.plain_end-j.result + (c.in-Scalar.more + 1)) c.args.end
-next c = escaped_some (text_bytes c.args.ws.now c.args.at c.args.end) c.plain_end-j.result c.in-Scalar.value c.in-Scalar.more (char c)
+next : (c : In-Some) → escaped_in c.args.ws.now c.args.at c.plain_end-j.result c.args.end
+    ≡ escape_char c.in-Some.field-0.value ++ escaped_in c.args.ws.now c.args.at (c.plain_end-j.result + (c.in-Some.field-0.more + 1)) c.args.end
+next c = escaped_some (text_bytes c.args.ws.now c.args.at c.args.end) c.plain_end-j.result c.in-Some.field-0.value c.in-Some.field-0.more (char c)
 
-lies : (c : In-Scalar) → c.plain_end-j.result + c.in-Scalar.more < c.args.end
+lies : (c : In-Some) → c.plain_end-j.result + c.in-Some.field-0.more < c.args.end
 lies c =
     omega (
       arith,
-      char_inside (text_bytes c.args.ws.now c.args.at c.args.end) c.plain_end-j.result c.in-Scalar.value c.in-Scalar.more (sym (char c)),
+      char_inside (text_bytes c.args.ws.now c.args.at c.args.end) c.plain_end-j.result c.in-Some.field-0.value c.in-Some.field-0.more (sym (char c)),
       size_is c.args.ws.now c.args.at c.args.end,
     )
 
@@ -60,26 +60,26 @@ slice_bounds-put_escaped_char-start c = within (emits1 (goal.at.slice_bounds-put
 
 pub put_escaped_char-n-requires : goal.put_escaped_char-n-requires
 put_escaped_char-n-requires c =
-    some_bound (text_bytes c.args.ws.now c.args.at c.args.end) c.plain_end-j.result c.in-Scalar.value c.in-Scalar.more
-    (char (goal.at.put_escaped_char-n-requires c).In-Scalar)
+    some_bound (text_bytes c.args.ws.now c.args.at c.args.end) c.plain_end-j.result c.in-Some.field-0.value c.in-Some.field-0.more
+    (char (goal.at.put_escaped_char-n-requires c).In-Some)
 
 pub overflow_add-n-in-loop-i : goal.overflow_add-n-in-loop-i
 overflow_add-n-in-loop-i c =
     let a = goal.at.overflow_add-n-in-loop-i c in
-    small (emit (emits1 a.After-put_span-n) (escape_char c.in-Scalar.value)
-    (escaped_in c.args.ws.now c.args.at (c.plain_end-j.result + (c.in-Scalar.more + 1)) c.args.end) (next a.In-Scalar) c.put_escaped_char-n.ensures) (omega arith)
+    small (emit (emits1 a.After-put_span-n) (escape_char c.in-Some.field-0.value)
+    (escaped_in c.args.ws.now c.args.at (c.plain_end-j.result + (c.in-Some.field-0.more + 1)) c.args.end) (next a.In-Some) c.put_escaped_char-n.ensures) (omega arith)
 
 pub overflow_add-i : goal.overflow_add-i
-overflow_add-i c = omega (arith, lies (goal.at.overflow_add-i c).In-Scalar)
+overflow_add-i c = omega (arith, lies (goal.at.overflow_add-i c).In-Some)
 
 pub overflow_add-i-in-loop-i : goal.overflow_add-i-in-loop-i
-overflow_add-i-in-loop-i c = omega (arith, lies (goal.at.overflow_add-i-in-loop-i c).In-Scalar)
+overflow_add-i-in-loop-i c = omega (arith, lies (goal.at.overflow_add-i-in-loop-i c).In-Some)
 
 pub loop-i-preserved : goal.loop-i-preserved
 loop-i-preserved c =
     let a = goal.at.loop-i-preserved c in
-    emit (emits1 a.After-put_span-n) (escape_char c.in-Scalar.value)
-    (escaped_in c.args.ws.now c.args.at (c.plain_end-j.result + (c.in-Scalar.more + 1)) c.args.end) (next a.In-Scalar) c.put_escaped_char-n.ensures
+    emit (emits1 a.After-put_span-n) (escape_char c.in-Some.field-0.value)
+    (escaped_in c.args.ws.now c.args.at (c.plain_end-j.result + (c.in-Some.field-0.more + 1)) c.args.end) (next a.In-Some) c.put_escaped_char-n.ensures
 
 pub returns : goal.returns
 returns c =

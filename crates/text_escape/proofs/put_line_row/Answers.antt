@@ -8,7 +8,7 @@ use lib.ListN.{length, length-append}
 use Rattle.writing.proofs.Parts.{State, Emits, after, emit, emitted, within, small}
 use Rattle.measuring.proofs.FittingLaws.{first-put, lent_room}
 use Rattle.format.specs.TextWriter.{decimal, to_right, text_line}
-use Rattle.text_numerals.specs.Memory.{known_word}
+use Rattle.text_numerals.specs.Memory.{word_of}
 use Rattle.text_escape.specs.Escaped.{escaped_in}
 use Rattle.text_escape.specs.Rows.{line_line, row_head}
 use Rattle.writing.proofs.WriteLaws.{too_short}
@@ -35,27 +35,27 @@ abbrev room : (s : Start) → List ℕ
 room s = s.args.out.now
 
 abbrev one : (s : Start) → List ℕ
-one s = row_head s.args.width s.args.number (known_word s.args.known s.args.address)
+one s = row_head s.args.width s.args.row.number (word_of s.args.row.address)
 
 abbrev two : (s : Start) → List ℕ
 two s = text_line (escaped_in s.args.ws.now s.args.at s.args.start s.args.end)
 
 abbrev whole : (s : Start) → List ℕ
-whole s = line_line s.args.width s.args.number (known_word s.args.known s.args.address)
+whole s = line_line s.args.width s.args.row.number (word_of s.args.row.address)
     (escaped_in s.args.ws.now s.args.at s.args.start s.args.end)
 
 parts : (s : Start) → (whole s) ≡ (one s) ++ (two s)
-parts s = row-parts s.args.width s.args.number (known_word s.args.known s.args.address)
+parts s = row-parts s.args.width s.args.row.number (word_of s.args.row.address)
     (escaped_in s.args.ws.now s.args.at s.args.start s.args.end)
 
 abbrev bytes : (s : Start) → ℕ
 bytes s =
-    11 + length (to_right s.args.width (decimal s.args.number))
+    11 + length (to_right s.args.width (decimal s.args.row.number))
     + length (escaped_in s.args.ws.now s.args.at s.args.start s.args.end)
 
 size : (s : Start) → length (whole s) ≡ (bytes s)
 size s =
-    line-length s.args.width s.args.number (known_word s.args.known s.args.address)
+    line-length s.args.width s.args.row.number (word_of s.args.row.address)
     (escaped_in s.args.ws.now s.args.at s.args.start s.args.end)
 
 enough : (e : Else1) → length (whole e.before.before.before.before) ≤ length (room e.before.before.before.before)

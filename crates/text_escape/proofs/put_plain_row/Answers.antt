@@ -7,19 +7,18 @@ use lib.ListN.{length, length-append}
 use Rattle.writing.proofs.Parts.{State, Emits, rest, after, emit, emitted, within, small}
 use Rattle.measuring.proofs.FittingLaws.{first-put, lent_room}
 use Rattle.format.specs.TextWriter.{decimal, to_right}
-use Rattle.text_numerals.specs.Memory.{known_word}
+use Rattle.text_numerals.specs.Memory.{word_of}
 use Rattle.object.specs.Texts.{span_bytes}
 use Rattle.text_escape.specs.Rows.{line_line, row_head, newline_bytes, plain_cell}
 use Rattle.object.proofs.SpanLaws.{span-length}
 use Rattle.writing.proofs.WriteLaws.{too_short}
-use Rattle.measuring.specs.Room.{room_of, less}
 use Rattle.writing.specs.Written.{Put}
-use mathlib.Core.Option.{Option, some}
+use mathlib.Core.Option.{Option}
 use borrow.Author.Rules.{rules}
-use Rattle.measuring.proofs.RoomLaws.{fits, short}
+use Rattle.measuring.proofs.RoomLaws.{roomy, roomless}
 use Rattle.text_escape.proofs.EscapeLaws.{line-length, row-parts, plain_parts}
 use Rattle.text_escape.proofs.put_plain_row.Goals as goal
-use Rattle.text_escape.proofs.put_plain_row.Goals.{In-Left, After-put_row_head-k}
+use Rattle.text_escape.proofs.put_plain_row.Goals.{After-put_row_head-k}
 
 module _ (ws : List ℕ) (width number : ℕ) (address : Option ℕ) (at start end : ℕ) where
   abbrev one : List ℕ
@@ -46,46 +45,46 @@ module _ (ws : List ℕ) (width number : ℕ) (address : Option ℕ) (at start e
       )
 
   -- it fits
-  module _ (room len left : ℕ) (e : len ≡ end - start) (m : some left ≡ less room (13 + length (to_right width (decimal number)) + len)) where
+  module _ (room len : ℕ) (e : len ≡ end - start) (m : 13 + length (to_right width (decimal number)) + len ≤ room) where
     enough : length whole ≤ room
-    enough = omega (arith, (fits room (13 + length (to_right width (decimal number)) + len) m).0, size len e)
+    enough = omega (arith, m, size len e)
 
     head-fits : length one ≤ room
     head-fits = omega (arith, enough, ap length parts, length-append one two)
 
 emits1 : (c : After-put_row_head-k)
-    → Emits (whole c.args.ws.now c.args.width c.args.number (known_word c.args.known c.args.address) c.args.at c.args.start c.args.end)
-    c.args.out.now (two c.args.ws.now c.args.width c.args.number (known_word c.args.known c.args.address) c.args.at c.args.start c.args.end)
+    → Emits (whole c.args.ws.now c.args.width c.args.row.number (word_of c.args.row.address) c.args.at c.args.start c.args.end)
+    c.args.out.now (two c.args.ws.now c.args.width c.args.row.number (word_of c.args.row.address) c.args.at c.args.start c.args.end)
     (record { at = c.put_row_head-k.result; out = c.put_row_head-k.new.out })
 emits1 c =
-    let o = known_word c.args.known c.args.address in
-    first-put (one c.args.ws.now c.args.width c.args.number o c.args.at c.args.start c.args.end)
-    (two c.args.ws.now c.args.width c.args.number o c.args.at c.args.start c.args.end) c.args.out.now
-    (parts c.args.ws.now c.args.width c.args.number o c.args.at c.args.start c.args.end)
-    (enough c.args.ws.now c.args.width c.args.number o c.args.at c.args.start c.args.end (length c.args.out.now) c.span_len.result c.in-Left.field-0
-    c.span_len.ensures (sym (ap room_of c.in-Left.is) ∙ c.measure_plain_row.ensures))
+    let o = word_of c.args.row.address in
+    first-put (one c.args.ws.now c.args.width c.args.row.number o c.args.at c.args.start c.args.end)
+    (two c.args.ws.now c.args.width c.args.row.number o c.args.at c.args.start c.args.end) c.args.out.now
+    (parts c.args.ws.now c.args.width c.args.row.number o c.args.at c.args.start c.args.end)
+    (enough c.args.ws.now c.args.width c.args.row.number o c.args.at c.args.start c.args.end (length c.args.out.now) c.span_len.result
+    c.span_len.ensures (roomy _ _ _ c.measure_plain_row.ensures c.if-is_none.ensures))
     c.put_row_head-k.ensures
 
 -- the rest
 last : {whole room two ys : List ℕ} {s : State ℕ} {r : ℕ} → Emits whole room two s → Put two (rest s) r ys → Emits whole room [] (after s r ys)
 last {two = two} f p = emit f two [] (sym (append-nil two)) p
 
-pub returns-in_default : goal.returns-in_default
-returns-in_default c =
-    let w = whole c.args.ws.now c.args.width c.args.number (known_word c.args.known c.args.address) c.args.at c.args.start c.args.end in
-    let l = short (length c.args.out.now) (13 + length (to_right c.args.width (decimal c.args.number)) + c.span_len.result)
-    (sym (ap room_of c.in_default.is) ∙ c.measure_plain_row.ensures) in
+pub returns-then-is_none : goal.returns-then-is_none
+returns-then-is_none c =
+    let w = whole c.args.ws.now c.args.width c.args.row.number (word_of c.args.row.address) c.args.at c.args.start c.args.end in
+    let l = roomless (length c.args.out.now) (13 + length (to_right c.args.width (decimal c.args.row.number)) + c.span_len.result) _
+    c.measure_plain_row.ensures c.if-is_none.ensures in
     too_short w c.args.out.now (length w) refl
     (omega (
       arith,
       l,
-      size c.args.ws.now c.args.width c.args.number (known_word c.args.known c.args.address) c.args.at c.args.start c.args.end c.span_len.result c.span_len.ensures,
+      size c.args.ws.now c.args.width c.args.row.number (word_of c.args.row.address) c.args.at c.args.start c.args.end c.span_len.result c.span_len.ensures,
     ))
 
 pub put_row_head-k-requires : goal.put_row_head-k-requires
 put_row_head-k-requires c =
-    head-fits c.args.ws.now c.args.width c.args.number (known_word c.args.known c.args.address) c.args.at c.args.start c.args.end
-    (length c.args.out.now) c.span_len.result c.in-Left.field-0 c.span_len.ensures (sym (ap room_of c.in-Left.is) ∙ c.measure_plain_row.ensures)
+    head-fits c.args.ws.now c.args.width c.args.row.number (word_of c.args.row.address) c.args.at c.args.start c.args.end
+    (length c.args.out.now) c.span_len.result c.span_len.ensures (roomy _ _ _ c.measure_plain_row.ensures c.if-is_none.ensures)
 
 pub slice_bounds-put_plain_cell-count : goal.slice_bounds-put_plain_cell-count
 slice_bounds-put_plain_cell-count c = within (emits1 (goal.at.slice_bounds-put_plain_cell-count c).After-put_row_head-k)

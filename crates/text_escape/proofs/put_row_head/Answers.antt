@@ -7,7 +7,7 @@ use lib.ListN.{length}
 use Rattle.writing.proofs.Parts.{State, Emits, after, emit, emitted, within, small}
 use Rattle.measuring.proofs.FittingLaws.{first-put, lent_room}
 use Rattle.format.specs.TextWriter.{decimal, to_right}
-use Rattle.text_numerals.specs.Memory.{known_word}
+use Rattle.text_numerals.specs.Memory.{word_of}
 use Rattle.text_escape.specs.Rows.{address_cell, row_head}
 use Rattle.text_escape.proofs.put_row_head.Lts as lts
 use Rattle.text_escape.proofs.put_row_head.Reads as reads
@@ -27,13 +27,13 @@ abbrev room : (s : Start) → List ℕ
 room s = s.args.out.now
 
 abbrev one : (s : Start) → List ℕ
-one s = to_right s.args.width (decimal s.args.number)
+one s = to_right s.args.width (decimal s.args.row.number)
 
 abbrev two : (s : Start) → List ℕ
-two s = address_cell (known_word s.args.known s.args.address)
+two s = address_cell (word_of s.args.row.address)
 
 abbrev whole : (s : Start) → List ℕ
-whole s = row_head s.args.width s.args.number (known_word s.args.known s.args.address)
+whole s = row_head s.args.width s.args.row.number (word_of s.args.row.address)
 
 parts : (s : Start) → (whole s) ≡ (one s) ++ (two s)
 parts s = refl

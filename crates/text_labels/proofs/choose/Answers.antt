@@ -2,17 +2,19 @@ use mathlib.Core.Path.{ap₂, ◌∙◌}
 use mathlib.Core.List.{List}
 use Prim.Native.Nat.{ℕ}
 use Rattle.format.specs.Sorted.{order}
-use Rattle.gather.specs.Tags.{rank}
-use Rattle.text_labels.proofs.StreamLaws.{chosen-start, chosen-symbol, chosen-rank}
+use Rattle.gather.specs.Tags.{as_cmp}
+use Rattle.gather.proofs.CompareLaws.{order_as_cmp}
+use Rattle.label_items.proofs.ChooseLaws.{chosen_none, chosen-start, chosen-symbol, chosen_both}
 use Rattle.text_labels.proofs.choose.Goals as goal
 
-pub returns-then-not-symbols : goal.returns-then-not-symbols
-returns-then-not-symbols c = chosen-start _ _ _ c.if-not-symbols.true
+pub returns-then-starts : goal.returns-then-starts
+returns-then-starts c = chosen-start _ _ _ c.if-not-symbols.true c.if-starts.true
+
+pub returns-else-starts : goal.returns-else-starts
+returns-else-starts c = chosen_none _ _ _ c.if-not-symbols.true c.if-starts.false
 
 pub returns-then-not-starts : goal.returns-then-not-starts
 returns-then-not-starts c = chosen-symbol _ _ _ c.if-not-symbols.false c.if-not-starts.true
 
 pub returns : goal.returns
-returns c =
-    chosen-rank _ _ _ c.compare_bytes-c.result c.if-not-symbols.false c.if-not-starts.false
-    (c.compare_bytes-c.ensures ∙ ap₂ (λ (x y : List ℕ). rank (order x y)) c.cell_at.ensures c.cell_at-2.ensures)
+returns c = chosen_both _ _ _ _ c.if-not-symbols.false c.if-not-starts.false (c.of.ensures _ (c.cmp.ensures ∙ order_as_cmp _ _ ∙ ap₂ (λ (x y : List ℕ). as_cmp (order x y)) c.cell_at.ensures c.cell_at-2.ensures))

@@ -7,8 +7,8 @@ use Rattle.text_labels.specs.Labels.{labels_of, left_in}
 use Rattle.text_labels.proofs.RoomLaws.{Measuring}
 use Rattle.text_labels.proofs.joined_room.Given as goal
 
-abbrev pub invariant-loop-s : goal.invariant-loop-s
-invariant-loop-s l = Measuring l.t (map record_words (map label (labels_of l.t))) l.room l.left l.initial.symbols l.symbols l.initial.starts l.starts l.s l.d
+abbrev pub invariant-loop-x : goal.invariant-loop-x
+invariant-loop-x l = Measuring l.t (map record_words (map label (labels_of l.t))) l.room l.left l.initial.symbols l.symbols l.initial.starts l.starts l.s l.d
 
-abbrev pub decreases-loop-s : goal.decreases-loop-s
-decreases-loop-s l = length (left_in 1 l.t l.symbols l.s) + length (left_in 3 l.t l.starts l.d)
+abbrev pub decreases-loop-x : goal.decreases-loop-x
+decreases-loop-x l = length (left_in 1 l.t l.symbols l.s) + length (left_in 3 l.t l.starts l.d)

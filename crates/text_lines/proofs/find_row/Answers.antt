@@ -1,17 +1,12 @@
-use mathlib.Core.Path.{sym, ap, ◌∙◌, subst}
-use Rattle.text_lines.specs.Lines.{kept, Next, LineAt}
+use mathlib.Core.Path.{sym, ap, ◌∙◌}
 use Rattle.text_lines.proofs.RowLaws.{row_line, row-none, parts-done}
 use Rattle.text_lines.proofs.find_row.Goals as goal
-use Rattle.text_lines.proofs.find_row.Goals.{In-At}
 
-line : (c : In-At) → LineAt kept c.args.t.now c.args.at c.in-At.start c.in-At.end c.in-At.next
-line c = subst (Next kept c.args.t.now c.args.at) c.in-At.is c.next_kept.ensures
-
-pub returns-in_default : goal.returns-in_default
-returns-in_default c = ap (λ p. p.before) (parts-done _ _ (subst (Next kept c.args.t.now c.args.at) c.in_default.is c.next_kept.ensures))
+pub returns-in_err-line : goal.returns-in_err-line
+returns-in_err-line c = rw c.from_residual.ensures (ap (λ p. p.before) (parts-done _ _ c.in_err-line.ensures))
 
 pub returns-then-begins_with : goal.returns-then-begins_with
-returns-then-begins_with c = row-none _ _ _ _ _ (line (goal.at.returns-then-begins_with c).In-At) (sym c.begins_with.ensures ∙ c.if-begins_with.true)
+returns-then-begins_with c = row-none _ _ _ _ _ c.in_ok-line.ensures (sym c.begins_with.ensures ∙ c.if-begins_with.true)
 
 pub returns : goal.returns
-returns c = row_line _ _ _ _ _ (line (goal.at.returns c).In-At) (sym c.begins_with.ensures ∙ c.if-begins_with.false)
+returns c = row_line _ _ _ _ _ c.in_ok-line.ensures (sym c.begins_with.ensures ∙ c.if-begins_with.false)

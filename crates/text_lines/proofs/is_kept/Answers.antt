@@ -7,7 +7,7 @@ use Rattle.text_lines.proofs.is_kept.Goals as goal
 
 pub returns-then-shows_row : goal.returns-then-shows_row
 returns-then-shows_row c =
-    kept_shown _ _ c.if-i-s.true c.spaces_end-i.ensures (c.shows_row.ensures c.if-shows_row.true)
+    kept_shown _ _ c.if-i-s.true (c.spaces_end-i.ensures.0, c.spaces_end-i.ensures.2) (c.shows_row.ensures c.if-shows_row.true)
 
 pub returns-then-begins_with : goal.returns-then-begins_with
 returns-then-begins_with c = kept_comment _ (sym c.begins_with.ensures ∙ c.if-begins_with.true)

@@ -9,7 +9,7 @@ returns-then-s-i-eq10 c =
 
 pub loop-i-preserved : goal.loop-i-preserved
 loop-i-preserved c =
-    (omega arith, omega arith, omega (arith, line_on c.args.s.now c.loop-i.i c.loop-i-test.true c.if-s-i-eq10.false))
+    (omega arith, omega (arith, line_on c.args.s.now c.loop-i.i c.loop-i-test.true c.if-s-i-eq10.false))
 
 pub returns : goal.returns
 returns c =

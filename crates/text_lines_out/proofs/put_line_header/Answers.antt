@@ -1,111 +1,72 @@
 -- Three parts. Assumes nothing.
 use borrow.Author.Rules.{rules}
-use native.Mathlib.Omega.{arith}
 use mathlib.Core.Path.{refl, sym, subst}
 use mathlib.Core.List.{List, [], ◌++◌, append-nil}
-use Prim.Native.Nat.{ℕ, ◌-◌, ◌^◌, ◌≤◌, ◌<◌}
-use lib.ListN.{length}
+use Prim.Native.Nat.{ℕ, ◌-◌}
 use Rattle.writing.specs.Written.{Put}
 use Rattle.writing.proofs.WriteLaws.{too_short}
 use Rattle.writing.proofs.Parts.{State, Emits, rest, after, emit, emitted, within, small}
+use Rattle.measuring.proofs.RoomLaws.{roomy, roomless}
 use Rattle.measuring.proofs.FittingLaws.{first-put}
 use Rattle.format.specs.Basics.{ascii}
 use Rattle.format.specs.TextWriter.{spaces, text_line, line_header}
-use Rattle.text_lines_out.proofs.LineLaws.{after_name, header-parts, header-length}
-use Rattle.text_lines_out.proofs.put_line_header.Lts as lts
-use Rattle.text_lines_out.proofs.put_line_header.Reads as reads
-use Rattle.text_lines_out.proofs.put_line_header.Tie as tie
+use Rattle.text_lines_out.proofs.LineLaws.{after_name, header-parts}
 use Rattle.text_lines_out.proofs.put_line_header.Goals as goal
+use Rattle.text_lines_out.proofs.put_line_header.Goals.{After-put_bytes-k, After-put_spaces-k}
 
-abbrev After-put_bytes2 : Type 0
-After-put_bytes2 = lts.After-put_bytes2 tie.the-claims reads.Pre reads.Post
-
-abbrev After-put_spaces : Type 0
-After-put_spaces = lts.After-put_spaces tie.the-claims reads.Pre reads.Post
-
-abbrev After-put_bytes : Type 0
-After-put_bytes = lts.After-put_bytes tie.the-claims reads.Pre reads.Post
-
-abbrev Else2 : Type 0
-Else2 = lts.Else2 tie.the-claims reads.Pre reads.Post
-
-abbrev Start : Type 0
-Start = lts.Start tie.the-claims reads.Pre reads.Post
-
-abbrev room : Start → List ℕ
-room t = t.args.out.now
-
-abbrev whole : Start → List ℕ
-whole t = text_line (line_header t.args.width)
-
-enough : (c : Else2) → length (whole c.before.before.before.before) ≤ length (room c.before.before.before.before)
-enough c =
-    omega (arith, header-length c.args.width, c.minus-fill.ensures, c.if-out-lt21.false, c.if-out-fill.false)
-
-tight : (c : Else2) → length (room c.before.before.before.before) < 2 ^ 64
-tight c = search rules
-
-abbrev left1 : Start → List ℕ
-left1 t = spaces (t.args.width - 4) ++ after_name
-
-abbrev state1 : After-put_bytes → State ℕ
+abbrev state1 : After-put_bytes-k → State ℕ
 state1 c = record { at = c.put_bytes-k.result; out = c.put_bytes-k.new.out }
 
-emits1 : (c : After-put_bytes) → Emits (whole c.before.before.before.before.before.before.before.before) (room c.before.before.before.before.before.before.before.before) (left1 c.before.before.before.before.before.before.before.before) (state1 c)
+emits1 : (c : After-put_bytes-k)
+    → Emits (text_line (line_header c.args.width)) c.args.out.now (spaces (c.args.width - 4) ++ after_name) (state1 c)
 unfolding ascii
 emits1 c =
-    first-put (ascii "LINE") (left1 c.before.before.before.before.before.before.before.before) (room c.before.before.before.before.before.before.before.before) (header-parts c.args.width) (enough c.before.before.before.before) c.put_bytes-k.ensures
+    first-put (ascii "LINE") (spaces (c.args.width - 4) ++ after_name) c.args.out.now (header-parts c.args.width)
+    (roomy _ _ _ c.measure_line_header.ensures c.if-is_none.ensures) c.put_bytes-k.ensures
 
-abbrev left2 : Start → List ℕ
-left2 t = after_name
+-- the spaces, and the rest of the header, into what is left
+second : (c : After-put_spaces-k) {whole room : List ℕ} {s : State ℕ} → Emits whole room (spaces (c.args.width - 4) ++ after_name) s
+    → {r : ℕ} {ys : List ℕ} → Put (spaces c.saturating_sub-fill.result) (rest s) r ys → Emits whole room after_name (after s r ys)
+second c {s = s} f {r} {ys} p =
+    emit f (spaces (c.args.width - 4)) after_name refl (subst (λ (n : ℕ). Put (spaces n) (rest s) r ys) c.saturating_sub-fill.ensures p)
 
-abbrev state2 : After-put_spaces → State ℕ
-state2 c = after (state1 c.before.before.before.before) c.put_spaces-k.result c.put_spaces-k.new.out
+last : {whole room : List ℕ} {s : State ℕ} → Emits whole room after_name s
+    → {r : ℕ} {ys : List ℕ} → Put after_name (rest s) r ys → Emits whole room [] (after s r ys)
+last f p = emit f after_name [] (sym (append-nil after_name)) p
 
-emits2 : (c : After-put_spaces) → Emits (whole c.before.before.before.before.before.before.before.before.before.before.before.before) (room c.before.before.before.before.before.before.before.before.before.before.before.before) (left2 c.before.before.before.before.before.before.before.before.before.before.before.before) (state2 c)
-unfolding ascii
-emits2 c =
-    emit (emits1 c.before.before.before.before) (spaces (c.args.width - 4)) (left2 c.before.before.before.before.before.before.before.before.before.before.before.before) refl
-    (subst (λ (n : ℕ). Put (spaces n) (rest (state1 c.before.before.before.before)) c.put_spaces-k.result
-    c.put_spaces-k.new.out) c.minus-fill.ensures
-    c.put_spaces-k.ensures)
-
-abbrev left3 : Start → List ℕ
-left3 t = []
-
-abbrev state3 : After-put_bytes2 → State ℕ
-state3 c = after (state2 c.before.before.before.before.before.before) c.put_bytes.result c.put_bytes.new.out
-
-emits3 : (c : After-put_bytes2) → Emits (whole c.before.before.before.before.before.before.before.before.before.before.before.before.before.before.before.before.before.before) (room c.before.before.before.before.before.before.before.before.before.before.before.before.before.before.before.before.before.before) (left3 c.before.before.before.before.before.before.before.before.before.before.before.before.before.before.before.before.before.before) (state3 c)
-unfolding ascii
-emits3 c =
-    emit (emits2 c.before.before.before.before.before.before) (after_name) (left3 c.before.before.before.before.before.before.before.before.before.before.before.before.before.before.before.before.before.before) (sym (append-nil _)) c.put_bytes.ensures
-
-pub returns-then-out-lt21 : goal.returns-then-out-lt21
-returns-then-out-lt21 c = let a = c.args in too_short _ _ _ (header-length a.width) (omega (arith, c.if-out-lt21.true))
-
-pub returns-then-out-fill : goal.returns-then-out-fill
-returns-then-out-fill c =
-    let a = c.args in
-    too_short _ _ _ (header-length a.width) (omega (arith, c.if-out-lt21.false, c.if-out-fill.true, c.minus-fill.ensures))
+pub returns-then-is_none : goal.returns-then-is_none
+returns-then-is_none c =
+    too_short (text_line (line_header c.args.width)) _ _ refl (roomless _ _ _ c.measure_line_header.ensures c.if-is_none.ensures)
 
 pub slice_bounds-put_spaces-count : goal.slice_bounds-put_spaces-count
-slice_bounds-put_spaces-count c = within (emits1 c.before.before.before)
+slice_bounds-put_spaces-count c = within (emits1 (goal.at.slice_bounds-put_spaces-count c).After-put_bytes-k)
 
 pub slice_bounds-put_spaces-start : goal.slice_bounds-put_spaces-start
-slice_bounds-put_spaces-start c = within (emits1 c.before.before.before)
+slice_bounds-put_spaces-start c = within (emits1 (goal.at.slice_bounds-put_spaces-start c).After-put_bytes-k)
 
 pub overflow_add-k : goal.overflow_add-k
-overflow_add-k c = small (emits2 c.before.before.before) (tight c.before.before.before.before.before.before.before.before.before.before.before)
+overflow_add-k c =
+    let g = goal.at.overflow_add-k c in
+    small (second g.After-put_spaces-k (emits1 g.After-put_bytes-k) c.put_spaces-k.ensures) (search rules)
 
 pub slice_bounds-put_bytes-count : goal.slice_bounds-put_bytes-count
-slice_bounds-put_bytes-count c = within (emits2 c.before.before.before)
+slice_bounds-put_bytes-count c =
+    let g = goal.at.slice_bounds-put_bytes-count c in
+    within (second g.After-put_spaces-k (emits1 g.After-put_bytes-k) c.put_spaces-k.ensures)
 
 pub slice_bounds-put_bytes-start : goal.slice_bounds-put_bytes-start
-slice_bounds-put_bytes-start c = within (emits2 c.before.before.before)
-
-pub returns : goal.returns
-returns c = emitted (emits3 c.before.before.before) refl
+slice_bounds-put_bytes-start c =
+    let g = goal.at.slice_bounds-put_bytes-start c in
+    within (second g.After-put_spaces-k (emits1 g.After-put_bytes-k) c.put_spaces-k.ensures)
 
 pub overflow_add-result : goal.overflow_add-result
-overflow_add-result c = small (emits3 c.before.before.before) (tight c.before.before.before.before.before.before.before.before.before.before.before.before.before.before.before.before.before)
+unfolding ascii
+overflow_add-result c =
+    let g = goal.at.overflow_add-result c in
+    small (last (second g.After-put_spaces-k (emits1 g.After-put_bytes-k) c.put_spaces-k.ensures) c.put_bytes.ensures) (search rules)
+
+pub returns : goal.returns
+unfolding ascii
+returns c =
+    let g = goal.at.returns c in
+    emitted (last (second g.After-put_spaces-k (emits1 g.After-put_bytes-k) c.put_spaces-k.ensures) c.put_bytes.ensures) refl

@@ -6,6 +6,7 @@ use lib.Dec.{eqb}
 use Rattle.format.proofs.ListLaws.{by_test}
 use Rattle.object.specs.Access.{kind_at, line_block_at}
 use Rattle.text_lines_out.specs.Merge.{smaller}
+use Rattle.text_lines_out.proofs.LineLaws.{max-is}
 use Rattle.text_lines_out.proofs.TableLaws.{top_other, top_none, top_some}
 use Rattle.text_lines_out.proofs.top_at.Goals as goal
 
@@ -25,7 +26,7 @@ returns c =
     by_test (eqb (kind_at a.ws.now a.at) 3)
     (λ u. let k = eqb-true (kind_at a.ws.now a.at) 3 u in
     let b = c.lines_at-lines.ensures.block k in
-    c.larger.ensures
+    c.max.ensures ∙ max-is t c.last_line.result
     ∙ ap (λ (x : ℕ). t + (x - t))
     (c.last_line.ensures
     ∙ ap (λ (x : ℕ). smaller (x + (count - 1)) (2 ^ 64 - 1)) b.0

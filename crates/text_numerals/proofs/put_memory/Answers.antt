@@ -2,6 +2,6 @@
 use Rattle.format.specs.Basics.{ascii}
 use Rattle.text_numerals.proofs.put_memory.Goals as goal
 
-pub returns : goal.returns
+pub returns-in-None : goal.returns-in-None
 unfolding ascii
-returns c = rw c.if-known.false c.put_bytes.ensures
+returns-in-None c = rw c.in-None.is c.put_bytes.ensures

@@ -4,7 +4,7 @@ use mathlib.Core.Path.{◌≡◌, refl, sym, ap, ◌∙◌}
 use mathlib.Core.List.{List, ◌++◌, flat_map}
 use Prim.Native.Nat.{ℕ, ◌≤◌, ◌<◌}
 use lib.ListN.{length}
-use Rattle.measuring.specs.Room.{room_of, less_part}
+use Rattle.measuring.specs.Room.{less_part}
 use Rattle.measuring.proofs.RoomLaws.{less-nothing, part-fits, part-short}
 use Rattle.text_parts_out.specs.Parts.{heads, link_text}
 use Rattle.text_parts_out.proofs.HeadLaws.{next-less, heads-end, heads-next}
@@ -27,12 +27,12 @@ here c = ap (flat_map (link_text (ws c))) (heads-next (ws c) (at c) c.body_end-e
 less-on : (c : After-body_end-end) → ((at c) < c.body_end-end.result) × (c.body_end-end.result ≤ length (ws c))
 less-on c = next-less (ws c) (at c) c.body_end-end.result c.loop-at-test.true c.body_end-end.ensures
 
-pub returns-in_default : goal.returns-in_default
-returns-in_default c =
+pub returns-in_err-left : goal.returns-in_err-left
+returns-in_err-left c =
     let o = c.loop-at in
-    part-short o.left (link_text (ws (goal.at.returns-in_default c).After-body_end-end) (at (goal.at.returns-in_default c).After-body_end-end)) (rows_from (ws (goal.at.returns-in_default c).After-body_end-end) c.body_end-end.result) (here (goal.at.returns-in_default c).After-body_end-end)
-    (sym (ap room_of c.in_default.is) ∙ c.measure_relocation.ensures)
-    ∙ o.invariant
+    rw c.from_residual.ensures (part-short o.left (link_text (ws (goal.at.returns-in_err-left c).After-body_end-end) (at (goal.at.returns-in_err-left c).After-body_end-end)) (rows_from (ws (goal.at.returns-in_err-left c).After-body_end-end) c.body_end-end.result) (here (goal.at.returns-in_err-left c).After-body_end-end)
+    c.in_err-left.ensures
+    ∙ o.invariant)
 
 pub loop-at-smaller : goal.loop-at-smaller
 loop-at-smaller c = let w = less-on (goal.at.loop-at-smaller c).After-body_end-end in omega (arith, w.0, w.1)
@@ -41,7 +41,7 @@ pub loop-at-preserved : goal.loop-at-preserved
 loop-at-preserved c =
     let o = c.loop-at in
     part-fits o.left (link_text (ws (goal.at.loop-at-preserved c).After-body_end-end) (at (goal.at.loop-at-preserved c).After-body_end-end)) (rows_from (ws (goal.at.loop-at-preserved c).After-body_end-end) c.body_end-end.result) (here (goal.at.loop-at-preserved c).After-body_end-end)
-    (sym (ap room_of c.in-Left.is) ∙ c.measure_relocation.ensures)
+    c.in_ok-left.ensures
     ∙ o.invariant
 
 pub returns : goal.returns

@@ -9,13 +9,12 @@ use Rattle.writing.proofs.WriteLaws.{too_short}
 use Rattle.writing.proofs.Parts.{Emits, after, emit, emitted, within, small}
 use Rattle.object.specs.Bodies.{body_at}
 use Rattle.object.specs.Access.{address_in}
-use Rattle.measuring.specs.Room.{room_of}
-use Rattle.measuring.proofs.RoomLaws.{fits, short}
+use Rattle.measuring.proofs.RoomLaws.{roomy, roomless}
 use Rattle.measuring.proofs.FittingLaws.{first-put, lent_room}
 use Rattle.text_parts_out.specs.Parts.{memory_lines, block_text}
 use Rattle.text_parts_out.proofs.PartLaws.{block-parts, block_size}
 use Rattle.text_parts_out.proofs.put_block.Goals as goal
-use Rattle.text_parts_out.proofs.put_block.Goals.{In-Left, After-put_block_head-n, After-put_memory_lines}
+use Rattle.text_parts_out.proofs.put_block.Goals.{Else-is_none, After-put_block_head-n, After-put_memory_lines}
 
 module _ (ws : List ℕ) (at count : ℕ) where
   abbrev head : List ℕ
@@ -33,12 +32,12 @@ module _ (ws : List ℕ) (at count : ℕ) where
   size q = block_size ws at ∙ ap (λ (k : ℕ). length (decimal k) + 6 + 5 * k) (sym q)
 
 -- it fits
-enough : (c : In-Left) → length (block_text c.args.ws.now c.args.at) ≤ length c.args.out.now
+enough : (c : Else-is_none) → length (block_text c.args.ws.now c.args.at) ≤ length c.args.out.now
 enough c =
     omega (
       arith,
       size c.args.ws.now c.args.at c.args.count c.requires.1,
-      (fits (length c.args.out.now) _ (sym (ap room_of c.in-Left.is) ∙ c.block_room.ensures)).0,
+      roomy (length c.args.out.now) _ _ c.block_room.ensures c.if-is_none.ensures,
     )
 
 emits1 : (c : After-put_block_head-n) → length (block_text c.args.ws.now c.args.at) ≤ length c.args.out.now
@@ -56,9 +55,9 @@ emits2 : (c : After-put_memory_lines)
     (after (record { at = c.put_block_head-n.result; out = c.put_block_head-n.new.out }) c.put_memory_lines.result c.put_memory_lines.new.out)
 emits2 c f = emit f (words c.args.ws.now c.args.at c.args.count) [] (sym (append-nil _)) c.put_memory_lines.ensures
 
-pub returns-in_default : goal.returns-in_default
-returns-in_default c =
-    let l = short (length c.args.out.now) _ (sym (ap room_of c.in_default.is) ∙ c.block_room.ensures) in
+pub returns-then-is_none : goal.returns-then-is_none
+returns-then-is_none c =
+    let l = roomless (length c.args.out.now) _ _ c.block_room.ensures c.if-is_none.ensures in
     too_short (block_text c.args.ws.now c.args.at) c.args.out.now _ (size c.args.ws.now c.args.at c.args.count c.requires.1) l
 
 pub put_block_head-n-requires : goal.put_block_head-n-requires
@@ -66,30 +65,30 @@ put_block_head-n-requires c =
     let a = c.args in
     omega (
       arith,
-      enough (goal.at.put_block_head-n-requires c).In-Left,
+      enough (goal.at.put_block_head-n-requires c).Else-is_none,
       ap length (parts a.ws.now a.at a.count c.requires.1),
       length-append (head a.ws.now a.at a.count) (words a.ws.now a.at a.count),
     )
 
 pub slice_bounds-put_memory_lines-count : goal.slice_bounds-put_memory_lines-count
 slice_bounds-put_memory_lines-count c =
-    let g = goal.at.slice_bounds-put_memory_lines-count c in within (emits1 g.After-put_block_head-n (enough g.In-Left))
+    let g = goal.at.slice_bounds-put_memory_lines-count c in within (emits1 g.After-put_block_head-n (enough g.Else-is_none))
 
 pub slice_bounds-put_memory_lines-start : goal.slice_bounds-put_memory_lines-start
 slice_bounds-put_memory_lines-start c =
-    let g = goal.at.slice_bounds-put_memory_lines-start c in within (emits1 g.After-put_block_head-n (enough g.In-Left))
+    let g = goal.at.slice_bounds-put_memory_lines-start c in within (emits1 g.After-put_block_head-n (enough g.Else-is_none))
 
 pub put_memory_lines-requires : goal.put_memory_lines-requires
 put_memory_lines-requires c =
     let g = goal.at.put_memory_lines-requires c in
-    lent_room (emits1 g.After-put_block_head-n (enough g.In-Left)) (words c.args.ws.now c.args.at c.args.count) [] (sym (append-nil _))
+    lent_room (emits1 g.After-put_block_head-n (enough g.Else-is_none)) (words c.args.ws.now c.args.at c.args.count) [] (sym (append-nil _))
 
 pub overflow_add-result : goal.overflow_add-result
 overflow_add-result c =
     let g = goal.at.overflow_add-result c in
-    small (emits2 g.After-put_memory_lines (emits1 g.After-put_block_head-n (enough g.In-Left))) (omega arith)
+    small (emits2 g.After-put_memory_lines (emits1 g.After-put_block_head-n (enough g.Else-is_none))) (omega arith)
 
 pub returns : goal.returns
 returns c =
     let g = goal.at.returns c in
-    emitted (emits2 g.After-put_memory_lines (emits1 g.After-put_block_head-n (enough g.In-Left))) refl
+    emitted (emits2 g.After-put_memory_lines (emits1 g.After-put_block_head-n (enough g.Else-is_none))) refl

@@ -1,6 +1,6 @@
 -- Record by record. Assumes nothing.
 use native.Mathlib.Omega.{arith}
-use mathlib.Core.Path.{sym, ap, ◌∙◌}
+use mathlib.Core.Path.{sym, ap}
 use mathlib.Core.List.{List}
 use Prim.Native.Nat.{ℕ, ◌+◌, ◌-◌, ◌^◌, ◌<◌}
 use lib.ListN.{length}
@@ -8,6 +8,9 @@ use Rattle.writing.proofs.Parts.{Emits, after, emitted, small}
 use Rattle.measuring.specs.Fitting.{fitting}
 use Rattle.measuring.proofs.FittingLaws.{fill_begin, fill_one}
 use Rattle.text_parts_out.specs.Parts.{heads, leading, block_text}
+use borrow.Author.Tests.{not-true, not-false}
+use Rattle.object.specs.declared.Kind.TheVariants as kind
+use Rattle.object.proofs.KindLaws.{number_is, number_not}
 use Rattle.text_parts_out.proofs.HeadLaws.{leading_end, leading-other, leading-next}
 use Rattle.text_parts_out.proofs.put_blocks.Goals as goal
 use Rattle.text_parts_out.proofs.put_blocks.Goals.{After-put_block-n}
@@ -29,7 +32,7 @@ emits c =
     c.put_block-n.result
     (ap (fitting (block_text (ws c)) (length (room c) - c.loop-at.n))
     (leading-next (ws c) (at c) c.body_end-end.result c.loop-at-test.true c.body_end-end.ensures
-    (sym c.kind.ensures ∙ c.if-kind-ne0.false)))
+    (number_is c.of.result kind.Block _ c.of.ensures (sym (not-false _ (sym c.if-ne.ensures))))))
     c.put_block-n.ensures
 
 tight : (c : After-put_block-n) → length (room c) < 2 ^ 64
@@ -39,14 +42,14 @@ pub loop-at-init : goal.loop-at-init
 loop-at-init c =
     let a = c.args in fill_begin (block_text a.ws.now) (leading a.ws.now (heads a.ws.now 0)) a.out.now
 
-pub returns-then-kind-ne0 : goal.returns-then-kind-ne0
+pub returns-then-ne : goal.returns-then-ne
 unfolding fitting
-returns-then-kind-ne0 c =
+returns-then-ne c =
     let o = c.loop-at in
     let a = c.args in
     emitted o.invariant
     (ap (fitting (block_text a.ws.now) (length a.out.now - o.n))
-    (leading-other a.ws.now o.at c.loop-at-test.true (λ z. c.if-kind-ne0.true (c.kind.ensures ∙ z))))
+    (leading-other a.ws.now o.at c.loop-at-test.true (number_not c.of.result kind.Block _ c.of.ensures (sym (not-true _ (sym c.if-ne.ensures))))))
 
 pub returns : goal.returns
 unfolding fitting

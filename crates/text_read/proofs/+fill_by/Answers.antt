@@ -5,7 +5,7 @@ use Rattle.text_read.proofs.+fill_by.Invariants.{turns}
 use Rattle.text_read.proofs.+fill_by.Goals as goal
 
 pub fill_in-requires : goal.fill_in-requires
-fill_in-requires t c = (c.requires.0, c.requires.1, c.gather_few-cached.ensures)
+fill_in-requires t c = (c.requires.0, c.requires.1, c.gather-cached.ensures)
 
 -- no more turns after the next
 pub fill_by-requires : goal.fill_by-requires

@@ -1,31 +1,32 @@
 use native.Mathlib.Omega.{arith}
-use mathlib.Core.Path.{◌≡◌, ap}
-use Prim.Native.Nat.{ℕ, ◌+◌, ◌/◌, ◌^◌, ◌<◌}
+use mathlib.Core.Bool.{true, false}
+use mathlib.Core.Path.{◌≡◌, refl, ap, ◌∙◌}
+use Prim.Native.Nat.{ℕ, ◌+◌, ◌^◌, ◌<◌}
+use Rattle.text_words.proofs.WordLaws.{thirds}
 use Rattle.text_read.specs.Parts.{debug_words}
 use Rattle.text_read.proofs.PartLaws.{debug_none, debug_some}
 use Rattle.text_read.proofs.fixed_words.Goals as goal
-use Rattle.text_read.proofs.fixed_words.Goals.{Else-not-sourced}
+use Rattle.text_read.proofs.fixed_words.Goals.{After-div_ceil}
 
-small : (c : Else-not-sourced) → c.args.lines.len < 2 ^ 63
-small c = c.requires.1 c.if-not-sourced.false
+few : (c : After-div_ceil) → c.args.words + debug_words true c.in-Some.rows.lines < 2 ^ 64
+few c = rw c.in-Some.is at c.requires.0
 
-abbrev debug : (c : Else-not-sourced) → let a = c.args in a.lines.words + (1 + (a.lines.len + 2) / 3) ≡ debug_words a.sourced a.lines
-debug c = debug_some c.args.sourced c.args.lines c.if-not-sourced.false
+debug : (c : After-div_ceil) → c.in-Some.rows.lines.words + (1 + c.div_ceil.result) ≡ debug_words true c.in-Some.rows.lines
+debug c =
+    let l = c.in-Some.rows.lines in
+    ap (λ (n : ℕ). l.words + (1 + n)) (c.div_ceil.ensures ∙ thirds l.len) ∙ debug_some true l refl
 
-pub returns-then-not-sourced : goal.returns-then-not-sourced
-returns-then-not-sourced c = debug_none _ _ _ c.if-not-sourced.true
+pub returns-in-None : goal.returns-in-None
+returns-in-None c = rw c.in-None.is (debug_none false _ _ refl)
 
-pub overflow_add-result : goal.overflow_add-result
-overflow_add-result c = omega (arith, small (goal.at.overflow_add-result c).Else-not-sourced)
+pub overflow_add-result-in-Some : goal.overflow_add-result-in-Some
+overflow_add-result-in-Some c =
+    let d = (goal.at.overflow_add-result-in-Some c).After-div_ceil in omega (arith, debug d, few d)
 
-pub overflow_add-result-2 : goal.overflow_add-result-2
-overflow_add-result-2 c = omega (arith, small (goal.at.overflow_add-result-2 c).Else-not-sourced)
+pub overflow_add-result-in-Some-2 : goal.overflow_add-result-in-Some-2
+overflow_add-result-in-Some-2 c =
+    let d = (goal.at.overflow_add-result-in-Some-2 c).After-div_ceil in omega (arith, debug d, few d)
 
-pub overflow_add-result-3 : goal.overflow_add-result-3
-overflow_add-result-3 c = omega (arith, debug (goal.at.overflow_add-result-3 c).Else-not-sourced, c.requires.0)
-
-pub overflow_add-result-4 : goal.overflow_add-result-4
-overflow_add-result-4 c = omega (arith, debug (goal.at.overflow_add-result-4 c).Else-not-sourced, c.requires.0)
-
-pub returns : goal.returns
-returns c = ap (λ (k : ℕ). c.args.words + k) (debug (goal.at.returns c).Else-not-sourced)
+pub returns-in-Some : goal.returns-in-Some
+returns-in-Some c =
+    rw c.in-Some.is (ap (λ (k : ℕ). c.args.words + k) (debug (goal.at.returns-in-Some c).After-div_ceil))

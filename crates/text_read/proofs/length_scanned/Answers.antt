@@ -1,11 +1,14 @@
 use native.Mathlib.Omega.{arith}
-use mathlib.Core.Path.{◌≡◌, sym, ap, ◌∙◌, subst}
+use mathlib.Core.Path.{◌≡◌, refl, sym, ap, ap₂, ◌∙◌}
+use mathlib.Core.Bool.{Bool}
 use mathlib.Core.List.{List}
 use Prim.Native.Nat.{ℕ, ◌+◌, ◌-◌, ◌<◌, ◌^◌}
 use lib.ListN.{length, take, drop}
 use Rattle.format.specs.Utf8.{trim}
 use Rattle.text_lines.proofs.LineLaws.{to_end}
 use Rattle.text_read.specs.Parts.{rest_words}
+use Rattle.std.specs.Prelude.{Ok}
+use Rattle.text_scan.specs.Scan.{scan_view}
 use Rattle.text_read.proofs.FileLaws.{lent_small, lent_length, lent_few, lent_given}
 use Rattle.text_read.proofs.length_scanned.Goals as goal
 use Rattle.text_read.proofs.length_scanned.Goals.{After-trim-w}
@@ -21,18 +24,21 @@ trimmed_is c = ap trim (sym (to_end (bytes c) 0)) ∙ sym c.trim-w.ensures.1.sam
 
 pub fixed_words-fixed-requires : goal.fixed_words-fixed-requires
 fixed_words-fixed-requires c =
-    (lent_small (bytes (goal.at.fixed_words-fixed-requires c).After-trim-w) c.args.scanned c.requires.0 c.requires.1 (short (goal.at.fixed_words-fixed-requires c).After-trim-w), lent_length (bytes (goal.at.fixed_words-fixed-requires c).After-trim-w) c.args.scanned c.requires.0 c.requires.1 (short (goal.at.fixed_words-fixed-requires c).After-trim-w))
+    (lent_small (bytes (goal.at.fixed_words-fixed-requires c).After-trim-w) (scan_view (Ok c.args.scanned)) c.requires refl (short (goal.at.fixed_words-fixed-requires c).After-trim-w), lent_length (bytes (goal.at.fixed_words-fixed-requires c).After-trim-w) (scan_view (Ok c.args.scanned)) c.requires refl (short (goal.at.fixed_words-fixed-requires c).After-trim-w))
 
-pub object_length-n-requires : goal.object_length-n-requires
-object_length-n-requires c =
-    subst (λ (n : ℕ). n + rest_words (take (c.trim-w.result.end - c.trim-w.result.start) (drop c.trim-w.result.start (bytes (goal.at.object_length-n-requires c).After-trim-w))) c.args.scanned.sourced < 2 ^ 64)
-    (sym c.fixed_words-fixed.ensures) (lent_few (bytes (goal.at.object_length-n-requires c).After-trim-w) c.args.scanned c.requires.0 c.requires.1 (short (goal.at.object_length-n-requires c).After-trim-w) _ (trimmed_is (goal.at.object_length-n-requires c).After-trim-w))
+abbrev trimmed : After-trim-w → List ℕ
+trimmed c = let w = c.trim-w.result in take (w.end - w.start) (drop w.start (bytes c))
+
+pub object_length-requires : goal.object_length-requires
+object_length-requires c =
+    let w = (goal.at.object_length-requires c).After-trim-w in
+    rw (c.fixed_words-fixed.ensures, c.is_some.ensures) (lent_few (bytes w) (scan_view (Ok c.args.scanned)) c.requires refl (short w) _ (trimmed_is w))
 
 pub returns : goal.returns
 returns c =
-    lent_given (bytes (goal.at.returns c).After-trim-w) c.args.scanned c.requires.0 c.requires.1 (short (goal.at.returns c).After-trim-w) _ (trimmed_is (goal.at.returns c).After-trim-w) _
-    (c.object_length-n.ensures
-    ∙ ap (λ (n : ℕ). n + rest_words (take (c.trim-w.result.end - c.trim-w.result.start) (drop c.trim-w.result.start (bytes (goal.at.returns c).After-trim-w))) c.args.scanned.sourced) c.fixed_words-fixed.ensures)
+    let w = (goal.at.returns c).After-trim-w in
+    lent_given (bytes w) (scan_view (Ok c.args.scanned)) c.requires refl (short w) _ (trimmed_is w) _
+    (c.object_length.ensures ∙ ap₂ (λ (n : ℕ) (b : Bool). n + rest_words (trimmed w) b) c.fixed_words-fixed.ensures c.is_some.ensures)
 
 pub slice_bounds-object_length-count : goal.slice_bounds-object_length-count
 slice_bounds-object_length-count c = c.trim-w.ensures.1.ordered

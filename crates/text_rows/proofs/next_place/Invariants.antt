@@ -1,10 +1,11 @@
 use Prim.Native.Nat.{◌-◌}
 use lib.ListN.{length}
+use Rattle.text_rows.specs.Rows.{number_of}
 use Rattle.text_rows.proofs.StepLaws.{Seeking}
 use Rattle.text_rows.proofs.next_place.Given as goal
 
-abbrev pub invariant-loop-p : goal.invariant-loop-p
-invariant-loop-p l = Seeking l.kind l.t l.from l.at
+abbrev pub invariant-loop-row : goal.invariant-loop-row
+invariant-loop-row l = Seeking (number_of l.kind) l.t l.from l.at
 
-abbrev pub decreases-loop-p : goal.decreases-loop-p
-decreases-loop-p l = length l.t - l.at
+abbrev pub decreases-loop-row : goal.decreases-loop-row
+decreases-loop-row l = length l.t - l.at

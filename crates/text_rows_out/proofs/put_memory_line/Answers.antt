@@ -1,78 +1,38 @@
--- Two parts. Assumes nothing.
+-- The word, then the newline. Assumes nothing.
 use native.Mathlib.Omega.{arith}
-use mathlib.Core.Path.{refl, sym, subst}
+use mathlib.Core.Path.{refl, sym, ap, subst}
 use mathlib.Core.List.{List, [], ◌∷◌, append-nil}
 use Prim.Native.Nat.{ℕ}
 use Rattle.writing.specs.Written.{Put}
 use Rattle.writing.proofs.WriteLaws.{too_short}
-use Rattle.writing.proofs.Parts.{State, Emits, rest, after, begin, emit, emitted, within, small}
+use Rattle.writing.proofs.Parts.{Emits, emit, emitted, within, small}
+use Rattle.measuring.proofs.FittingLaws.{first-put}
 use Rattle.format.specs.TextWriter.{memory_text, text_line}
 use Rattle.object.specs.Access.{memory_in}
-use Rattle.text_rows_out.proofs.RowLaws.{memory_length, memory_known}
-use Rattle.text_rows_out.proofs.put_memory_line.Lts as lts
-use Rattle.text_rows_out.proofs.put_memory_line.Reads as reads
-use Rattle.text_rows_out.proofs.put_memory_line.Tie as tie
+use Rattle.text_rows_out.proofs.RowLaws.{memory_length}
 use Rattle.text_rows_out.proofs.put_memory_line.Goals as goal
+use Rattle.text_rows_out.proofs.put_memory_line.Goals.{After-put_memory-k}
 
-abbrev After-put_u8 : Type 0
-After-put_u8 = lts.After-put_u8 tie.the-claims reads.Pre reads.Post
-
-abbrev After-put_memory : Type 0
-After-put_memory = lts.After-put_memory tie.the-claims reads.Pre reads.Post
-
-abbrev Else1 : Type 0
-Else1 = lts.Else1 tie.the-claims reads.Pre reads.Post
-
-abbrev Start : Type 0
-Start = lts.Start tie.the-claims reads.Pre reads.Post
-
-abbrev room : Start → List ℕ
-room t = t.args.out.now
-
-abbrev whole : Start → List ℕ
-whole t = text_line (memory_text (memory_in t.args.w))
-
-abbrev state0 : Start → State ℕ
-state0 t = record { at = 0; out = room t }
-
-emits0 : (c : Else1) → Emits (whole c.before.before) (room c.before.before) (whole c.before.before) (state0 c.before.before)
-emits0 c = begin _ _ (omega (arith, memory_length c.args.w, c.if-out-lt5.false))
-
-abbrev left1 : Start → List ℕ
-left1 t = 0x0A ∷ []
-
-abbrev state1 : After-put_memory → State ℕ
-state1 c = after (state0 c.before.before.before.before) c.put_memory-at.result c.put_memory-at.new.out
-
-emits1 : (c : After-put_memory) → Emits (whole c.before.before.before.before) (room c.before.before.before.before) (left1 c.before.before.before.before) (state1 c)
+emits1 : (c : After-put_memory-k)
+    → Emits (text_line (memory_text (memory_in c.args.w))) c.args.out.now (0x0A ∷ [])
+    (record { at = c.put_memory-k.result; out = c.put_memory-k.new.out })
 emits1 c =
-    let t = c.before.before.before.before in
-    emit (emits0 c.before.before) (memory_text (memory_in t.args.w)) (left1 t) refl
-    (subst (λ (p : List ℕ). Put p (rest (state0 t)) c.put_memory-at.result c.put_memory-at.new.out) (memory_known
-    t.args.w _ refl) c.put_memory-at.ensures)
-
-abbrev left2 : Start → List ℕ
-left2 t = []
-
-abbrev state2 : After-put_u8 → State ℕ
-state2 c = after (state1 c.before.before.before.before) c.put_u8-at.result c.put_u8-at.new.out
-
-emits2 : (c : After-put_u8) → Emits (whole c.before.before.before.before.before.before.before.before) (room c.before.before.before.before.before.before.before.before) (left2 c.before.before.before.before.before.before.before.before) (state2 c)
-emits2 c =
-    let t = c.before.before.before.before.before.before.before.before in
-    emit (emits1 c.before.before.before.before) (0x0A ∷ []) (left2 t) (sym (append-nil _)) c.put_u8-at.ensures
+    first-put (memory_text (memory_in c.args.w)) (0x0A ∷ []) c.args.out.now refl (omega (arith, memory_length c.args.w, c.if-out-lt5.false))
+    (subst (λ (p : List ℕ). Put p c.args.out.now c.put_memory-k.result c.put_memory-k.new.out) (ap memory_text c.memory_in.ensures)
+    c.put_memory-k.ensures)
 
 pub returns-then-out-lt5 : goal.returns-then-out-lt5
 returns-then-out-lt5 c = too_short _ _ _ (memory_length c.args.w) c.if-out-lt5.true
 
 pub slice_bounds-put_u8-count : goal.slice_bounds-put_u8-count
-slice_bounds-put_u8-count c = within (emits1 c.before.before.before)
+slice_bounds-put_u8-count c = within (emits1 (goal.at.slice_bounds-put_u8-count c).After-put_memory-k)
 
 pub slice_bounds-put_u8-start : goal.slice_bounds-put_u8-start
-slice_bounds-put_u8-start c = within (emits1 c.before.before.before)
+slice_bounds-put_u8-start c = within (emits1 (goal.at.slice_bounds-put_u8-start c).After-put_memory-k)
 
-pub overflow_add-at-2 : goal.overflow_add-at-2
-overflow_add-at-2 c = small (emits2 c.before.before.before) (omega arith)
+pub overflow_add-result : goal.overflow_add-result
+overflow_add-result c =
+    small (emit (emits1 (goal.at.overflow_add-result c).After-put_memory-k) _ [] (sym (append-nil _)) c.put_u8.ensures) (omega arith)
 
 pub returns : goal.returns
-returns c = emitted (emits2 c.before.before.before) refl
+returns c = emitted (emit (emits1 (goal.at.returns c).After-put_memory-k) _ [] (sym (append-nil _)) c.put_u8.ensures) refl

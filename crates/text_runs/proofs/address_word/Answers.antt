@@ -1,13 +1,13 @@
-use mathlib.Core.Path.{sym, ap, ◌∙◌}
-use Rattle.text_tables.specs.LineRows.{line_of}
+use mathlib.Core.Path.{ap, ◌∙◌}
+use Prim.Native.Nat.{ℕ, ◌+◌}
 use Rattle.text_runs.proofs.RunLaws.{word-known, word_unknown, word-bad}
 use Rattle.text_runs.proofs.address_word.Goals as goal
 
-pub returns-in-Known : goal.returns-in-Known
-returns-in-Known c = word-known _ _ _ (sym (ap line_of c.in-Known.is) ∙ c.parse_line_row.ensures)
+pub returns-in-Some-address : goal.returns-in-Some-address
+returns-in-Some-address c = ap (λ (n : ℕ). 0x2001_0000 + n) c.from.ensures ∙ word-known _ c.in-Some.row _ c.in-Some.ensures c.in-Some-address.is
 
-pub returns-in-Unknown : goal.returns-in-Unknown
-returns-in-Unknown c = word_unknown _ _ (sym (ap line_of c.in-Unknown.is) ∙ c.parse_line_row.ensures)
+pub returns-in-None : goal.returns-in-None
+returns-in-None c = word_unknown _ c.in-Some.row c.in-Some.ensures c.in-None.is
 
-pub returns-in-Bad : goal.returns-in-Bad
-returns-in-Bad c = word-bad _ (sym (ap line_of c.in-Bad.is) ∙ c.parse_line_row.ensures)
+pub returns-in_default : goal.returns-in_default
+returns-in_default c = word-bad _ c.in_default.ensures

@@ -9,17 +9,10 @@ use Rattle.object.specs.Texts.{text_bytes}
 use Rattle.word_chars.proofs.CharLaws.{byte_is, size_is}
 use Rattle.text_lines_out.specs.Merge.{smaller}
 use Rattle.text_runs_out.specs.Lines.{next_start}
+use Rattle.text_lines_out.proofs.LineLaws.{min-is}
 use Rattle.text_runs_out.proofs.StartLaws.{passed_on, passed_clear, next-found, next-none}
-use Rattle.text_runs_out.proofs.next_line.Lts as lts
-use Rattle.text_runs_out.proofs.next_line.Reads as reads
-use Rattle.text_runs_out.proofs.next_line.Tie as tie
 use Rattle.text_runs_out.proofs.next_line.Goals as goal
-
-abbrev After-text_byte : Type 0
-After-text_byte = lts.After-text_byte tie.the-claims reads.Pre reads.Post goal.the-invariant-loop-i goal.the-decreases-loop-i
-
-abbrev After-loop : Type 0
-After-loop = lts.After-loop tie.the-claims reads.Pre reads.Post goal.the-invariant-loop-i goal.the-decreases-loop-i
+use Rattle.text_runs_out.proofs.next_line.Goals.{After-text_byte, After-loop-i}
 
 abbrev text : (c : After-text_byte) → List ℕ
 text c = text_bytes c.args.ws.now c.args.at c.args.n
@@ -40,7 +33,7 @@ few : (c : After-text_byte) → length (text c) < 2 ^ 64
 few c = let h : c.args.n < 2 ^ 64 = search rules in omega (arith, (size c), h)
 
 -- no newline is found
-over : (c : After-loop) → let a = c.args in
+over : (c : After-loop-i) → let a = c.args in
     smaller (a.n + 1) (2 ^ 64 - 1) ≡ next_start (text_bytes a.ws.now a.at a.n) a.start
 over c =
     let a = c.args in
@@ -49,9 +42,6 @@ over c =
     ap (λ (k : ℕ). smaller (k + 1) (2 ^ 64 - 1)) (sym z)
     ∙ sym (next-none text a.start c.loop-i.i c.loop-i.invariant (omega (arith, z, c.loop-i-test.false)))
 
-low : (n : ℕ) → n < 2 ^ 64 → (n ≡ 0xFFFF_FFFF_FFFF_FFFF → ⊥) → n + 1 ≡ smaller (n + 1) (2 ^ 64 - 1)
-low n h k = omega (arith, h, k)
-
 pub loop-i-init : goal.loop-i-init
 loop-i-init c =
     let a = c.args in
@@ -59,18 +49,13 @@ loop-i-init c =
 
 pub returns-then-text_byte-eq10 : goal.returns-then-text_byte-eq10
 returns-then-text_byte-eq10 c =
-    sym (next-found (text c.before.before) c.args.start (i c.before.before) c.loop-i.invariant (there c.before.before) (sym (byte c.before.before) ∙ c.if-text_byte-eq10.true) (few c.before.before))
+    let b = (goal.at.returns-then-text_byte-eq10 c).After-text_byte in
+    sym (next-found (text b) c.args.start (i b) c.loop-i.invariant (there b) (sym (byte b) ∙ c.if-text_byte-eq10.true) (few b))
 
 pub loop-i-preserved : goal.loop-i-preserved
 loop-i-preserved c =
-    passed_on (text c.before.before) c.args.start (i c.before.before) c.loop-i.invariant (there c.before.before) (λ z. c.if-text_byte-eq10.false (byte c.before.before ∙ z))
-
-pub returns-then-n-eq18446744073709551615 : goal.returns-then-n-eq18446744073709551615
-returns-then-n-eq18446744073709551615 c =
-    let n = c.args.n in
-    let e : n ≡ smaller (n + 1) (2 ^ 64 - 1) = omega (arith, c.if-n-eq18446744073709551615.true) in e ∙ over c.before.before
+    let b = (goal.at.loop-i-preserved c).After-text_byte in
+    passed_on (text b) c.args.start (i b) c.loop-i.invariant (there b) (λ z. c.if-text_byte-eq10.false (byte b ∙ z))
 
 pub returns : goal.returns
-returns c =
-    let n = c.args.n in
-    let h : n < 2 ^ 64 = search rules in low n h c.if-n-eq18446744073709551615.false ∙ over c.before.before
+returns c = c.saturating_add.ensures ∙ min-is _ _ ∙ over (goal.at.returns c).After-loop-i

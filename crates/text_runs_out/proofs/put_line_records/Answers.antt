@@ -15,6 +15,7 @@ use Rattle.text_lines_out.specs.Runs.{address_from, run_rows}
 use Rattle.text_lines_out.specs.Walk.{record_rows}
 use Rattle.text_parts_out.specs.Parts.{heads}
 use Rattle.text_runs_out.specs.Lines.{row_lines, itself, placed_rows}
+use Rattle.text_lines_out.proofs.LineLaws.{min-is}
 use Rattle.text_runs_out.proofs.RunLaws.{placed-lines, placed-over}
 use Rattle.text_runs_out.proofs.put_line_records.Lts as lts
 use Rattle.text_runs_out.proofs.put_line_records.Reads as reads
@@ -81,13 +82,13 @@ tight : (c : After-put_line_record) → length (room c.before.before.before.befo
 tight c = search rules
 
 abbrev last : (c : After-put_run) → List Row
-last c = run_rows c.loop-at.done (address_from false (ws c.before.before.before.before.before.before.before.before) 0) 0 c.minus.result
+last c = run_rows c.loop-at.done (address_from false (ws c.before.before.before.before.before.before.before.before) 0) 0 c.saturating_sub.result
 
 last_is : (c : After-put_run) → lines_from c.before.before.before.before.before.before.before.before c.loop-at.at c.loop-at.done c.loop-at.next ≡ row_lines (ws c.before.before.before.before.before.before.before.before) c.args.t (last c) c.loop-at.next
 last_is c =
     ap (λ (rs : List Row). row_lines (ws c.before.before.before.before.before.before.before.before) c.args.t rs c.loop-at.next)
     (placed-over (ws c.before.before.before.before.before.before.before.before) c.args.t c.loop-at.at c.loop-at.done c.loop-at.next c.loop-at-test.false
-    ∙ ap (run_rows c.loop-at.done (address_from false (ws c.before.before.before.before.before.before.before.before) 0) 0) (sym c.minus.ensures))
+    ∙ ap (run_rows c.loop-at.done (address_from false (ws c.before.before.before.before.before.before.before.before) 0) 0) (sym c.saturating_sub.ensures))
 
 emits_last : (c : After-put_run) → Emits (all c.before.before.before.before.before.before.before.before) (room c.before.before.before.before.before.before.before.before) [] (after (record { at = c.loop-at.len; out = c.loop-at.out }) c.put_run-last.result.len c.put_run-last.new.out)
 emits_last c =
@@ -100,7 +101,7 @@ tight_last c = search rules
 pub loop-at-init : goal.loop-at-init
 loop-at-init c =
     subst (λ (e : ℕ). Emits (all c.before.before.before.before) (room c.before.before.before.before) (fitting itself (length (room c.before.before.before.before) - 0) (lines_from c.before.before.before.before c.args.from e c.args.start))
-    (record { at = 0; out = room c.before.before.before.before })) (sym c.smaller_line-done.ensures)
+    (record { at = 0; out = room c.before.before.before.before })) (sym (c.min-done.ensures ∙ min-is _ _))
     (fill_begin itself (lines_from c.before.before.before.before c.args.from (smaller c.args.t.wraps c.args.t.lines) c.args.start) (room c.before.before.before.before))
 
 pub overflow_add-len : goal.overflow_add-len

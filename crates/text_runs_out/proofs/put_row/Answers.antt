@@ -4,7 +4,7 @@ use mathlib.Core.Path.{sym, subst}
 use mathlib.Core.List.{List}
 use Prim.Native.Nat.{ℕ, ◌^◌, ◌<◌}
 use Rattle.writing.specs.Written.{Put}
-use Rattle.text_numerals.specs.Memory.{known_word}
+use Rattle.text_numerals.specs.Memory.{word_of}
 use Rattle.text_escape.specs.Rows.{line_line, PlainLine}
 use Rattle.text_runs_out.proofs.StartLaws.{plain_next, plain_cell_lem}
 use Rattle.text_runs_out.proofs.put_row.Goals as goal
@@ -25,7 +25,7 @@ few c = search rules
 pub returns : goal.returns
 returns c =
     let a = c.args in (
-      subst (λ (x : List ℕ). Put (line_line a.t.width a.number (known_word a.known a.address) x) a.out.now
+      subst (λ (x : List ℕ). Put (line_line a.t.width a.row.number (word_of a.row.address) x) a.out.now
           c.put_plain_row-len.result c.put_plain_row-len.new.out)
           (sym (plain_cell_lem (ws (goal.at.returns c).Else-t-end) a.t.text a.t.n a.start (end (goal.at.returns c).Else-t-end) c.if-t-end.false (few (goal.at.returns c).Else-t-end) (plain (goal.at.returns c).Else-t-end))) c.put_plain_row-len.ensures,
       sym (plain_next (ws (goal.at.returns c).Else-t-end) a.t.text a.t.n a.start (end (goal.at.returns c).Else-t-end) c.if-t-end.false (few (goal.at.returns c).Else-t-end) (plain (goal.at.returns c).Else-t-end)),

@@ -9,10 +9,10 @@ use lib.ListN.{length}
 use Rattle.format.specs.TextWriter.{Row}
 use Rattle.writing.specs.Written.{Put}
 use Rattle.writing.proofs.Parts.{Emits, rest, after, emitted, small}
-use Rattle.text_numerals.specs.Memory.{known_word}
+use Rattle.text_numerals.specs.Memory.{word_of}
 use Rattle.measuring.specs.Fitting.{fitting}
 use Rattle.measuring.proofs.FittingLaws.{fill_begin, fill_one}
-use Rattle.text_lines_out.specs.Runs.{address_from, run_rows, rows_of}
+use Rattle.text_lines_out.specs.Runs.{addresses_of, run_rows, rows_of}
 use Rattle.text_runs_out.specs.Lines.{line_at, row_line, row_lines, start_past, itself}
 use Rattle.text_runs_out.proofs.RunLaws.{run-lines, run-start, run-lines-over, run-start-over}
 use Rattle.text_runs_out.proofs.put_run.Goals as goal
@@ -25,7 +25,7 @@ abbrev room : (c : After-put_row-row) → List ℕ
 room c = c.args.out.now
 
 abbrev f : (c : After-put_row-row) → ℕ → Option ℕ
-f c = address_from c.args.run.known (ws c) c.args.run.place
+f c = addresses_of c.args.run.place (ws c)
 
 abbrev k : (c : After-put_row-row) → ℕ
 k c = c.loop-k.k
@@ -39,11 +39,10 @@ later c = run_rows c.args.run.first (f c) ((k c) + 1) (c.args.run.count - ((k c)
 abbrev line : (c : After-put_row-row) → List ℕ
 line c = row_line (ws c) c.args.t (c.args.run.first + (k c)) ((f c) (k c)) (at c)
 
-is_line : (c : After-put_row-row) → line_at (ws c) c.args.t c.wrapping_add-line.result.0 (known_word c.args.run.known c.line_address-address.result) (at c) ≡ (line c)
+is_line : (c : After-put_row-row) → line_at (ws c) c.args.t c.row.result.number (word_of c.row.result.address) (at c) ≡ line c
 is_line c =
-    ap (λ (i : ℕ). line_at (ws c) c.args.t i (known_word c.args.run.known c.line_address-address.result) (at c)) c.wrapping_add-line.ensures
-    ∙ ap (λ (v : ℕ). line_at (ws c) c.args.t ((c.args.run.first + (k c)) % 2 ^ 64) (known_word c.args.run.known v) (at c))
-    c.line_address-address.ensures
+    ap (λ (i : ℕ). line_at (ws c) c.args.t i (word_of c.row.result.address) (at c)) c.row.ensures.0
+    ∙ ap (λ (o : Option ℕ). line_at (ws c) c.args.t ((c.args.run.first + k c) % 2 ^ 64) o (at c)) c.row.ensures.1
 
 emits : (c : After-put_row-row) → Emits (fitting itself (length (room c)) (row_lines (ws c) c.args.t (rows_of (ws c) c.args.run) c.args.start)) (room c)
     (fitting itself (length (room c) - (c.loop-k.len + c.put_row-row.result.len)) (row_lines (ws c) c.args.t (later c) c.put_row-row.result.start))
@@ -63,7 +62,7 @@ tight c = search rules
 pub loop-k-init : goal.loop-k-init
 loop-k-init c = let a = c.args in
     let w = a.ws.now in
-    let f = address_from a.run.known w a.run.place in
+    let f = addresses_of a.run.place w in
     let e : a.run.count ≡ a.run.count - 0 = omega arith in
     let all = fitting itself (length a.out.now) (row_lines w a.t (rows_of w a.run) a.start) in (
       subst (λ (n : ℕ). Emits all a.out.now (fitting itself (length a.out.now - 0) (row_lines w a.t (run_rows a.run.first f 0 n) a.start))
@@ -84,7 +83,7 @@ unfolding fitting
 returns c = let o = c.loop-k in
     let a = c.args in
     let w = a.ws.now in
-    let f = address_from a.run.known w a.run.place in (
+    let f = addresses_of a.run.place w in (
       emitted o.invariant.0
           (ap (fitting itself (length a.out.now - o.len))
           (run-lines-over w a.t a.run.first f o.k a.run.count o.next c.loop-k-test.false)),

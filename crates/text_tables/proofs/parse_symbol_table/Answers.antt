@@ -2,40 +2,40 @@ use native.Mathlib.Omega.{arith}
 use mathlib.Core.Path.{refl, sym, ap, ◌∙◌, subst}
 use mathlib.Core.List.{List}
 use mathlib.Core.Option.{Option}
+use Rattle.std.specs.Prelude.{Ok}
 use Rattle.format.specs.Basics.{need}
-use Rattle.text_lines.specs.Groups.{NextRow, RowAt, group_view}
+use Rattle.text_lines.specs.Groups.{group_view}
 use Rattle.text_tables.specs.Symbols.{NextSymbol, Sym, symbol_in}
 use Rattle.format.specs.Calls.{refusal_of}
 use Rattle.text_tables.proofs.ReadLaws.{read_done}
 use Rattle.text_tables.proofs.SymbolLaws.{group_none, header_no, header-yes}
 use Rattle.text_lines.proofs.RowLaws.{parts_of, row-groups}
 use Rattle.text_tables.proofs.parse_symbol_table.Goals as goal
-use Rattle.text_tables.proofs.parse_symbol_table.Goals.{In-At}
-
-row : (c : In-At) → RowAt c.args.t.now c.args.at c.in-At.start c.in-At.end c.in-At.next
-row c = subst (NextRow c.args.t.now c.args.at) c.in-At.is c.next_row.ensures
 
 pub returns-in_default : goal.returns-in_default
-returns-in_default c = let e = subst (NextRow c.args.t.now c.args.at) c.in_default.is c.next_row.ensures in
+returns-in_default c =
+    let e = c.in_default.ensures in
     record { same = sym (group_none _ _ e); from = omega arith; after = λ z. parts_of _ _ _ e refl }
 
 pub returns-then-not-parse_symbol_header : goal.returns-then-not-parse_symbol_header
 returns-then-not-parse_symbol_header c = record {
-  same = sym (header_no _ _ _ _ _ (row (goal.at.returns-then-not-parse_symbol_header c).In-At) (sym c.parse_symbol_header.ensures ∙ c.if-not-parse_symbol_header.true));
+  same = sym (header_no _ _ _ _ _ c.in-Some.ensures (sym c.parse_symbol_header.ensures ∙ c.if-not-parse_symbol_header.true));
   from = omega arith;
   after = λ z. absurd (omega arith);
 }
 
-pub loop-n-init : goal.loop-n-init
-loop-n-init c = let r = row (goal.at.loop-n-init c).In-At in
+pub loop-next-init : goal.loop-next-init
+loop-next-init c =
+    let r = c.in-Some.ensures in
     (omega (arith, r.on), row-groups _ _ _ _ _ r, header-yes _ _ _ _ _ r (sym c.parse_symbol_header.ensures ∙ c.if-not-parse_symbol_header.false))
 
-pub returns-in-Done : goal.returns-in-Done
-returns-in-Done c = let i = c.loop-n.invariant in
+pub returns : goal.returns
+returns c =
+    let i = c.loop-next.invariant in
     let t = c.args.t.now in
-    let e = subst (NextSymbol t c.loop-n.i) c.in-Done.is c.next_symbol-step.ensures in
+    let e = subst (λ o. NextSymbol t c.loop-next.i (Ok o)) c.in_default-2.is c.in_ok-next.ensures in
     record {
-      same = sym (ap (λ (o : Option (List Sym)). refusal_of (need 26 o)) (read_done symbol_in (group_view t) t c.loop-n.i e)) ∙ i.2;
+      same = sym (ap (λ (o : Option (List Sym)). refusal_of (need 26 o)) (read_done symbol_in (group_view t) t c.loop-next.i e)) ∙ i.2;
       from = i.0;
-      after = λ z. parts_of t c.loop-n.i _ e i.1;
+      after = λ z. parts_of t c.loop-next.i _ e i.1;
     }

@@ -9,8 +9,8 @@ use Rattle.text_tables.specs.Symbols.{symbols_from}
 use Rattle.format.specs.Calls.{refusal_of}
 use Rattle.text_tables.proofs.parse_symbol_table.Given as goal
 
-abbrev pub invariant-loop-n : goal.invariant-loop-n
-invariant-loop-n l = (l.at ≤ l.i) × ((parts_from l.t l.i).groups ≡ (parts_from l.t l.at).groups) × (refusal_of (need 26 (symbols_from l.t l.i)) ≡ refusal_of (parse_symbol_group empty_object (parts_from l.t l.at).before))
+abbrev pub invariant-loop-next : goal.invariant-loop-next
+invariant-loop-next l = (l.at ≤ l.i) × ((parts_from l.t l.i).groups ≡ (parts_from l.t l.at).groups) × (refusal_of (need 26 (symbols_from l.t l.i)) ≡ refusal_of (parse_symbol_group empty_object (parts_from l.t l.at).before))
 
-abbrev pub decreases-loop-n : goal.decreases-loop-n
-decreases-loop-n l = length l.t - l.i
+abbrev pub decreases-loop-next : goal.decreases-loop-next
+decreases-loop-next l = length l.t - l.i

@@ -1,74 +1,59 @@
 -- Two parts: the first word, and the words of the name. Assumes nothing.
 use borrow.Author.Rules.{rules}
 use native.Mathlib.Omega.{arith}
-use mathlib.Core.Path.{refl, sym}
+use mathlib.Core.Path.{◌≡◌, refl, sym, ap}
 use mathlib.Core.List.{List, [], ◌∷◌, append-nil}
-use Prim.Native.Nat.{ℕ, ◌+◌}
+use Prim.Native.Nat.{ℕ, ◌+◌, ◌≤◌}
+use lib.ListN.{length}
 use Rattle.format.specs.ObjectFile.{Relocation}
 use Rattle.format.specs.Records.{relocation}
 use Rattle.format.specs.Words.{text_words, record_words}
+use Rattle.writing.specs.Written.{Put}
 use Rattle.writing.proofs.WriteLaws.{too_short}
-use Rattle.writing.proofs.Parts.{State, Emits, after, begin, emit, emitted, within, small}
+use Rattle.writing.proofs.Parts.{State, Emits, after, rest, begin, emit, emitted, within, small}
 use Rattle.format.proofs.Counts.{relocation-length}
-use Rattle.text_words.proofs.put_relocation.Lts as lts
-use Rattle.text_words.proofs.put_relocation.Reads as reads
-use Rattle.text_words.proofs.put_relocation.Tie as tie
+use Rattle.text_words.proofs.WordLaws.{thirds}
 use Rattle.text_words.proofs.put_relocation.Goals as goal
+use Rattle.text_words.proofs.put_relocation.Goals.{After-put_word-at}
 
-abbrev After-put_text_words : Type 0
-After-put_text_words = lts.After-put_text_words tie.the-claims reads.Pre reads.Post
+module _ (out : List ℕ) (x : Relocation) where
+  abbrev start : State ℕ
+  start = record { at = 0; out = out }
 
-abbrev After-put_word : Type 0
-After-put_word = lts.After-put_word tie.the-claims reads.Pre reads.Post
+  head-put : (w r : ℕ) (o : List ℕ) → length (record_words (relocation x)) ≤ length out → w ≡ 0xA000_0000 + x.address
+      → Put (w ∷ []) (rest start) r o → Emits (record_words (relocation x)) out (text_words x.name) (after start r o)
+  unfolding record_words
+  head-put w r o h e p = emit (begin _ _ h) (w ∷ []) _ (ap (λ (y : ℕ). y ∷ text_words x.name) (sym e)) p
 
-abbrev Else1 : Type 0
-Else1 = lts.Else1 tie.the-claims reads.Pre reads.Post
+emits1 : (c : After-put_word-at) →
+    let a = c.args in
+    Emits (record_words (relocation (record { address = a.address; name = a.name.now }))) a.out.now
+    (text_words a.name.now) (after (record { at = 0; out = a.out.now }) c.put_word-at.result c.put_word-at.new.out)
+emits1 c =
+    let a = c.args in
+    let x : Relocation = record { address = a.address; name = a.name.now } in
+    head-put a.out.now x _ _ _ (omega (arith, relocation-length x, c.if-out-div_ceil.false, c.div_ceil.ensures, thirds (length a.name.now)))
+    (ap (λ (n : ℕ). 0xA000_0000 + n) c.from.ensures) c.put_word-at.ensures
 
-abbrev Start : Type 0
-Start = lts.Start tie.the-claims reads.Pre reads.Post
-
-abbrev room : Start → List ℕ
-room t = t.args.out.now
-
-abbrev stands : Start → Relocation
-stands t = record { address = t.args.address; name = t.args.name.now }
-
-abbrev whole : Start → List ℕ
-whole t = record_words (relocation (stands t))
-
-abbrev state0 : Start → State ℕ
-state0 t = record { at = 0; out = room t }
-
-emits0 : (c : Else1) → Emits (whole c.before.before.before) (room c.before.before.before) (whole c.before.before.before) (state0 c.before.before.before)
-emits0 c = begin _ _ (omega (arith, relocation-length (stands c.before.before.before), c.if-out-name.false))
-
-abbrev state1 : After-put_word → State ℕ
-state1 c = after (state0 c.before.before.before.before.before) c.put_word-at.result c.put_word-at.new.out
-
-emits1 : (c : After-put_word) → Emits (whole c.before.before.before.before.before) (room c.before.before.before.before.before) (text_words (stands c.before.before.before.before.before).name) (state1 c)
-unfolding record_words
-emits1 c = emit (emits0 c.before.before) ((0xA000_0000 + c.args.address) ∷ []) (text_words (stands c.before.before.before.before.before).name) refl c.put_word-at.ensures
-
-abbrev state2 : After-put_text_words → State ℕ
-state2 c = after (state1 c.before.before.before.before) c.put_text_words-at.result c.put_text_words-at.new.out
-
-emits2 : (c : After-put_text_words) → Emits (whole c.before.before.before.before.before.before.before.before.before) (room c.before.before.before.before.before.before.before.before.before) [] (state2 c)
-emits2 c = emit (emits1 c.before.before.before.before) (text_words (stands c.before.before.before.before.before.before.before.before.before).name) [] (sym (append-nil _)) c.put_text_words-at.ensures
-
-pub returns-then-out-name : goal.returns-then-out-name
-returns-then-out-name c = too_short _ _ _ (relocation-length (stands c.before.before.before.before)) (omega (arith, c.if-out-name.true))
+pub returns-then-out-div_ceil : goal.returns-then-out-div_ceil
+returns-then-out-div_ceil c =
+    let a = c.args in
+    let x : Relocation = record { address = a.address; name = a.name.now } in
+    too_short _ _ _ (relocation-length x) (omega (arith, c.if-out-div_ceil.true, c.div_ceil.ensures, thirds (length a.name.now)))
 
 pub offset_bounds-out-at-2 : goal.offset_bounds-out-at-2
-offset_bounds-out-at-2 c = let h = within (emits1 c.before.before.before) in search rules
+offset_bounds-out-at-2 c = let h = within (emits1 (goal.at.offset_bounds-out-at-2 c).After-put_word-at) in search rules
 
 pub slice_bounds-put_text_words-count : goal.slice_bounds-put_text_words-count
-slice_bounds-put_text_words-count c = within (emits1 c.before.before.before)
+slice_bounds-put_text_words-count c = within (emits1 (goal.at.slice_bounds-put_text_words-count c).After-put_word-at)
 
 pub slice_bounds-put_text_words-start : goal.slice_bounds-put_text_words-start
-slice_bounds-put_text_words-start c = within (emits1 c.before.before.before)
+slice_bounds-put_text_words-start c = within (emits1 (goal.at.slice_bounds-put_text_words-start c).After-put_word-at)
 
 pub overflow_add-at-2 : goal.overflow_add-at-2
-overflow_add-at-2 c = small (emits2 c.before.before.before) (omega arith)
+overflow_add-at-2 c =
+    small (emit (emits1 (goal.at.overflow_add-at-2 c).After-put_word-at) (text_words c.args.name.now) [] (sym (append-nil _)) c.put_text_words-at.ensures) (omega arith)
 
 pub returns : goal.returns
-returns c = emitted (emits2 c.before.before.before) refl
+returns c =
+    emitted (emit (emits1 (goal.at.returns c).After-put_word-at) (text_words c.args.name.now) [] (sym (append-nil _)) c.put_text_words-at.ensures) refl

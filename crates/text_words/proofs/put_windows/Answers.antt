@@ -1,13 +1,14 @@
 use borrow.Author.Rules.{rules}
-use mathlib.Core.Path.{refl, ◌∙◌}
+use mathlib.Core.Path.{refl, ap, ◌∙◌}
 use mathlib.Core.List.{map}
 use Prim.Native.Nat.{◌+◌, ◌-◌}
 use native.Mathlib.Omega.{arith}
 use lib.ListN.{length}
 use borrow.Rule.Slice.PartMut.{put_mid}
 use Rattle.format.specs.Words.{record_words}
+use Rattle.text_rows.specs.Rows.{number_of}
 use Rattle.text_gather.specs.Order.{left}
-use Rattle.text_words.proofs.PutLaws.{Puts, puts_begin, walk-fits, walk_puts, walk-on, walk_end, walk-less}
+use Rattle.text_words.proofs.PutLaws.{Puts, puts_begin, walk_puts, walk-on, walk_end, walk-less}
 use Rattle.text_words.proofs.put_windows.Goals as goal
 use Rattle.text_words.proofs.put_windows.Goals.{After-put_window-at}
 
@@ -32,11 +33,6 @@ slice_bounds-put_window-count c = c.loop-sorting.invariant.puts.inside
 pub slice_bounds-put_window-start : goal.slice_bounds-put_window-start
 slice_bounds-put_window-start c = c.loop-sorting.invariant.puts.inside
 
-pub put_window-at-requires : goal.put_window-at-requires
-put_window-at-requires c =
-    let l = c.loop-sorting in
-    walk-fits _ _ _ _ _ _ l.out _ _ _ l.out l.at _ _ 0 l.invariant c.next_window-sorting.ensures.0 c.next_window-sorting.auto.win
-
 pub overflow_add-at : goal.overflow_add-at
 overflow_add-at c = let q = puts (goal.at.overflow_add-at c).After-put_window-at in record { fits = omega (arith, q.inside, q.long) }
 
@@ -60,4 +56,4 @@ loop-sorting-smaller c =
 pub loop-sorting-preserved : goal.loop-sorting-preserved
 loop-sorting-preserved c =
     let l = c.loop-sorting in
-    walk-on _ _ _ _ _ _ _ _ _ _ _ _ _ _ _ l.invariant c.next_window-sorting.ensures.0 c.next_window-sorting.auto.win c.put_window-at.ensures _ c.next_window-sorting.ensures.1
+    walk-on _ _ _ _ _ _ _ _ _ _ _ _ _ _ _ l.invariant c.next_window-sorting.ensures.0 c.next_window-sorting.auto.win c.put_window-at.ensures _ (ap number_of c.next_window-sorting.ensures.1)

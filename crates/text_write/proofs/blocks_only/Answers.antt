@@ -19,7 +19,7 @@ abbrev at : (c : After-is_symbolic) → ℕ
 at c = c.loop-at.at
 
 is : (c : After-is_symbolic) → c.is_symbolic.result ≡ not (eqb (kind_at (ws c) (at c)) 0 || eqb (kind_at (ws c) (at c)) 3)
-is c = c.is_symbolic.ensures ∙ ap (λ (k : ℕ). not (eqb k 0 || eqb k 3)) c.kind.ensures
+is c = c.is_symbolic.ensures ∙ ap (λ (k : ℕ). not (eqb k 0 || eqb k 3)) c.of.ensures
 
 pub loop-at-init : goal.loop-at-init
 loop-at-init c = only-start c.args.ws.now c.requires

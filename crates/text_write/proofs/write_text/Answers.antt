@@ -1,36 +1,30 @@
--- By the numbers of the check and of the measuring. Assumes nothing.
-use mathlib.Core.Path.{sym, ap, ◌∙◌}
-use Rattle.measuring.specs.Room.{room_of}
-use Rattle.text_write.proofs.FileLaws.{file_refused, file_short, file_fits, file_given}
+-- By what the check and the measuring hand back. Assumes nothing.
+use mathlib.Core.Path.{sym}
+use Rattle.std.proofs.lemmas.Result.{err_from_is_err_and}
+use Rattle.measuring.proofs.RoomLaws.{roomy, roomless}
+use Rattle.text_write.proofs.FileLaws.{file_refused, file_short, file_given}
 use Rattle.text_write.proofs.write_text.Goals as goal
 
-pub returns-then-n-ne0 : goal.returns-then-n-ne0
-returns-then-n-ne0 c =
-    file_refused c.args.object.now c.args.out.now c.refused.result c.check-n.result c.check-n.ensures
-    c.if-n-ne0.true c.refused.ensures
+pub returns-in_err-check : goal.returns-in_err-check
+returns-in_err-check c =
+    let p = err_from_is_err_and c.from_residual.result c.from_residual.ensures.1 in
+    rw (p.1, p.2) (file_refused c.args.object.now c.args.out.now c.in_err-check.field-0.0 c.in_err-check.ensures)
 
-pub blocks_only-only-requires : goal.blocks_only-only-requires
-blocks_only-only-requires c = sym c.check-n.ensures ∙ c.if-n-ne0.false
-
-pub plan_source-plan-requires : goal.plan_source-plan-requires
-plan_source-plan-requires c = (sym c.check-n.ensures ∙ c.if-n-ne0.false, c.blocks_only-only.ensures)
+pub plan_of-plan-requires : goal.plan_of-plan-requires
+plan_of-plan-requires c = sym c.in_ok-check.ensures
 
 pub measure_file-requires : goal.measure_file-requires
-measure_file-requires c = (sym c.check-n.ensures ∙ c.if-n-ne0.false, c.plan_source-plan.ensures)
+measure_file-requires c = (sym c.in_ok-check.ensures, c.plan_of-plan.ensures)
 
-pub returns-in_default : goal.returns-in_default
-returns-in_default c =
-    file_short c.args.object.now c.args.out.now c.refused-in_default.result (sym c.check-n.ensures ∙ c.if-n-ne0.false)
-    (sym (ap room_of c.in_default.is) ∙ c.measure_file.ensures) c.refused-in_default.ensures
+pub returns-then-is_none : goal.returns-then-is_none
+returns-then-is_none c =
+    file_short c.args.object.now c.args.out.now (sym c.in_ok-check.ensures) (roomless _ _ _ c.measure_file.ensures c.if-is_none.ensures)
 
 pub put_file-requires : goal.put_file-requires
-put_file-requires c = (
-  sym c.check-n.ensures ∙ c.if-n-ne0.false,
-  file_fits c.args.object.now c.args.out.now _ (sym (ap room_of c.in-Left.is) ∙ c.measure_file.ensures),
-  c.plan_source-plan.ensures,
-)
+put_file-requires c =
+    (sym c.in_ok-check.ensures, roomy _ _ _ c.measure_file.ensures c.if-is_none.ensures, c.plan_of-plan.ensures)
 
 pub returns : goal.returns
 returns c =
-    file_given c.args.object.now c.args.out.now c.given.result (sym c.check-n.ensures ∙ c.if-n-ne0.false) _
-    (sym (ap room_of c.in-Left.is) ∙ c.measure_file.ensures) c.put_file.result _ c.put_file.ensures c.given.ensures
+    file_given c.args.object.now c.args.out.now (sym c.in_ok-check.ensures) (roomy _ _ _ c.measure_file.ensures c.if-is_none.ensures)
+    c.put_file.result _ c.put_file.ensures

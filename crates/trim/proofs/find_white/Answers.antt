@@ -10,6 +10,6 @@ pub overflow_add-result : goal.overflow_add-result
 overflow_add-result c =
     let args = c.args in
     let bs = drop args.at args.s.now in
-    let e = white_yes bs _ _ (sym (ap char_of c.in-Scalar.is) ∙
+    let e = white_yes bs _ _ (sym (ap char_of c.in-Some.is) ∙
     c.char_at.ensures) (sym c.is_white_space.ensures ∙ c.if-is_white_space.true) in
     omega (arith, e, white_small bs)

@@ -7,15 +7,15 @@ use Rattle.utf8.specs.Chars.{char_of}
 use Rattle.utf8.proofs.CharLaws.{char_inside}
 use Rattle.utf8.proofs.PlaceLaws.{ascii_join, ascii-one, utf8_end, utf8_bad, utf8_on, utf8_ascii}
 use Rattle.utf8.proofs.is_utf8.Goals as goal
-use Rattle.utf8.proofs.is_utf8.Goals.{In-Scalar}
+use Rattle.utf8.proofs.is_utf8.Goals.{In-Some}
 
 -- the character lies in the text
-char_lies : (c : In-Scalar) → c.loop-i.i +
-    c.in-Scalar.more < length c.args.s.now
+char_lies : (c : In-Some) → c.loop-i.i +
+    c.in-Some.c.more < length c.args.s.now
 char_lies c =
     char_inside c.args.s.now
-    c.loop-i.i c.in-Scalar.value c.in-Scalar.more
-    (sym c.char_at.ensures ∙ ap char_of c.in-Scalar.is)
+    c.loop-i.i c.in-Some.c.value c.in-Some.c.more
+    (sym c.char_at.ensures ∙ ap char_of c.in-Some.is)
 
 pub loop-i-preserved-then-s-i-lt128 : goal.loop-i-preserved-then-s-i-lt128
 loop-i-preserved-then-s-i-lt128 c =
@@ -37,17 +37,17 @@ returns-in_default c =
 pub loop-i-preserved : goal.loop-i-preserved
 loop-i-preserved c =
     let loop = c.loop-i in (
-      omega (arith, char_lies c),
-      utf8_on _ _ c.loop-i-test.true c.in-Scalar.value
-          c.in-Scalar.more (sym (ap char_of c.in-Scalar.is) ∙ c.char_at.ensures)
+      omega (arith, char_lies (goal.at.loop-i-preserved c).In-Some),
+      utf8_on _ _ c.loop-i-test.true c.in-Some.c.value
+          c.in-Some.c.more (sym (ap char_of c.in-Some.is) ∙ c.char_at.ensures)
           ∙ loop.invariant.1,
     )
 
 pub overflow_add-i-in-loop-i : goal.overflow_add-i-in-loop-i
-overflow_add-i-in-loop-i c = omega (arith, char_lies c)
+overflow_add-i-in-loop-i c = omega (arith, char_lies (goal.at.overflow_add-i-in-loop-i c).In-Some)
 
 pub overflow_add-i-in-loop-i-2 : goal.overflow_add-i-in-loop-i-2
-overflow_add-i-in-loop-i-2 c = omega (arith, char_lies c)
+overflow_add-i-in-loop-i-2 c = omega (arith, char_lies (goal.at.overflow_add-i-in-loop-i-2 c).In-Some)
 
 pub returns : goal.returns
 returns c = utf8_end _ _ c.loop-i-test.false ∙ c.loop-i.invariant.1

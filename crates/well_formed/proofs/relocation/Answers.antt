@@ -1,31 +1,30 @@
-use mathlib.Core.Path.{sym, subst, ◌∙◌}
-use Prim.Native.Nat.{◌+◌}
-use Rattle.word_checks.specs.Walks.{Walked}
-use Rattle.object.specs.Bodies.{good_text}
-use Rattle.word_checks.specs.declared.Body.TheVariants as body
+use Prim.Native.Nat.{◌%◌, ◌^◌}
+use lib.ListN.{get_or}
+use mathlib.Core.Path.{refl, sym, subst}
+use Rattle.well_formed.specs.Steps.{Stepped, Advanced}
 use Rattle.well_formed.proofs.KindLaws.{relocation_1, relocation_2, relocation_3, relocation-next}
 use Rattle.well_formed.proofs.relocation.Goals as goal
-use Rattle.well_formed.proofs.relocation.Goals.{In-Ends}
-
-ends : (c : In-Ends) → Walked good_text c.args.ws.now (c.args.at + 1) (body.Ends c.in-Ends.n)
-ends c = subst (Walked good_text c.args.ws.now (c.args.at + 1)) c.in-Ends.is c.text_end.ensures
 
 pub returns-then-w-ne40960 : goal.returns-then-w-ne40960
 returns-then-w-ne40960 c = relocation_1 c.args.ws.now c.args.at c.args.seen c.requires.1 c.if-w-ne40960.true
 
-pub returns-in_default : goal.returns-in_default
-returns-in_default c =
-    relocation_2 c.args.ws.now c.args.at c.args.seen c.requires.1 c.if-w-ne40960.false
-    (subst (Walked good_text c.args.ws.now (c.args.at + 1)) c.in_default.is c.text_end.ensures)
+pub returns-in_err-n : goal.returns-in_err-n
+returns-in_err-n c =
+    subst (Stepped c.args.ws.now c.args.at c.args.seen) (sym c.from_residual.ensures)
+    (relocation_2 c.args.ws.now c.args.at c.args.seen c.requires.1 c.if-w-ne40960.false
+    c.in_err-n.ensures)
 
-pub returns-then-not-rises : goal.returns-then-not-rises
-returns-then-not-rises c =
-    relocation_3 c.args.ws.now c.args.at c.args.seen c.requires.1 c.if-w-ne40960.false (ends (goal.at.returns-then-not-rises c).In-Ends).0
-    c.wide.result
-    c.wide.ensures.0 (sym c.rises.ensures ∙ c.if-not-rises.true)
+pub returns-in_err-past : goal.returns-in_err-past
+returns-in_err-past c =
+    subst (Stepped c.args.ws.now c.args.at c.args.seen) (sym c.from_residual-in_err-past.ensures)
+    (relocation_3 c.args.ws.now c.args.at c.args.seen c.requires.1 c.if-w-ne40960.false c.in_ok-n.ensures.0
+    (get_or c.args.ws.now c.args.at 0 % 2 ^ 16) refl c.in_err-past.ensures)
 
 pub returns : goal.returns
 returns c =
-    relocation-next c.args.ws.now c.args.at c.args.seen c.requires.1 c.if-w-ne40960.false (ends (goal.at.returns c).In-Ends).0
-    c.wide.result
-    c.wide.ensures.0 c.in-Ends.n (sym c.rises.ensures ∙ c.if-not-rises.false) (ends (goal.at.returns c).In-Ends).1
+    let ws = c.args.ws.now in
+    let at = c.args.at in
+    let seen = c.args.seen in
+    subst (λ t. Advanced ws at seen c.in_ok-n.n t) (sym c.in_ok-past.ensures.1)
+    (relocation-next c.args.ws.now c.args.at c.args.seen c.requires.1 c.if-w-ne40960.false c.in_ok-n.ensures.0
+    (get_or c.args.ws.now c.args.at 0 % 2 ^ 16) refl c.in_ok-n.n c.in_ok-past.ensures.0 c.in_ok-n.ensures.1)

@@ -20,8 +20,8 @@ returns-then-a-lt-ASCII_END c =
     let a = c.args in
     let h : a.p < a.end = omega (arith, c.if-end-p.false) in
     let l : a.p < length (text_bytes a.ws.now a.at a.end) = omega (arith, h, size_is a.ws.now a.at a.end) in
-    char_low (text_bytes a.ws.now a.at a.end) a.p c.text_byte-a.result l
-    (c.text_byte-a.ensures ∙ byte_is a.ws.now a.at a.end a.p h) c.if-a-lt-ASCII_END.true
+    char_low (text_bytes a.ws.now a.at a.end) a.p c.from.result l
+    (c.from.ensures ∙ c.text_byte-a.ensures ∙ byte_is a.ws.now a.at a.end a.p h) (omega (arith, c.from.ensures, c.if-a-lt-ASCII_END.true))
 
 pub returns : goal.returns
 returns c =

@@ -1,9 +1,6 @@
-use Rattle.std.proofs.Common.{◌≡◌, ◌+◌, ◌-◌, length}
+use Rattle.std.proofs.Common.{◌≡◌, ◌+◌, length}
 use Rattle.object.specs.Bodies.{body_at, good_text}
 use Rattle.word_checks.proofs.ascii_end.Given as goal
 
 abbrev pub invariant-loop-i : goal.invariant-loop-i
 invariant-loop-i l = (l.i + length (body_at l.ws l.i) ≡ l.at + length (body_at l.ws l.at)) × (good_text (body_at l.ws l.i) ≡ good_text (body_at l.ws l.at))
-
-abbrev pub decreases-loop-i : goal.decreases-loop-i
-decreases-loop-i l = length l.ws - l.i

@@ -1,9 +1,6 @@
-use Rattle.std.proofs.Common.{◌≡◌, ◌+◌, ◌-◌, length}
+use Rattle.std.proofs.Common.{◌≡◌, ◌+◌, length}
 use Rattle.object.specs.Bodies.{body_at, good_memory}
 use Rattle.word_checks.proofs.memory_end.Given as goal
 
-abbrev pub invariant-loop-at : goal.invariant-loop-at
-invariant-loop-at l = (l.i + length (body_at l.ws l.i) ≡ l.at + length (body_at l.ws l.at)) × (good_memory (body_at l.ws l.i) ≡ good_memory (body_at l.ws l.at))
-
-abbrev pub decreases-loop-at : goal.decreases-loop-at
-decreases-loop-at l = length l.ws - l.i
+abbrev pub invariant-loop-i : goal.invariant-loop-i
+invariant-loop-i l = (l.i + length (body_at l.ws l.i) ≡ l.at + length (body_at l.ws l.at)) × (good_memory (body_at l.ws l.i) ≡ good_memory (body_at l.ws l.at))

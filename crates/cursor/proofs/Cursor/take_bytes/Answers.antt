@@ -1,13 +1,9 @@
 -- Assumes nothing.
-use native.Mathlib.Omega.{arith}
 use Rattle.cursor.proofs.TakenLaws.{bytes_missing, bytes-there}
 use Rattle.cursor.proofs.Cursor.take_bytes.Goals as goal
 
-pub returns-then-s-at : goal.returns-then-s-at
-returns-then-s-at c = bytes_missing c.args.n _ _ (omega arith)
+pub returns-in_err-next-clause-places : goal.returns-in_err-next-clause-places
+returns-in_err-next-clause-places c = rw c.from_residual.ensures (bytes_missing c.args.n _ _ c.in_err-next.ensures)
 
-pub returns-then-s-at-2 : goal.returns-then-s-at-2
-returns-then-s-at-2 c = bytes_missing c.args.n _ _ (omega arith)
-
-pub returns : goal.returns
-returns c = bytes-there c.args.n _ _ (omega arith)
+pub returns-clause-places : goal.returns-clause-places
+returns-clause-places c = bytes-there c.args.n _ _ c.in_ok-next.ensures

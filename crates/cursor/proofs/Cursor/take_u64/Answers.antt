@@ -1,13 +1,14 @@
 -- Assumes nothing.
-use native.Mathlib.Omega.{arith}
-use Rattle.cursor.proofs.TakenLaws.{number_missing, number_read_lem}
+use mathlib.Core.Path.{ap, ◌∙◌}
+use Prim.Native.Nat.{ℕ}
+use native.Mathlib.Nat.{add-zero}
+use Rattle.format.specs.Binary.{number_at}
+use Rattle.cursor.proofs.TakenLaws.{number_missing, number-there}
 use Rattle.cursor.proofs.Cursor.take_u64.Goals as goal
 
-pub returns-then-s-at : goal.returns-then-s-at
-returns-then-s-at c = number_missing 8 _ _ (omega arith)
-
-pub returns-then-s-at-lt8 : goal.returns-then-s-at-lt8
-returns-then-s-at-lt8 c = number_missing 8 _ _ (omega arith)
+pub returns-in_err-next : goal.returns-in_err-next
+returns-in_err-next c = rw c.from_residual.ensures (number_missing 8 _ _ c.in_err-next.ensures)
 
 pub returns : goal.returns
-returns c = number_read_lem 8 _ _ c.value_le-v.ensures (omega arith)
+returns c =
+    number-there 8 _ _ (c.u64_at.ensures ∙ ap (λ (i : ℕ). number_at i 8 c.args.s.now) (add-zero c.args.self.at)) c.in_ok-next.ensures

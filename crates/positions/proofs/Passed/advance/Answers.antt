@@ -1,5 +1,5 @@
 use native.Mathlib.Omega.{arith}
-use mathlib.Core.Path.{refl, sym, ap, ◌∙◌}
+use mathlib.Core.Path.{◌≡◌, refl, sym, ap, subst, ◌∙◌}
 use mathlib.Core.Logic.{inl, inr}
 use Prim.Native.Nat.{◌+◌, ◌<◌}
 use lib.ListN.{length, drop}
@@ -7,6 +7,7 @@ use Rattle.object.specs.Texts.{text_bytes}
 use Rattle.source_info.specs.Passing.{pos_from}
 use Rattle.source_info.proofs.LineLaws.{pos_other, pos_next}
 use Rattle.word_chars.proofs.CharLaws.{byte_is, size_is}
+use Rattle.positions.specs.Pairs.{Passes}
 use Rattle.positions.proofs.Passed.advance.Goals as goal
 use Rattle.positions.proofs.Passed.advance.Goals.{else-text_byte-eq10, then-text_byte-eq10}
 
@@ -49,17 +50,15 @@ loop-i-preserved c =
 
 pub returns : goal.returns
 returns c =
-    let inv = c.loop-i.invariant in
-    record { within = inv.0; lines = inv.1; starts = inv.2; reached = inl c.loop-i-test.false; back = inv.3; same = inv.4 }
+    let a = c.args in
+    let loop = c.loop-i in
+    let inv = loop.invariant in
+    let e : loop.i ≡ a.n = omega (arith, inv.0, c.loop-i-test.false) in
+    subst (λ i. Passes (text_bytes a.ws.now a.at a.n) a.n a.index a.self (record { i = i; line = loop.line; start = loop.start })) e
+    (record { within = inv.0; lines = inv.1; starts = inv.2; reached = inl c.loop-i-test.false; back = inv.3; same = inv.4 })
 
 pub overflow_add-line : goal.overflow_add-line
 overflow_add-line c = omega arith
 
 pub overflow_add-start : goal.overflow_add-start
 overflow_add-start c = omega arith
-
-pub overflow_add-i : goal.overflow_add-i
-overflow_add-i c = omega arith
-
-pub loop-i-smaller : goal.loop-i-smaller
-loop-i-smaller c = omega arith

@@ -3,6 +3,7 @@ use native.Mathlib.Omega.{arith}
 use mathlib.Core.Path.{sym, ◌∙◌}
 use mathlib.Core.List.{List}
 use Prim.Native.Nat.{ℕ}
+use Rattle.object.proofs.KindLaws.{number_is, number_not}
 use Rattle.text_lines_out.proofs.TableLaws.{blocks-less}
 use Rattle.text_write.specs.Tables.{object_in}
 use Rattle.text_write.proofs.PastLaws.{linked_on, sourced-on}
@@ -22,19 +23,18 @@ loop-at-smaller c =
 pub loop-at-preserved : goal.loop-at-preserved
 loop-at-preserved c =
     let o = object_in (ws (goal.at.loop-at-preserved c).In-loop-at) in
-    let no = c.if-kind-k.false in
-    let is = c.kind.ensures in
+    let other = number_not c.of.result c.args.k _ c.of.ensures c.if-eq.ensures in
     let inv = c.loop-at.invariant in (
       λ e. sourced-on (ws (goal.at.loop-at-preserved c).In-loop-at) (at (goal.at.loop-at-preserved c).In-loop-at) c.body_end-at.result c.loop-at-test.true c.body_end-at.ensures o.source
-          (λ z. no (is ∙ z ∙ sym e)) (inv.0 e),
+          (λ z. other (z ∙ sym e)) (inv.0 e),
       λ e. linked_on (ws (goal.at.loop-at-preserved c).In-loop-at) (at (goal.at.loop-at-preserved c).In-loop-at) c.body_end-at.result c.loop-at-test.true c.body_end-at.ensures o.relocations
-          (λ z. no (is ∙ z ∙ sym e)) (inv.1 e),
+          (λ z. other (z ∙ sym e)) (inv.1 e),
     )
 
-pub returns-then-kind-k : goal.returns-then-kind-k
-returns-then-kind-k c =
+pub returns-then-eq : goal.returns-then-eq
+returns-then-eq c =
     let inv = c.loop-at.invariant in
-    record { source = inv.0; links = inv.1; there = λ h. sym c.kind.ensures ∙ c.if-kind-k.true }
+    record { source = inv.0; links = inv.1; there = λ h. number_is c.of.result c.args.k _ c.of.ensures c.if-eq.ensures }
 
 pub returns : goal.returns
 returns c =

@@ -6,27 +6,26 @@ use mathlib.Core.Bool.{true}
 use mathlib.Core.List.{List, ◌++◌}
 use Prim.Native.Nat.{ℕ, ◌+◌, ◌^◌, ◌≤◌, ◌<◌}
 use Rattle.format.specs.TextWriter.{Row, line_table, line_header, text_line}
-use Rattle.measuring.specs.Room.{room_of, less_part}
+use Rattle.measuring.specs.Room.{less_part}
 use Rattle.measuring.proofs.RoomLaws.{part-fits, part-short}
 use Rattle.text_lines_out.specs.Lines.{At, rows_text}
 use Rattle.text_lines_out.specs.Merge.{smaller}
 use Rattle.text_lines_out.specs.Runs.{address_from, run_rows}
 use Rattle.text_lines_out.specs.declared.Table.{Table}
-use Rattle.text_lines_out.specs.declared.Rows.{Rows}
 use Rattle.text_lines_out.specs.Walk.{walk_rows, line_blocks_in}
 use Rattle.text_lines_out.specs.declared.Wrapped.{Wrapped}
 use Rattle.text_lines_out.proofs.LineLaws.{at_start}
 use Rattle.text_lines_out.proofs.TableLaws.{table_parts_lem, wrapped_passed}
-use Rattle.text_runs_out.specs.Lines.{row_lines, start_past, joined, Leaves}
+use Rattle.text_runs_out.specs.Lines.{row_lines, start_past, joined}
 use Rattle.format.specs.Calls.{checked}
-use Rattle.text_write.specs.declared.lines.SourcePlan.{SourcePlan}
+use Rattle.text_write.specs.declared.lines.Source.{Source}
 use Rattle.text_write.specs.Layouts.{planned_text, planned_wraps, Tabled}
 use Rattle.text_write.proofs.LineLaws.{run-read, records_read}
 use Rattle.text_write.proofs.lines.measure_line_table.Goals as goal
-use Rattle.text_write.proofs.lines.measure_line_table.Goals.{In-Left}
+use Rattle.text_write.proofs.lines.measure_line_table.Goals.{In_ok-left}
 
 -- the parts of a plan's table
-module _ (ws : List ℕ) (p : SourcePlan) where
+module _ (ws : List ℕ) (p : Source) where
   abbrev text : List ℕ
   text = planned_text ws p
 
@@ -52,9 +51,6 @@ module _ (ws : List ℕ) (p : SourcePlan) where
   abbrev on : ℕ
   on = start_past ws table rows 0
 
-  abbrev Told : ℕ → Rows → Type 0
-  Told left answer = Leaves left (joined (row_lines ws table rows 0)) on answer
-
   module _ (h : checked ws ≡ 0) (k : Tabled ws p) (few : p.lines ≤ 2 ^ 64) (short : p.count ≤ 2 ^ 64) where
     parts : line_table text (line_blocks_in ws) ≡ header ++ (early ++ late)
     parts = table_parts_lem ws text p.lines p.width r h k.counted few short k.wraps k.wide
@@ -66,35 +62,35 @@ module _ (ws : List ℕ) (p : SourcePlan) where
     first small =
         run-read ws table small 0 (address_from true ws r.place) r.count 0 (omega (arith, short)) (at_start text k.sound)
 
-fits : (c : In-Left) (e : line_table (text c.args.ws.now c.args.p) (line_blocks_in c.args.ws.now)
+fits : (c : In_ok-left) (e : line_table (text c.args.ws.now c.args.p) (line_blocks_in c.args.ws.now)
     ≡ header c.args.ws.now c.args.p ++ (early c.args.ws.now c.args.p ++ late c.args.ws.now c.args.p))
-    → less_part c.in-Left.left (early c.args.ws.now c.args.p ++ late c.args.ws.now c.args.p)
+    → less_part c.in_ok-left.left (early c.args.ws.now c.args.p ++ late c.args.ws.now c.args.p)
     ≡ less_part c.args.room (line_table (text c.args.ws.now c.args.p) (line_blocks_in c.args.ws.now))
 fits c e =
     part-fits c.args.room (header c.args.ws.now c.args.p) (early c.args.ws.now c.args.p ++ late c.args.ws.now c.args.p) e
-    (sym (ap room_of c.in-Left.is) ∙ c.measure_line_header.ensures)
+    c.in_ok-left.ensures
 
-pub returns-in_default : goal.returns-in_default
-returns-in_default c =
+pub returns-in_err-left : goal.returns-in_err-left
+returns-in_err-left c =
     let ws = c.args.ws.now in
     let p = c.args.p in
     let few : p.lines ≤ 2 ^ 64 = search rules in
     let short : p.count ≤ 2 ^ 64 = search rules in
-    part-short c.args.room (header ws p) (early ws p ++ late ws p) (parts ws p c.requires.0 c.requires.1 few short)
-    (sym (ap room_of c.in_default.is) ∙ c.measure_line_header.ensures)
+    rw c.from_residual.ensures
+    (part-short c.args.room (header ws p) (early ws p ++ late ws p) (parts ws p c.requires.0 c.requires.1 few short) c.in_err-left.ensures)
 
-pub returns-in_default-measure_run : goal.returns-in_default-measure_run
-returns-in_default-measure_run c =
+pub returns-in_err-rows : goal.returns-in_err-rows
+returns-in_err-rows c =
     let ws = c.args.ws.now in
     let p = c.args.p in
     let few : p.lines ≤ 2 ^ 64 = search rules in
     let short : p.count ≤ 2 ^ 64 = search rules in
     let small : p.n + 1 < 2 ^ 64 = (let h = c.requires.1.short in search rules) in
-    let left = c.in-Left.left in
-    part-short left (early ws p) (late ws p) refl
-    (subst (Told ws p left) c.in_default-measure_run.is c.measure_run.ensures
-    ∙ ap (less_part left) (first ws p c.requires.0 c.requires.1 few short small).0)
-    ∙ fits (goal.at.returns-in_default-measure_run c).In-Left (parts ws p c.requires.0 c.requires.1 few short)
+    let left = c.in_ok-left.left in
+    rw c.from_residual-in_err-rows.ensures
+    (part-short left (early ws p) (late ws p) refl
+    (c.in_err-rows.ensures ∙ ap (less_part left) (first ws p c.requires.0 c.requires.1 few short small).0)
+    ∙ fits (goal.at.returns-in_err-rows c).In_ok-left (parts ws p c.requires.0 c.requires.1 few short))
 
 pub returns : goal.returns
 returns c =
@@ -105,14 +101,14 @@ returns c =
     let small : p.n + 1 < 2 ^ 64 = (let h = c.requires.1.short in search rules) in
     let many : p.lines < 2 ^ 64 = search rules in
     let wraps : p.count < 2 ^ 64 = search rules in
-    let left = c.in-Left.left in
-    let next = c.in-Left-measure_run.next in
+    let left = c.in_ok-left.left in
+    let next = c.in_ok-rows.rows.start in
     let f = first ws p c.requires.0 c.requires.1 few short small in
-    let t = subst (Told ws p left) c.in-Left-measure_run.is c.measure_run.ensures in
+    let t = c.in_ok-rows.ensures in
     let past = passed ws p c.requires.0 c.requires.1 few short next
     (subst (At (text ws p) (0 + p.count)) (sym t.1) f.1) in
     c.measure_line_records.ensures
-    ∙ ap (less_part c.in-Left-measure_run.rest)
+    ∙ ap (less_part c.in_ok-rows.rows.left)
     (records_read ws (table ws p) small c.requires.1.counted many wraps c.requires.0 p.first next c.requires.1.past past)
     ∙ part-fits left (early ws p) (late ws p) refl (t.0 ∙ ap (less_part left) f.0)
-    ∙ fits (goal.at.returns c).In-Left (parts ws p c.requires.0 c.requires.1 few short)
+    ∙ fits (goal.at.returns c).In_ok-left (parts ws p c.requires.0 c.requires.1 few short)

@@ -2,6 +2,8 @@
 use native.Mathlib.Omega.{arith}
 use mathlib.Core.List.{List}
 use Prim.Native.Nat.{ℕ}
+use mathlib.Core.Path.{sym, ◌∙◌}
+use borrow.Author.Tests.{ltb-false}
 use Rattle.text_lines_out.proofs.TableLaws.{blocks-less}
 use Rattle.text_write.proofs.PastLaws.{past-start, past-on}
 use Rattle.text_write.proofs.lines.past_labels.Goals as goal
@@ -20,13 +22,13 @@ loop-at-smaller c =
 pub loop-at-preserved : goal.loop-at-preserved
 loop-at-preserved c =
     past-on (ws (goal.at.loop-at-preserved c).In-loop-at) (at (goal.at.loop-at-preserved c).In-loop-at) c.body_end-at.result c.loop-at-test.true c.body_end-at.ensures
-    (omega (arith, c.if-kind-gt2.false, c.kind.ensures)) c.loop-at.invariant
+    (omega (arith, c.of.ensures, ltb-false 2 _ (sym c.is_past_labels.ensures ∙ c.if-is_past_labels.false))) c.loop-at.invariant
 
 pub loop-at-init : goal.loop-at-init
 loop-at-init c = past-start c.args.ws.now c.requires
 
-pub returns-then-kind-gt2 : goal.returns-then-kind-gt2
-returns-then-kind-gt2 c = c.loop-at.invariant
+pub returns-then-is_past_labels : goal.returns-then-is_past_labels
+returns-then-is_past_labels c = c.loop-at.invariant
 
 pub overflow_add-at : goal.overflow_add-at
 overflow_add-at c = omega (arith, c.loop-at-test.true)
