@@ -18,12 +18,12 @@ pub fn keeps_relocations(s: &[u8]) -> bool
 pub fn words_length(s: &[u8]) -> usize
     ensures { result ≡ length (object_words s.now) }
 {
-    let n = part_length(s, Kind::Block)
-        + part_length(s, Kind::Label)
-        + part_length(s, Kind::LineBlock)
+    let n = part_length(s, Kind::Block.byte())
+        + part_length(s, Kind::Label.byte())
+        + part_length(s, Kind::LineBlock.byte())
         + source_length(s);
     if keeps_relocations(s) {
-        return n + part_length(s, Kind::Relocation);
+        return n + part_length(s, Kind::Relocation.byte());
     }
     n
 }

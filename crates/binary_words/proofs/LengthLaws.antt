@@ -105,6 +105,18 @@ total_cons kind s p ps = length-append (words_at kind s p) (flat_map (words_at k
 pub total_append : (kind : ℕ) (s ps qs : List ℕ) → total kind s (ps ++ qs) ≡ total kind s ps + total kind s qs
 total_append kind s ps qs = flat_map-length (words_at kind s) ps qs
 
+-- a number above those of the kinds is no kind's: its records, if there were any, have no words
+pub no_words : (kind : ℕ) (s ps : List ℕ) → 4 < kind → total kind s ps ≡ 0
+unfolding flat_map
+no_words kind s [] h = refl
+no_words kind s (p ∷ ps) h =
+    omega (
+      arith,
+      total_cons kind s p ps,
+      no_words kind s ps h,
+      length-other s p kind (λ e. omega arith) (λ e. omega arith) (λ e. omega arith) (λ e. omega arith),
+    )
+
 pub skipped : (kind at k : ℕ) (xs : List ℕ) → length xs ≤ k → places kind at k xs ≡ []
 unfolding places
 skipped kind at zero [] h = refl

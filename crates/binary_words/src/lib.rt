@@ -80,14 +80,15 @@ fn length_by<const N: usize>(s: &[u8], kind: Kind) -> usize
     windows_length(s, kind, &mut win)
 }
 
-// How many words the records of a kind have. Labels, of which a file has many in any order, go by larger windows. The two arrays are of two
-// functions: those of one would both be on the stack.
-pub fn part_length(s: &[u8], kind: Kind) -> usize
-    ensures { result ≡ length (part_words (byte_of kind) s.now) }
+// How many words the records of a kind have; a byte that is no kind's has none. Labels, of which a file has many in any order, go by larger
+// windows. The two arrays are of two functions: those of one would both be on the stack.
+pub fn part_length(s: &[u8], kind: u8) -> usize
+    ensures { result ≡ length (part_words kind s.now) }
 {
-    match kind {
-        Kind::Label => length_by::<4096>(s, kind),
-        _ => length_by::<1024>(s, kind),
+    match Kind::of(kind) {
+        Some(Kind::Label) => length_by::<4096>(s, Kind::Label),
+        Some(k) => length_by::<1024>(s, k),
+        None => 0,
     }
 }
 

@@ -4,7 +4,7 @@ use mathlib.Core.List.{List, [], ◌∷◌}
 use Prim.Native.Nat.{ℕ, zero, suc, ◌+◌, ◌-◌, ◌*◌, ◌^◌, ◌≤◌, ◌<◌, min}
 use native.Mathlib.Nat.{pow-zero, pow-suc, lt_of_lt_of_le, pow-le-pow_right}
 use native.Mathlib.Omega.{arith}
-use lib.ListN.{length, take, drop, get_or, length-drop, drop_of_length-le}
+use lib.ListN.{length, take, drop, get_or, length-drop, length-take, drop_of_length-le}
 use lib.Seq.{drop-cons, get_or-drop, take_all, length-take-le}
 use Rattle.std.specs.Int.{w16, w64, from_le_bytes}
 use Rattle.format.specs.Digits.{value_of}
@@ -55,11 +55,12 @@ take_below (suc n) b [] p h k = p
 take_below (suc n) b (x ∷ xs) p h zero = h 0
 take_below (suc n) b (x ∷ xs) p h (suc k) = take_below n b xs p (λ j. h (suc j)) k
 
-count_small : (xs : List ℕ) → length xs < 2 → ((k : ℕ) → get_or xs k 0 < 256) → value_of 8 xs < 65536
-count_small xs l h =
+pub count_below_lem : (s : List ℕ) (at : ℕ) → ((k : ℕ) → get_or s k 0 < 256) → number_at at 2 s < 65536
+count_below_lem s at h =
+    let xs : List ℕ = bytes_at at 2 s in
+    let l : length xs ≤ 2 = omega (arith, length-take 2 (drop at s)) in
     let p : 0 < 256 = omega arith in
-    let m : length xs ≤ 2 = omega arith in
-    lt_of_lt_of_le (value_below xs h) (pow-le-pow_right p m)
+    lt_of_lt_of_le (value_below xs (take_below 2 256 (drop at s) p (λ k. rw get_or-drop (h (at + k))))) (pow-le-pow_right p l)
 
 -- A NUMBER WHOSE BYTES ARE ALL THERE, as std reads it
 le_2 : (bs : List ℕ) → length bs ≡ 2 → from_le_bytes w16 bs ≡ value_of 8 bs
@@ -100,6 +101,13 @@ tail s o = take (length s - o) (drop o s)
 tail_drop : (s : List ℕ) (o : ℕ) → tail s o ≡ drop o s
 tail_drop s o = let d = length-drop o s in take_all (length s - o) (drop o s) (omega arith)
 
+-- no fewer bytes than are known to be there
+pub tail_long : (s : List ℕ) (o n : ℕ) → o + n ≤ length s → length (tail s o) < n → ⊥
+tail_long s o n h l =
+    let e = ap length (tail_drop s o) in
+    let d = length-drop o s in
+    omega (arith, e)
+
 pub two_there : (s : List ℕ) (at o : ℕ) (bs : List ℕ) → o ≡ min at (length s) → 2 ≤ length (tail s o) → bs ≡ take 2 (tail s o)
     → from_le_bytes w16 bs ≡ number_at at 2 s
 two_there s at o bs e h q =
@@ -115,9 +123,3 @@ eight_there s at o bs e h q =
     let k : 8 ≤ length (drop o s) = rw t at h in
     let r : bs ≡ take 8 (drop o s) = q ∙ ap (take 8) t in
     le_8 bs (chunk_long s at o 8 e k bs r) ∙ chunk_value s at o 8 e k (omega arith) bs r
-
--- a byte or none is below 2^16
-pub rest_small : (s : List ℕ) (o : ℕ) → length (tail s o) < 2 → ((k : ℕ) → get_or s k 0 < 256) → value_of 8 (tail s o) < 65536
-rest_small s o l h =
-    let p : 0 < 256 = omega arith in
-    count_small (tail s o) l (take_below (length s - o) 256 (drop o s) p (λ k. rw get_or-drop (h (o + k))))

@@ -67,7 +67,10 @@ fn rises(ws: &[u32], at: usize) -> bool
     ensures { result ≡ strictly_rise (map address_in (body_at ws.now at)) }
 {
     let mut least = 0;
-    for i in at..object::body_end(ws, at) {
+    for i in at..ws.len() {
+        if !object::goes_on(ws, i) {
+            return true;
+        }
         let a = ws[i] % 0x1_0000;
         if a < least {
             return false;

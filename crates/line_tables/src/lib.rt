@@ -18,7 +18,10 @@ fn offset_of(ws: &[u32], at: usize, a: u16) -> Option<usize>
     ensures { offset_in result ≡ offset_of a (map address_in (body_at ws.now at)) }
 {
     let wanted = a as u32;
-    for i in at..object::body_end(ws, at) {
+    for i in at..ws.len() {
+        if !object::goes_on(ws, i) {
+            return None;
+        }
         if ws[i] % 0x1_0000 == wanted {
             return Some(i - at);
         }

@@ -2,6 +2,9 @@
 use crate::line;
 use units::{Address, ByteIndex, Line, Refusal};
 
+// The number, which no call gives, that stands for a letter that is none.
+const NO_CALL: u64 = 255;
+
 // The values that the call hands back, 0 where there is none; nothing where the letter is no call's.
 fn answer(object: &[u32], call: u8, arg: u64) -> Option<Result<(u64, u64), Refusal>> {
     let r = match call {
@@ -25,12 +28,10 @@ pub(crate) fn agrees(text: &[u8], call: u8, end: usize) -> bool {
     let mut words = [0u32; 1024];
     let n = line::words_between(text, 2, end, &mut words);
     let arg = line::number_behind(text, end, 1, 16);
-    let Some(r) = answer(&words[..n], call, arg) else {
-        return false;
-    };
-    let (number, values) = match r {
-        Ok(values) => (0, values),
-        Err(refusal) => (u64::from(refusal.number()), (0, 0)),
+    let (number, values) = match answer(&words[..n], call, arg) {
+        Some(Ok(values)) => (0, values),
+        Some(Err(refusal)) => (u64::from(refusal.number()), (0, 0)),
+        None => (NO_CALL, (0, 0)),
     };
     number == line::number_behind(text, end, 18, 2)
         && values.0 == line::number_behind(text, end, 21, 16)

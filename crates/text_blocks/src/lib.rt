@@ -115,10 +115,10 @@ pub fn pass_entries(t: &[u8], at: usize, n: usize) -> Option<usize>
 
 // What follows a block's address: its count, where its entries start, and the place after them.
 #[derive(Clone, Copy)]
-struct Body {
-    count: u16,
-    entries: usize,
-    next: usize,
+pub struct Body {
+    pub count: u16,
+    pub entries: usize,
+    pub next: usize,
 }
 
 // A block of .TEXT from its count on.

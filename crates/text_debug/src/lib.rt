@@ -93,9 +93,9 @@ fn run_next(s: Runs, address: Option<u16>) -> Runs
 // How many words the line blocks of a line table's rows have, as 64 bits count, and whether the addresses in each kept run never fall. A run
 // that reaches the last row is not asked.
 #[derive(Clone, Copy)]
-struct LineRows {
-    words: usize,
-    rise: bool,
+pub struct LineRows {
+    pub words: usize,
+    pub rise: bool,
 }
 
 // The rows of the line table, checked, from the place after its header.

@@ -3,10 +3,10 @@
 use mathlib.Core.Path.{◌≡◌, refl, sym, ap, ◌∙◌}
 use mathlib.Core.Bool.{Bool, true, false, ◌&&◌}
 use mathlib.Core.List.{List, [], ◌∷◌}
-use Prim.Native.Nat.{ℕ, zero, suc, ◌+◌, ◌-◌, ◌≤◌, ◌<◌}
+use Prim.Native.Nat.{ℕ, zero, suc, ◌+◌, ◌-◌, ◌≤◌, ◌<◌, min}
 use native.Mathlib.Omega.{arith}
 use lib.ListN.{length, take, drop, get_or, drop_of_length-le, length-drop}
-use lib.Seq.{get_or-drop, take-length, length-take-le, take-take, take-nil, take_all}
+use lib.Seq.{get_or-drop, get_or-take, take-length, length-take-le, take-take, take-nil, take_all}
 use lib.Dec.{eqb}
 use borrow.Author.Tests.{eq-eqb, ne_eqb, eqb-true, eqb-false}
 use Rattle.std.specs.Cmp.Lexicographic.{pointwise}
@@ -14,7 +14,7 @@ use Rattle.format.specs.Basics.{keep, begins_with, ascii, eqs}
 use Rattle.format.specs.Utf8.{is_blank, trim}
 use Rattle.format.specs.TextReader.{on_first, lines, kept_lines}
 use Rattle.trim.specs.Span.{Spans, part}
-use Rattle.text_lines.specs.Lines.{line_length, Lacks, LineAt, is_kept, kept}
+use Rattle.text_lines.specs.Lines.{line_length, Lacks, Holds, LineAt, is_kept, kept}
 use Rattle.text_lines.proofs.TestLaws.{by_test, front, drop_more}
 
 module _ (s : List ℕ) (i : ℕ) where
@@ -226,6 +226,25 @@ earlier f s from at a e n h q l =
 
 pub length_part : (a e : ℕ) (s : List ℕ) → a ≤ e → e ≤ length s → length (part a e s) ≡ e - a
 length_part a e s h k = length-take-le (e - a) (drop a s) (omega (arith, length-drop a s))
+
+-- n bytes from a place on by themselves: what they lack and what they hold
+module _ (b : ℕ) (s : List ℕ) (at n : ℕ) (h : at + n ≤ length s) where
+  abbrev block : List ℕ
+  block = part at (at + n) s
+
+  block_length : min (0 + n) (length block) ≡ n
+  block_length = let l : length block ≡ at + n - at = length_part at (at + n) s (omega arith) h in omega (arith, l)
+
+  block_byte : (k : ℕ) → k < n → get_or block k 0 ≡ get_or s (at + k) 0
+  block_byte k p = get_or-take (at + n - at) (drop at s) k 0 (omega arith) ∙ get_or-drop at s k 0
+
+  pub block_lacks : Lacks b block 0 (min (0 + n) (length block)) → Lacks b s at (at + n)
+  block_lacks f i p q e =
+      let k : at + (i - at) ≡ i = omega arith in
+      f (i - at) (omega arith) (omega (arith, block_length)) (block_byte (i - at) (omega arith) ∙ ap (λ (j : ℕ). get_or s j 0) k ∙ e)
+
+  pub block_holds : Holds b block 0 (min (0 + n) (length block)) → (k : ℕ) × (k < n) × (get_or s (at + k) 0 ≡ b)
+  block_holds f = let q : f.0 < n = omega (arith, f.2, block_length) in (f.0, q, sym (block_byte f.0 q) ∙ f.3)
 
 -- a part of a part
 drop-take : (x n : ℕ) (l : List ℕ) → drop x (take n l) ≡ take (n - x) (drop x l)

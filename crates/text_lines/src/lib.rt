@@ -36,13 +36,14 @@ pub fn has_byte(s: &[u8], at: usize, n: usize, byte: u8) -> bool
     found
 }
 
-// Whether an LF is among the n bytes from a place on.
+// Whether an LF is among the n bytes from a place on. They are handed on by themselves, so that the loop over them ends at n whatever follows,
+// and 16 of them are one comparison.
 fn has_lf(s: &[u8], at: usize, n: usize) -> bool
     requires { at + n ≤ length s.now }
     ensures { (result ≡ false → n + line_length (drop (at + n) s.now) ≡ line_length (drop at s.now))
         × (result ≡ true → line_length (drop at s.now) < n) }
 {
-    has_byte(s, at, n, b'\n')
+    has_byte(&s[at..at + n], 0, n, b'\n')
 }
 
 // Past the blocks of 16 bytes without an LF from a place on.

@@ -26,18 +26,17 @@ fn digit(d: u64, ten: u8) -> u8
     ten - 10 + d as u8
 }
 
-// Four upper-case hexadecimal digits.
+// Four upper-case hexadecimal digits. Of 16-bit numbers, of which more go into a vector than of wider ones.
 pub fn put_hex4(out: &mut [u8], v: u16) -> usize
     ensures { Put (hex4 v) out.old result out.new }
 {
-    let n = u64::from(v);
-    let n1 = n / 16;
-    let n2 = n1 / 16;
-    let n3 = n2 / 16;
-    let a = digit(n3 % 16, b'A');
-    let b = digit(n2 % 16, b'A');
-    let c = digit(n1 % 16, b'A');
-    let d = digit(n % 16, b'A');
+    let v1 = v / 16;
+    let v2 = v1 / 16;
+    let v3 = v2 / 16;
+    let a = digit((v3 % 16) as u64, b'A');
+    let b = digit((v2 % 16) as u64, b'A');
+    let c = digit((v1 % 16) as u64, b'A');
+    let d = digit((v % 16) as u64, b'A');
     put_all(out, &[a, b, c, d])
 }
 

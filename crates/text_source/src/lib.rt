@@ -192,13 +192,13 @@ fn one_token(t: &[u8], c: Source) -> Result<Option<(Token, Source)>, Refusal>
     Ok(Some(token))
 }
 
-// Past the blocks of n bytes without a backslash from a place on.
+// Past the blocks of n bytes without a backslash from a place on. Each is handed on by itself, so that the loop over it ends at n.
 fn plain_blocks(t: &[u8], at: usize, end: usize, n: usize) -> usize
     requires { (at ≤ end) × (end ≤ length t.now) × (0 < n) }
     ensures { (at ≤ result) × (result ≤ end) × Plain t.now at result }
 {
     let mut i = at;
-    while n <= end - i && !has_byte(t, i, n, b'\\') {
+    while n <= end - i && !has_byte(&t[i..i + n], 0, n, b'\\') {
         i += n;
     }
     i

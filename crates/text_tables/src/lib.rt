@@ -272,9 +272,9 @@ fn visible_end(l: &[u8], at: usize) -> usize
 
 // Where the name of a row of the label table ends, and where its index begins; in a row that is as it is written.
 #[derive(Clone, Copy)]
-struct Written {
-    name_end: usize,
-    index: usize,
+pub struct Written {
+    pub name_end: usize,
+    pub index: usize,
 }
 
 // Whether a bar and a space stand at a place, after a space or more.

@@ -116,16 +116,17 @@ impl Utf8 {
     }
 }
 
-// Whether the 64 bytes from a place on are ASCII. The largest of them decides, so that the loop has no exit in the middle and is done
-// by vector instructions.
+// Whether the 64 bytes from a place on are ASCII. The largest of them decides, so that the loop has no exit in the middle and, counting to 64,
+// is done by vector instructions.
 fn is_ascii_block(s: &[u8], at: usize) -> bool
     requires { at + 64 ≤ length s.now }
     ensures { result ≡ true → Ascii s.now at (at + 64) }
 {
     let mut most = 0;
-    for i in at..at + 64 {
-        if most < s[i] {
-            most = s[i];
+    for k in 0..64 {
+        let b = s[at + k];
+        if most < b {
+            most = b;
         }
     }
     most < 0x80

@@ -93,7 +93,8 @@ fn rises(ws: &[u32], a: Key, b: Key) -> bool
 }
 
 impl Seen {
-    // The same past a record with a key, if the key may follow.
+    // The same past a record with a key, if the key may follow. Put into its callers: a copy of what was seen for each record is dear.
+    #[inline(always)]
     fn past(self, ws: &[u32], key: Key) -> Option<Seen>
         requires { Known ws.now self.key × Known ws.now key }
         ensures { Moved ws.now self key result }

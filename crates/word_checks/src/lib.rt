@@ -9,7 +9,7 @@ ghost use Rattle.utf8.specs.Utf8.{run};
 ghost use Rattle.object.specs.Bodies.{body_at, counted, good_memory, good_text, good_addresses, rank_of};
 ghost use Rattle.word_checks.specs.Walks.{Walked, AsciiWord};
 
-use object::body_end;
+use object::goes_on;
 use utf8::Utf8;
 
 fn is_memory(w: u32) -> bool
@@ -25,13 +25,15 @@ fn is_memory(w: u32) -> bool
 pub fn memory_end(ws: &[u32], at: usize) -> Option<usize>
     ensures { Walked good_memory ws.now at result }
 {
-    let end = body_end(ws, at);
-    for i in at..end {
+    for i in at..ws.len() {
+        if !goes_on(ws, i) {
+            return Some(i);
+        }
         if !is_memory(ws[i]) {
             return None;
         }
     }
-    Some(end)
+    Some(at.max(ws.len()))
 }
 
 // Where the addresses of a line block end, if they are as they should be.
@@ -39,8 +41,10 @@ pub fn addresses_end(ws: &[u32], at: usize) -> Option<usize>
     ensures { Walked good_addresses ws.now at result }
 {
     let mut last = 0;
-    let end = body_end(ws, at);
-    for i in at..end {
+    for i in at..ws.len() {
+        if !goes_on(ws, i) {
+            return Some(i);
+        }
         let w = ws[i];
         if w / 0x1_0000 != 0x2001 {
             return None;
@@ -51,7 +55,7 @@ pub fn addresses_end(ws: &[u32], at: usize) -> Option<usize>
         }
         last = a;
     }
-    Some(end)
+    Some(at.max(ws.len()))
 }
 
 // Whether a line block may begin at the line `next` after one of `count` lines from `first` on: that one ends at or before it, as whole
@@ -140,8 +144,10 @@ pub fn text_end(ws: &[u32], at: usize) -> Option<usize>
     let mut u = Utf8::new();
     let mut full = true;
     let start = ascii_end(ws, at);
-    let end = body_end(ws, start);
-    for i in start..end {
+    for i in start..ws.len() {
+        if !goes_on(ws, i) {
+            return u.is_whole().then_some(i);
+        }
         if !full {
             return None;
         }
@@ -153,7 +159,7 @@ pub fn text_end(ws: &[u32], at: usize) -> Option<usize>
         u = text_step(u, w, n);
         full = n == 3;
     }
-    u.is_whole().then_some(end)
+    u.is_whole().then_some(start.max(ws.len()))
 }
 
 // A text word as a number that is larger for the later of two words: its bytes, the first highest, and their count.

@@ -1,24 +1,36 @@
 use mathlib.Core.Path.{refl}
+use native.Mathlib.Omega.{arith}
+use borrow.Author.Tests.{ne_eqb}
 use Rattle.binary_scan.specs.Scan.{body_bytes}
 use Rattle.binary_scan.proofs.ScanLaws.{number-drop}
 use Rattle.binary_scan.proofs.body_bytes.Goals as goal
 
-pub returns-in-Block : goal.returns-in-Block
+pub returns-in-0 : goal.returns-in-0
 unfolding body_bytes
-returns-in-Block c = rw (c.in-Block.is, number-drop c.args.s.now c.args.at 2 2, c.from.ensures, c.u16_at.ensures) refl
+returns-in-0 c = rw (c.in-0.is, number-drop c.args.s.now c.args.at 2 2, c.from.ensures, c.u16_at.ensures) refl
 
-pub returns-in-Label : goal.returns-in-Label
+pub returns-in-1 : goal.returns-in-1
 unfolding body_bytes
-returns-in-Label c = rw (c.in-Label.is, number-drop c.args.s.now c.args.at 11 8, c.u64_at.ensures) refl
+returns-in-1 c = rw (c.in-1.is, number-drop c.args.s.now c.args.at 11 8, c.u64_at.ensures) refl
 
-pub returns-in-LineBlock : goal.returns-in-LineBlock
+pub returns-in-2 : goal.returns-in-2
 unfolding body_bytes
-returns-in-LineBlock c = rw (c.in-LineBlock.is, number-drop c.args.s.now c.args.at 8 2, c.from-in-LineBlock.ensures, c.u16_at-in-LineBlock.ensures) refl
+returns-in-2 c = rw (c.in-2.is, number-drop c.args.s.now c.args.at 8 2, c.from-in-2.ensures, c.u16_at-in-2.ensures) refl
 
-pub returns-in-Source : goal.returns-in-Source
+pub returns-in-3 : goal.returns-in-3
 unfolding body_bytes
-returns-in-Source c = rw (c.in-Source.is, number-drop c.args.s.now c.args.at 0 8, c.u64_at-in-Source.ensures) refl
+returns-in-3 c = rw (c.in-3.is, number-drop c.args.s.now c.args.at 0 8, c.u64_at-in-3.ensures) refl
 
-pub returns-in-Relocation : goal.returns-in-Relocation
+pub returns-in_default : goal.returns-in_default
 unfolding body_bytes
-returns-in-Relocation c = rw (c.in-Relocation.is, number-drop c.args.s.now c.args.at 2 8, c.u64_at-in-Relocation.ensures) refl
+returns-in_default c =
+    let k = c.args.k in
+    rw (
+      ne_eqb k 0 (λ e. omega arith),
+      ne_eqb k 1 (λ e. omega arith),
+      ne_eqb k 2 (λ e. omega arith),
+      ne_eqb k 3 (λ e. omega arith),
+      number-drop c.args.s.now c.args.at 2 8,
+      c.u64_at-in_default.ensures,
+    )
+    refl

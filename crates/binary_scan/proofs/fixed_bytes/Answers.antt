@@ -1,27 +1,23 @@
-use mathlib.Core.Path.{◌≡◌, refl}
-use mathlib.Core.Logic.{◌⊎◌, inl, inr}
-use Rattle.gather.specs.Kinds.{byte_of}
-use Rattle.gather.specs.declared.kind.Kind.{Kind}
-use Rattle.gather.specs.declared.kind.Kind.TheVariants as kind
+use mathlib.Core.Path.{refl}
+use native.Mathlib.Omega.{arith}
+use borrow.Author.Tests.{ne_eqb}
 use Rattle.binary_scan.specs.Scan.{fixed_bytes}
 use Rattle.binary_scan.proofs.fixed_bytes.Goals as goal
 
-pub returns-in-Block : goal.returns-in-Block
+pub returns-in-0 : goal.returns-in-0
 unfolding fixed_bytes
-returns-in-Block c = rw c.in-Block.is refl
+returns-in-0 c = rw c.in-0.is refl
 
-pub returns-in-Label : goal.returns-in-Label
+pub returns-in-1 : goal.returns-in-1
 unfolding fixed_bytes
-returns-in-Label c = rw c.in-Label.is refl
+returns-in-1 c = rw c.in-1.is refl
 
-pub returns-in-Source : goal.returns-in-Source
+pub returns-in-3 : goal.returns-in-3
 unfolding fixed_bytes
-returns-in-Source c = rw c.in-Source.is refl
+returns-in-3 c = rw c.in-3.is refl
 
-others : (k : Kind) → (k ≡ kind.LineBlock) ⊎ (k ≡ kind.Relocation) → 10 ≡ fixed_bytes (byte_of k)
+pub returns-in_default : goal.returns-in_default
 unfolding fixed_bytes
-others k (inl e) = rw e refl
-others k (inr e) = rw e refl
-
-pub returns-in-LineBlock : goal.returns-in-LineBlock
-returns-in-LineBlock c = others c.args.kind c.in-LineBlock.is
+returns-in_default c =
+    let k = c.args.k in
+    rw (ne_eqb k 0 (λ e. omega arith), ne_eqb k 1 (λ e. omega arith), ne_eqb k 3 (λ e. omega arith)) refl

@@ -1,32 +1,32 @@
 use mathlib.Core.Path.{◌≡◌, sym, ap, ◌∙◌}
-use Prim.Native.Nat.{ℕ, ◌+◌, ◌-◌, ◌*◌}
+use Prim.Native.Nat.{ℕ}
 use native.Mathlib.Omega.{arith}
 use native.Mathlib.Nat.{add-zero}
-use lib.ListN.{drop}
-use Rattle.format.specs.ObjectFile.{strictly_rise}
-use Rattle.format.specs.Binary.{number_at, addresses_from}
+use Rattle.format.specs.Binary.{number_at}
 use Rattle.binary_scan.proofs.ScanLaws.{rise_no, rise_yes, rise_end}
 use Rattle.binary_scan.proofs.rises.Goals as goal
-use Rattle.binary_scan.proofs.rises.Goals.{After-u16_at-in-loop-k}
+use Rattle.binary_scan.proofs.rises.Goals.{After-u16_at-in-loop-i}
 
--- the number of the first of the two
-first : (c : After-u16_at-in-loop-k) → c.u16_at-in-loop-k.result ≡ number_at (2 * (c.loop-k.k - 1)) 2 c.args.s.now
-first c = c.u16_at-in-loop-k.ensures ∙ ap (λ (i : ℕ). number_at i 2 c.args.s.now) (add-zero (2 * (c.loop-k.k - 1)))
+second : (c : After-u16_at-in-loop-i) → c.u16_at-in-loop-i.result ≡ number_at c.loop-i.i 2 c.args.s.now
+second c = c.u16_at-in-loop-i.ensures ∙ ap (λ (k : ℕ). number_at k 2 c.args.s.now) (add-zero c.loop-i.i)
 
+-- src/lib.rt:70:13
 pub returns-then-u16_at : goal.returns-then-u16_at
 returns-then-u16_at c =
-    let i = 2 * (c.loop-k.k - 1) in
-    sym (rise_no c.args.s.now i (omega arith) (omega (arith, c.u16_at.ensures, first (goal.at.returns-then-u16_at c).After-u16_at-in-loop-k)))
-    ∙ c.loop-k.invariant
-
-pub loop-k-preserved : goal.loop-k-preserved
-loop-k-preserved c =
+    let l = c.loop-i in
     let s = c.args.s.now in
-    let i = 2 * (c.loop-k.k - 1) in
-    let e : 2 * (c.loop-k.k + 1 - 1) ≡ i + 2 = omega arith in
-    ap (λ (j : ℕ). strictly_rise (addresses_from (drop j s))) e
-    ∙ sym (rise_yes s i (omega arith) (omega (arith, c.u16_at.ensures, first (goal.at.loop-k-preserved c).After-u16_at-in-loop-k)))
-    ∙ c.loop-k.invariant
+    sym (rise_no s l.i (omega arith) (omega (arith, c.u16_at.ensures, second (goal.at.returns-then-u16_at c).After-u16_at-in-loop-i))) ∙ l.invariant.1
 
+-- src/lib.rt:68:5
+pub loop-i-preserved : goal.loop-i-preserved
+loop-i-preserved c =
+    let l = c.loop-i in
+    let s = c.args.s.now in
+    (omega arith, sym (rise_yes s l.i (omega arith) (omega (arith, c.u16_at.ensures, second (goal.at.loop-i-preserved c).After-u16_at-in-loop-i))) ∙ l.invariant.1)
+
+-- src/lib.rt:63:1
 pub returns : goal.returns
-returns c = sym (rise_end c.args.s.now (2 * (c.loop-k.k - 1)) (omega arith)) ∙ c.loop-k.invariant
+returns c =
+    let l = c.loop-i in
+    let s = c.args.s.now in
+    sym (rise_end s l.i (omega arith)) ∙ l.invariant.1

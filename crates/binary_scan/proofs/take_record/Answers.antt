@@ -1,7 +1,6 @@
 use mathlib.Core.Path.{◌≡◌, sym, ap, ◌∙◌}
 use Prim.Native.Nat.{ℕ, ◌+◌}
 use Rattle.cursor.proofs.TakenLaws.{bytes_taken, bytes-not-there}
-use Rattle.gather.specs.Kinds.{byte_of}
 use Rattle.binary_scan.specs.Scan.{fixed_bytes}
 use Rattle.binary_scan.proofs.ScanLaws.{take_short, take_whole}
 use Rattle.binary_scan.proofs.take_record.Goals as goal
@@ -11,7 +10,7 @@ returns-in_err-body-clause-places c =
     let a = c.args in
     let f = c.fixed_bytes in
     rw c.from_residual.ensures
-    (take_short (byte_of a.kind) a.s.now a.c.at f.result f.ensures (bytes-not-there f.result a.s.now a.c.at c.in_err-body.ensures.places))
+    (take_short a.k a.s.now a.c.at f.result f.ensures (bytes-not-there f.result a.s.now a.c.at c.in_err-body.ensures.places))
 
 pub returns-clause-places : goal.returns-clause-places
 returns-clause-places c =
@@ -20,7 +19,7 @@ returns-clause-places c =
     let body = c.in_ok-body.body in
     let h = bytes_taken f.result a.s.now a.c.at _ _ body.at c.in_ok-body.ensures.places in
     c.take_bytes-2.ensures.places
-    ∙ take_whole (byte_of a.kind) a.s.now a.c.at f.result f.ensures c.body_bytes.result body.at h.0 c.body_bytes.ensures h.3
+    ∙ take_whole a.k a.s.now a.c.at f.result f.ensures c.body_bytes.result body.at h.0 c.body_bytes.ensures h.3
 
 pub returns-clause-body : goal.returns-clause-body
 returns-clause-body c =
@@ -28,5 +27,5 @@ returns-clause-body c =
     let f = c.fixed_bytes in
     let body = c.in_ok-body.body in
     let h = bytes_taken f.result a.s.now a.c.at _ _ body.at c.in_ok-body.ensures.places in
-    let e : body.at ≡ a.c.at + fixed_bytes (byte_of a.kind) = h.3 ∙ ap (λ (n : ℕ). a.c.at + n) f.ensures in
+    let e : body.at ≡ a.c.at + fixed_bytes a.k = h.3 ∙ ap (λ (n : ℕ). a.c.at + n) f.ensures in
     rw (sym e, sym c.body_bytes.ensures) c.take_bytes-2.ensures.bytes

@@ -5,26 +5,25 @@ use Rattle.binary_sizes.proofs.BoundLaws.{parts-few, length-kept, length_dropped
 use Rattle.binary_sizes.proofs.words_length.Goals as goal
 
 pub overflow_add-n : goal.overflow_add-n
-overflow_add-n c = omega (arith, c.part_length.ensures, c.part_length-2.ensures, parts-few c.args.s.now)
+overflow_add-n c = omega (arith, rw c.byte.ensures at c.part_length.ensures, rw c.byte-2.ensures at c.part_length-2.ensures, parts-few c.args.s.now)
 
 pub overflow_add-n-2 : goal.overflow_add-n-2
 overflow_add-n-2 c =
     omega (
       arith,
-      c.part_length.ensures,
-      c.part_length-2.ensures,
-      c.part_length-3.ensures,
-      parts-few
-          c.args.s.now,
+      rw c.byte.ensures at c.part_length.ensures,
+      rw c.byte-2.ensures at c.part_length-2.ensures,
+      rw c.byte-3.ensures at c.part_length-3.ensures,
+      parts-few c.args.s.now,
     )
 
 pub overflow_add-n-3 : goal.overflow_add-n-3
 overflow_add-n-3 c =
     omega (
       arith,
-      c.part_length.ensures,
-      c.part_length-2.ensures,
-      c.part_length-3.ensures,
+      rw c.byte.ensures at c.part_length.ensures,
+      rw c.byte-2.ensures at c.part_length-2.ensures,
+      rw c.byte-3.ensures at c.part_length-3.ensures,
       c.source_length.ensures,
       parts-few c.args.s.now,
     )
@@ -34,11 +33,11 @@ overflow_add-result c =
     let s = c.args.s.now in
     omega (
       arith,
-      c.part_length.ensures,
-      c.part_length-2.ensures,
-      c.part_length-3.ensures,
+      rw c.byte.ensures at c.part_length.ensures,
+      rw c.byte-2.ensures at c.part_length-2.ensures,
+      rw c.byte-3.ensures at c.part_length-3.ensures,
       c.source_length.ensures,
-      c.part_length-then-keeps_relocations.ensures,
+      rw c.byte-then-keeps_relocations.ensures at c.part_length-then-keeps_relocations.ensures,
       parts-few s,
     )
 
@@ -48,11 +47,11 @@ returns-then-keeps_relocations c =
     let k = sym c.keeps_relocations.ensures ∙ c.if-keeps_relocations.true in
     omega (
       arith,
-      c.part_length.ensures,
-      c.part_length-2.ensures,
-      c.part_length-3.ensures,
+      rw c.byte.ensures at c.part_length.ensures,
+      rw c.byte-2.ensures at c.part_length-2.ensures,
+      rw c.byte-3.ensures at c.part_length-3.ensures,
       c.source_length.ensures,
-      c.part_length-then-keeps_relocations.ensures,
+      rw c.byte-then-keeps_relocations.ensures at c.part_length-then-keeps_relocations.ensures,
       length-kept s k,
     )
 
@@ -62,9 +61,9 @@ returns c =
     let k = sym c.keeps_relocations.ensures ∙ c.if-keeps_relocations.false in
     omega (
       arith,
-      c.part_length.ensures,
-      c.part_length-2.ensures,
-      c.part_length-3.ensures,
+      rw c.byte.ensures at c.part_length.ensures,
+      rw c.byte-2.ensures at c.part_length-2.ensures,
+      rw c.byte-3.ensures at c.part_length-3.ensures,
       c.source_length.ensures,
       length_dropped s k,
     )

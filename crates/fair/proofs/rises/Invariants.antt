@@ -1,6 +1,6 @@
 use mathlib.Core.Path.{◌≡◌}
 use mathlib.Core.List.{map}
-use Prim.Native.Nat.{◌+◌, ◌-◌, ◌≤◌, ◌^◌}
+use Prim.Native.Nat.{◌+◌, ◌≤◌, ◌^◌}
 use lib.ListN.{length}
 use Rattle.format.specs.ObjectFile.{strictly_rise}
 use Rattle.object.specs.Bodies.{body_at}

@@ -1,48 +1,50 @@
-use Rattle.std.proofs.Common.{◌≡◌, ℕ, ◌+◌, ◌<◌, List, ◌∷◌, length, get_or, sym, refl, ap, ◌∙◌, arith, rules}
+use Rattle.std.proofs.Common.{◌≡◌, ℕ, ◌+◌, List, ◌∷◌, length, get_or, sym, refl, ap, ◌∙◌, arith}
 use Rattle.object.specs.Bodies.{body_at, good_addresses}
-use Rattle.object.proofs.BodyLaws.{goes_inside, stops_inside}
+use Rattle.object.proofs.BodyLaws.{goes, stops, body_out, ends_within}
 use Rattle.object.proofs.WordLaws.{addresses_on, addresses-start, addresses-end, address-kind, address_falls, address-next}
 use Rattle.word_checks.proofs.addresses_end.Goals as goal
-use Rattle.word_checks.proofs.addresses_end.Goals.{In-loop-i}
-
-abbrev ws : (c : In-loop-i) → List ℕ
-ws c = c.args.ws.now
-
-abbrev i : (c : In-loop-i) → ℕ
-i c = c.loop-i.i
-
-going : (c : In-loop-i) → ((i c) < length (ws c)) × (body_at (ws c) (i c) ≡ get_or (ws c) (i c) 0 ∷ body_at (ws c) ((i c) + 1))
-going c = goes_inside (ws c) (i c) (omega (arith, c.body_end-end.ensures, c.loop-i.invariant.0, c.loop-i-test.true))
 
 -- what the words from here on come to
-from-here : (c : In-loop-i) → addresses_on c.loop-i.last (get_or (ws c) (i c) 0 ∷ body_at (ws c) ((i c) + 1))
-    ≡ good_addresses (body_at (ws c) c.args.at)
-from-here c = ap (addresses_on c.loop-i.last) (sym (going c).1) ∙ c.loop-i.invariant.1
+from-here : (ws : List ℕ) (at i last : ℕ) → body_at ws i ≡ get_or ws i 0 ∷ body_at ws (i + 1)
+    → addresses_on last (body_at ws i) ≡ good_addresses (body_at ws at)
+    → addresses_on last (get_or ws i 0 ∷ body_at ws (i + 1)) ≡ good_addresses (body_at ws at)
+from-here ws at i last e inv = ap (addresses_on last) (sym e) ∙ inv
 
 pub loop-i-init : goal.loop-i-init
 loop-i-init c = (refl, addresses-start _, omega arith)
 
-pub offset_bounds-ws-i : goal.offset_bounds-ws-i
-offset_bounds-ws-i c = let h = (going (goal.at.offset_bounds-ws-i c).In-loop-i).0 in search rules
-
-pub bounds-ws-i : goal.bounds-ws-i
-bounds-ws-i c = omega (arith, (going (goal.at.bounds-ws-i c).In-loop-i).0)
+pub returns-then-not-goes_on : goal.returns-then-not-goes_on
+returns-then-not-goes_on c =
+    let inv = c.loop-i.invariant in
+    let e = stops _ _ (sym c.goes_on.ensures ∙ c.if-not-goes_on.true) in
+    (sym inv.1 ∙ ap (addresses_on c.loop-i.last) e ∙ addresses-end _, omega (arith, ap length e, inv.0))
 
 pub returns-then-w-ne8193 : goal.returns-then-w-ne8193
-returns-then-w-ne8193 c = sym (from-here (goal.at.returns-then-w-ne8193 c).In-loop-i) ∙ address-kind _ _ _ c.if-w-ne8193.true
+returns-then-w-ne8193 c =
+    let l = c.loop-i in
+    let g = goes _ _ (sym c.goes_on.ensures ∙ c.if-not-goes_on.false) in
+    sym (from-here _ c.args.at l.i l.last g.1 l.invariant.1) ∙ address-kind _ _ _ c.if-w-ne8193.true
 
 pub returns-then-a-last : goal.returns-then-a-last
-returns-then-a-last c = sym (from-here (goal.at.returns-then-a-last c).In-loop-i) ∙ address_falls _ _ _ c.if-w-ne8193.false c.if-a-last.true
+returns-then-a-last c =
+    let l = c.loop-i in
+    let g = goes _ _ (sym c.goes_on.ensures ∙ c.if-not-goes_on.false) in
+    sym (from-here _ c.args.at l.i l.last g.1 l.invariant.1) ∙ address_falls _ _ _ c.if-w-ne8193.false c.if-a-last.true
 
 pub loop-i-preserved : goal.loop-i-preserved
-loop-i-preserved c = (
-  omega (arith, ap length (going (goal.at.loop-i-preserved c).In-loop-i).1),
-  sym (address-next _ _ _ c.if-w-ne8193.false c.if-a-last.false) ∙ from-here (goal.at.loop-i-preserved c).In-loop-i,
-  omega arith,
-)
+loop-i-preserved c =
+    let l = c.loop-i in
+    let g = goes _ _ (sym c.goes_on.ensures ∙ c.if-not-goes_on.false) in (
+      omega (arith, ap length g.1, l.invariant.0),
+      sym (address-next _ _ _ c.if-w-ne8193.false c.if-a-last.false) ∙ from-here _ c.args.at l.i l.last g.1 l.invariant.1,
+      omega arith,
+    )
 
 pub returns : goal.returns
 returns c =
-    let inv = c.loop-i.invariant in
-    let e = stops_inside c.args.ws.now c.loop-i.i (omega (arith, c.body_end-end.ensures, inv.0, c.loop-i-test.false, c.loop-i.auto.i-end)) in
-    (sym inv.1 ∙ ap (addresses_on c.loop-i.last) e ∙ addresses-end _, c.body_end-end.ensures)
+    let ws = c.args.ws.now in
+    let l = c.loop-i in
+    let inv = l.invariant in (
+      sym inv.1 ∙ ap (addresses_on l.last) (body_out ws l.i c.loop-i-test.false) ∙ addresses-end _,
+      c.max.ensures ∙ ends_within ws c.args.at l.i c.loop-i-test.false l.auto.i-end inv.0,
+    )
